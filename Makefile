@@ -1,0 +1,4 @@
+# test: the gate.
+.PHONY: test
+test:
+	bash .ci/run

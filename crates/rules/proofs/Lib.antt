@@ -1,0 +1,2 @@
+-- The theory of the rules.
+pub mod Examples

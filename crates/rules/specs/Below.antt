@@ -1,0 +1,37 @@
+-- Tests, searches, counts and writes that run over the numbers below n.
+use Prim.Native.Nat.{ℕ, zero, suc, _+_}
+use mathlib.Core.Bool.{Bool, true, false, _&&_}
+use mathlib.Core.List.{List}
+use lib.Dec.{ltb}
+use lib.ListN.{set}
+
+-- Every number below n passes.
+unfoldable pub all : ℕ → (ℕ → Bool) → Bool
+all zero p = true
+all (suc n) p = all n p && p n
+
+-- The lowest number below n that passes; n where none does.
+unfoldable pub lowest : ℕ → (ℕ → Bool) → ℕ
+lowest zero p = zero
+lowest (suc n) p =
+    let k = lowest n p in
+    elim (ltb k n) [ true ↦ k | false ↦ elim (p n) [ true ↦ n | false ↦ suc n ] ]
+
+-- Some number below n passes.
+unfoldable pub any : ℕ → (ℕ → Bool) → Bool
+any n p = ltb (lowest n p) n
+
+-- How many numbers below n pass.
+unfoldable pub count : ℕ → (ℕ → Bool) → ℕ
+count zero p = zero
+count (suc n) p = elim (p n) [ true ↦ suc (count n p) | false ↦ count n p ]
+
+-- The sum of f over the numbers below n.
+unfoldable pub total : ℕ → (ℕ → ℕ) → ℕ
+total zero f = zero
+total (suc n) f = total n f + f n
+
+-- The list with its first n entries written from f, and the later ones as they are.
+unfoldable pub fill : {A : Type 0} → ℕ → (ℕ → A) → List A → List A
+fill zero f l = l
+fill (suc n) f l = set (fill n f l) n (f n)

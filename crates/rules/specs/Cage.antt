@@ -1,0 +1,80 @@
+-- A cage (control mesh) as bytes, and the mesh that it is loaded as. (The cage and the lent tables; Load)
+use Prim.Native.Nat.{ℕ, _+_, _*_}
+use mathlib.Core.Bool.{Bool, true, false, not, _&&_, _||_}
+use mathlib.Core.List.{List}
+use lib.Dec.{eqb, ltb, leb}
+use lib.IntN.{ℤ}
+use lib.ListN.{length}
+use Rattle.rules.specs.Below.{all, any, lowest, fill}
+use Rattle.rules.specs.Numbers.{numberAt, signed, inRange}
+use Rattle.rules.specs.Sound.{hasOneFan}
+use Rattle.rules.specs.Tables.{Mesh, topologyOf, meshOf, next, boundary, vertexSlots, triangleSlots}
+
+-- Coordinate k of vertex v is the number 3 * v + k of the coordinates, and corner h the origin of side h.
+pub record Cage : Type 0 where
+  pub vertices : ℕ
+  pub triangles : ℕ
+  pub coordinate : ℕ → ℤ
+  pub corner : ℕ → ℕ
+
+unfoldable pub cageOf : List ℕ → Cage
+cageOf bytes =
+    let v = numberAt bytes 0 in
+    record {
+      vertices = v;
+      triangles = numberAt bytes 4;
+      coordinate = λ i. signed (numberAt bytes (8 + 4 * i));
+      corner = λ h. numberAt bytes (8 + 12 * v + 4 * h);
+    }
+
+-- Side k runs between the vertices of side h the other way.
+abbrev pub opposite : Cage → ℕ → ℕ → Bool
+opposite c h k = eqb (c .corner k) (c .corner (next h)) && eqb (c .corner (next k)) (c .corner h)
+
+-- Side k runs between the vertices of side h the same way.
+abbrev pub parallel : Cage → ℕ → ℕ → Bool
+parallel c h k = eqb (c .corner k) (c .corner h) && eqb (c .corner (next k)) (c .corner (next h))
+
+-- The side opposite to h, or the boundary.
+unfoldable pub partner : Cage → ℕ → ℕ
+partner c h =
+    let k = lowest (3 * c .triangles) (opposite c h) in
+    elim (ltb k (3 * c .triangles)) [ true ↦ k | false ↦ boundary ]
+
+-- The mesh m with the cage in its first slots: all generations 0, links by opposite sides.
+unfoldable pub loaded : Cage → Mesh → Mesh
+loaded c m =
+    let t = m .topology in
+    meshOf (topologyOf (c .vertices) (c .triangles)
+    (fill (3 * c .triangles) (c .corner) (t .corners))
+    (fill (3 * c .triangles) (partner c) (t .links))
+    (fill (c .triangles) (λ i. 0) (t .generations)))
+    (fill (3 * c .vertices) (c .coordinate) (m .positions))
+
+-- ---- what makes a cage acceptable (Refused inputs, 2 to 6)
+
+-- The bytes are as long as their sizes say, and the sizes are at least 1 and within the slots.
+unfoldable pub sizesFit : List ℕ → Mesh → Bool
+sizesFit bytes m =
+    let c = cageOf bytes in
+    leb 8 (length bytes)
+    && leb 1 (c .vertices)
+    && leb 1 (c .triangles)
+    && leb (c .vertices) (vertexSlots m)
+    && leb (c .triangles) (triangleSlots m)
+    && eqb (length bytes) (8 + 12 * (c .vertices + c .triangles))
+
+-- Corners are below V, and no triangle repeats one.
+unfoldable pub cornersFit : Cage → Bool
+cornersFit c = all (3 * c .triangles) (λ h. ltb (c .corner h) (c .vertices) && not (eqb (c .corner h) (c .corner (next h))))
+
+unfoldable pub coordinatesFit : Cage → Bool
+coordinatesFit c = all (3 * c .vertices) (λ i. inRange (c .coordinate i))
+
+-- No directed side occurs twice.
+unfoldable pub sidesDiffer : Cage → Bool
+sidesDiffer c = all (3 * c .triangles) (λ h. all h (λ k. not (parallel c h k)))
+
+-- Each vertex has one fan.
+unfoldable pub fansFit : Cage → Mesh → Bool
+fansFit c m = all (c .vertices) (hasOneFan (loaded c m .topology))

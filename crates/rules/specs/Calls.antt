@@ -1,0 +1,150 @@
+-- The five calls: what each refuses, answers and writes. (Refused inputs)
+use Prim.Native.Nat.{ℕ, zero, suc, _+_, _*_, _≤_, max}
+use mathlib.Core.Bool.{Bool, true, false, not, _&&_, _||_}
+use mathlib.Core.List.{List, [], _∷_}
+use lib.Dec.{eqb, ltb, leb}
+use lib.IntN.{ℤ, pos}
+use lib.ListN.{length, getD}
+use Rattle.rules.specs.Below.{all, any, fill}
+use Rattle.rules.specs.Cage.{cageOf, loaded, sizesFit, cornersFit, coordinatesFit, sidesDiffer, fansFit}
+use Rattle.rules.specs.Ring.{ring}
+use Rattle.rules.specs.Sound.{isSound}
+use Rattle.rules.specs.Split.{Work, atFirst, chainEnd, chainOdd, refine}
+use Rattle.rules.specs.Step.{wholeStep}
+use Rattle.rules.specs.Tables.{Topology, Mesh, tablesAgree, vertexSlots, triangleSlots, sides, link, boundary, generation, odd, coordinate}
+
+-- What a call returns and what it leaves: the mesh with its counts V and F, and the ring buffer (none is lent: the empty list).
+-- Only `outcomeOf` builds it.
+pub record Outcome : Type 0 where
+  pub refusal : ℕ
+  pub splits : ℕ
+  pub flips : ℕ
+  pub ringLength : ℕ
+  pub point : ℤ × ℤ × ℤ
+  pub mesh : Mesh
+  pub buffer : List ℕ
+
+abbrev pub outcomeOf : ℕ → ℕ → ℕ → ℕ → ℤ × ℤ × ℤ → Mesh → List ℕ → Outcome
+outcomeOf refusal splits flips n point m buffer = record {
+  refusal = refusal;
+  splits = splits;
+  flips = flips;
+  ringLength = n;
+  point = point;
+  mesh = m;
+  buffer = buffer;
+}
+
+abbrev pub zeroPoint : ℤ × ℤ × ℤ
+zeroPoint = (pos 0, pos 0, pos 0)
+
+-- A call that made splits and flips.
+abbrev pub worked : Work → Outcome
+worked w = outcomeOf 0 (w .splits) (w .flips) 0 zeroPoint (w .mesh) []
+
+-- ---- refusals in their order
+
+infix 68 _if_
+pub data Condition : Type 0 where
+  _if_ : ℕ → Bool → Condition
+
+-- The first number whose condition holds; 0 where none does.
+abbrev pub firstOf : List Condition → ℕ
+firstOf [] = 0
+firstOf (n if holds ∷ rest) = elim holds [ true ↦ n | false ↦ firstOf rest ]
+
+-- Slots for s face splits. (Refused inputs, 11)
+abbrev pub roomFor : ℕ → Mesh → Bool
+roomFor s m = leb (m .topology .vertices + s) (vertexSlots m) && leb (m .topology .triangles + 2 * s) (triangleSlots m)
+
+-- The face splits that refining t takes. (Refine one triangle)
+abbrev pub splitsOf : Topology → ℕ → ℕ
+splitsOf m t = max 1 (chainOdd m t)
+
+-- No side is on the boundary, and all triangles are of one even generation. (Whole step)
+unfoldable pub closedEven : Topology → Bool
+closedEven m =
+    all (sides m) (λ h. not (eqb (link m h) boundary))
+    && all (m .triangles) (λ t. eqb (generation m t) (generation m 0))
+    && not (odd (generation m 0))
+
+unfoldable pub loadRefusal : List ℕ → Mesh → ℕ
+loadRefusal bytes m =
+    let c = cageOf bytes in
+    firstOf (
+    1 if not (tablesAgree m)
+    ∷ 2 if not (sizesFit bytes m)
+    ∷ 3 if not (cornersFit c)
+    ∷ 4 if not (coordinatesFit c)
+    ∷ 5 if not (sidesDiffer c)
+    ∷ 6 if not (fansFit c m)
+    ∷ []
+    )
+
+unfoldable pub refineRefusal : ℕ → Mesh → ℕ
+refineRefusal t m =
+    let tri = m .topology in
+    firstOf (
+    1 if not (tablesAgree m)
+    ∷ 7 if not (isSound m)
+    ∷ 8 if leb (tri .triangles) t
+    ∷ 9 if eqb (generation tri t) 20
+    ∷ 10 if odd (generation tri (chainEnd tri t))
+    ∷ 11 if not (roomFor (splitsOf tri t) m)
+    ∷ []
+    )
+
+unfoldable pub wholeStepRefusal : Mesh → ℕ
+wholeStepRefusal m =
+    let tri = m .topology in
+    firstOf (
+    1 if not (tablesAgree m)
+    ∷ 7 if not (isSound m)
+    ∷ 12 if not (closedEven tri)
+    ∷ 9 if eqb (generation tri 0) 20
+    ∷ 13 if any (tri .vertices) (λ v. ltb 12 (length (ring tri v)))
+    ∷ 11 if not (roomFor (tri .triangles) m)
+    ∷ []
+    )
+
+unfoldable pub ringRefusal : ℕ → List ℕ → Mesh → ℕ
+ringRefusal v buffer m =
+    firstOf (
+    1 if not (tablesAgree m)
+    ∷ 7 if not (isSound m)
+    ∷ 8 if leb (m .topology .vertices) v
+    ∷ 14 if ltb (length buffer) (length (ring (m .topology) v))
+    ∷ []
+    )
+
+unfoldable pub positionRefusal : ℕ → Mesh → ℕ
+positionRefusal v m =
+    firstOf (1 if not (tablesAgree m) ∷ 7 if not (isSound m) ∷ 8 if leb (m .topology .vertices) v ∷ [])
+
+-- ---- the calls
+
+-- The outcome where nothing is refused. A refusal returns its number with zeros, and leaves all that is lent as it stood.
+abbrev pub unless : ℕ → Mesh → List ℕ → Outcome → Outcome
+unless zero m buffer done = done
+unless (suc n) m buffer done = outcomeOf (suc n) 0 0 0 zeroPoint m buffer
+
+unfoldable pub loadCall : List ℕ → Mesh → Outcome
+loadCall bytes m = unless (loadRefusal bytes m) m [] (worked (atFirst (loaded (cageOf bytes) m)))
+
+unfoldable pub refineCall : ℕ → Mesh → Outcome
+refineCall t m = unless (refineRefusal t m) m [] (worked (refine t (atFirst m)))
+
+unfoldable pub wholeStepCall : Mesh → Outcome
+wholeStepCall m = unless (wholeStepRefusal m) m [] (worked (wholeStep m))
+
+-- The ring goes into the first entries of the buffer. (Rings and positions)
+unfoldable pub ringCall : ℕ → List ℕ → Mesh → Outcome
+ringCall v buffer m =
+    let r = ring (m .topology) v in
+    let written = fill (length r) (λ i. getD r i 0) buffer in
+    unless (ringRefusal v buffer m) m buffer (outcomeOf 0 0 0 (length r) zeroPoint m written)
+
+unfoldable pub positionCall : ℕ → Mesh → Outcome
+positionCall v m =
+    let p : ℤ × ℤ × ℤ = (coordinate m v 0, coordinate m v 1, coordinate m v 2) in
+    unless (positionRefusal v m) m [] (outcomeOf 0 0 0 0 p m [])

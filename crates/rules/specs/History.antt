@@ -1,0 +1,104 @@
+-- Lists of calls on one mesh, and what holds after every one of them. (Every history; the customer's third demand)
+use Prim.Native.Nat.{ℕ, zero, suc, _+_, _*_, _/_, _%_, _≤_, _<_}
+use mathlib.Core.Bool.{Bool, true, false, _&&_, _||_}
+use mathlib.Core.List.{List, [], _∷_}
+use mathlib.Core.Logic.{_≢_, _⊎_}
+use mathlib.Core.Path.{_≡_}
+use lib.Dec.{eqb, ltb}
+use lib.IntN.{ℤ, pos, _+ℤ_, _-ℤ_}
+use Rattle.rules.specs.Below.{any, count, total}
+use Rattle.rules.specs.Cage.{Cage, cageOf, opposite}
+use Rattle.rules.specs.Calls.{Outcome, loadCall, refineCall, wholeStepCall, ringCall, positionCall}
+use Rattle.rules.specs.Split.{chainOdd}
+use Rattle.rules.specs.Tables.{Topology, Mesh, sides, link, boundary, generation, next}
+
+-- A call with its arguments: a cage's bytes, a triangle, none, a vertex and a ring buffer, a vertex.
+pub data Call : Type 0 where
+  loads : List ℕ → Call
+  refines : ℕ → Call
+  steps : Call
+  asksRing : ℕ → List ℕ → Call
+  asksPosition : ℕ → Call
+
+abbrev pub outcome : Call → Mesh → Outcome
+outcome (loads bytes) m = loadCall bytes m
+outcome (refines t) m = refineCall t m
+outcome steps m = wholeStepCall m
+outcome (asksRing v buffer) m = ringCall v buffer m
+outcome (asksPosition v) m = positionCall v m
+
+-- The mesh after a list of calls, each getting it as the one before left it.
+unfoldable pub after : List Call → Mesh → Mesh
+after [] m = m
+after (c ∷ cs) m = after cs (outcome c m .mesh)
+
+-- The outcomes of such a list.
+unfoldable pub outcomes : List Call → Mesh → List Outcome
+outcomes [] m = []
+outcomes (c ∷ cs) m = let o = outcome c m in o ∷ outcomes cs (o .mesh)
+
+-- ---- the cage of the last accepted load
+
+pub data Opened : Type 0 where
+  none : Opened
+  cage : List ℕ → Opened
+
+abbrev pub opens : Call → Mesh → Opened → Opened
+opens (loads bytes) m before = elim (eqb (loadCall bytes m .refusal) 0) [ true ↦ cage bytes | false ↦ before ]
+opens (refines t) m before = before
+opens steps m before = before
+opens (asksRing v buffer) m before = before
+opens (asksPosition v) m before = before
+
+unfoldable pub lastOpened : List Call → Mesh → Opened → Opened
+lastOpened [] m before = before
+lastOpened (c ∷ cs) m before = lastOpened cs (outcome c m .mesh) (opens c m before)
+
+-- ---- vertices minus edges plus triangles (the Euler characteristic)
+
+-- Edges of the tables: a linked pair counts once, at its lower side, and a boundary side once. The boundary is above every side.
+unfoldable pub edges : Topology → ℕ
+edges m = count (sides m) (λ h. ltb h (link m h))
+
+abbrev pub characteristic : Topology → ℤ
+characteristic m = pos (m .vertices) -ℤ pos (edges m) +ℤ pos (m .triangles)
+
+-- Side h of the cage joins a and b, one way or the other.
+abbrev pub joins : Cage → ℕ → ℕ → ℕ → Bool
+joins c a b h = (eqb (c .corner h) a && eqb (c .corner (next h)) b) || (eqb (c .corner h) b && eqb (c .corner (next h)) a)
+
+-- Edges of a cage: the pairs of vertices, b below a, that some triangle has as a side.
+unfoldable pub cageEdges : Cage → ℕ
+cageEdges c = total (c .vertices) (λ a. count a (λ b. any (3 * c .triangles) (joins c a b)))
+
+abbrev pub cageCharacteristic : Cage → ℤ
+cageCharacteristic c = pos (c .vertices) -ℤ pos (cageEdges c) +ℤ pos (c .triangles)
+
+-- ---- the claim
+
+-- Generations that differ by two at most, and by one at most if either is even.
+pub record Near (g h : ℕ) : Type 0 where
+  pub up : h ≤ g + 2
+  pub down : g ≤ h + 2
+  pub even : (g % 2 ≡ 0) ⊎ (h % 2 ≡ 0) → (h ≤ g + 1) × (g ≤ h + 1)
+
+-- What a refine of t that is carried out on m makes and reports.
+pub record Refines (m : Mesh) (t : ℕ) (o : Outcome) : Type 0 where
+  pub odd : generation (m .topology) t % 2 ≡ 1 → o .splits ≡ chainOdd (m .topology) t
+  pub bound : generation (m .topology) t % 2 ≡ 1 → o .splits ≤ (generation (m .topology) t + 1) / 2
+  pub even : generation (m .topology) t % 2 ≡ 0 → o .splits ≡ 1
+  pub made : o .mesh .topology .triangles ≡ m .topology .triangles + 2 * o .splits
+
+-- What holds of a mesh whose last accepted load was of this cage.
+pub record Kept (bytes : List ℕ) (m : Mesh) : Type 0 where
+  pub linksMutual : (h : ℕ) → h < sides (m .topology)
+      → (link (m .topology) h ≡ boundary)
+      ⊎ ((link (m .topology) h < sides (m .topology)) × (link (m .topology) (link (m .topology) h) ≡ h))
+  pub euler : characteristic (m .topology) ≡ cageCharacteristic (cageOf bytes)
+  pub near : (h : ℕ) → h < sides (m .topology) → link (m .topology) h ≢ boundary
+      → Near (generation (m .topology) (h / 3)) (generation (m .topology) (link (m .topology) h / 3))
+  pub refines : (t : ℕ) → refineCall t m .refusal ≡ 0 → Refines m t (refineCall t m)
+
+-- The customer's third demand: every list of calls, begun on any tables and counts.
+abbrev pub EveryHistory : Type 0
+EveryHistory = (calls : List Call) (m : Mesh) (bytes : List ℕ) → lastOpened calls m none ≡ cage bytes → Kept bytes (after calls m)

@@ -1,0 +1,106 @@
+-- When tables are sound, stated and as a test. (The cage and the lent tables, "Sound")
+use Prim.Native.Nat.{ℕ, _+_, _*_, _/_, _%_, _≤_, _<_}
+use mathlib.Core.Bool.{Bool, true, false, not, _&&_, _||_}
+use mathlib.Core.List.{List}
+use mathlib.Core.Logic.{_≢_, _⊎_}
+use mathlib.Core.Path.{_≡_}
+use lib.Dec.{T, eqb, leb, ltb}
+use lib.IntN.{ℤ, pos}
+use lib.ListN.{length, getD}
+use Rattle.rules.specs.Below.{all, count}
+use Rattle.rules.specs.Numbers.{InRange, inRange}
+use Rattle.rules.specs.Ring.{fan}
+use Rattle.rules.specs.Tables.{Topology, Mesh, TablesAgree, tablesAgree, vertexSlots, triangleSlots, sides, origin, target, link, rotate, boundary, generation, odd}
+
+-- ---- the five kinds of linked pairs
+
+-- What a side is, with the generation of its triangle: a side of an even triangle, the base of an odd one, or an odd one's other side.
+pub data Role : Type 0 where
+  even : ℕ → Role
+  base : ℕ → Role
+  other : ℕ → Role
+
+abbrev pub role : Topology → ℕ → Role
+role m h =
+    let g = generation m (h / 3) in
+    elim (odd g) [ false ↦ even g | true ↦ elim (eqb (h % 3) 0) [ true ↦ base g | false ↦ other g ] ]
+
+-- The paper's five kinds, each in both orders; two bases never meet.
+abbrev pub fiveKinds : Role → Role → Bool
+fiveKinds (even g) (even h) = eqb g h
+fiveKinds (even g) (base h) = eqb h (g + 1)
+fiveKinds (base h) (even g) = eqb h (g + 1)
+fiveKinds (even g) (other h) = eqb g (h + 1)
+fiveKinds (other h) (even g) = eqb g (h + 1)
+fiveKinds (other g) (other h) = eqb g h
+fiveKinds (base g) (other h) = eqb g (h + 2)
+fiveKinds (other h) (base g) = eqb g (h + 2)
+fiveKinds (base g) (base h) = false
+
+-- ---- the statement
+
+-- Side h has a partner: a side in use that links back, runs between the same two vertices the other way, and is of a fitting kind.
+pub record Linked (m : Topology) (h : ℕ) : Type 0 where
+  pub inUse : link m h < sides m
+  pub back : link m (link m h) ≡ h
+  pub from : origin m (link m h) ≡ target m h
+  pub onto : target m (link m h) ≡ origin m h
+  pub kind : T (fiveKinds (role m h) (role m (link m h)))
+
+-- Turning about the origin of side s leads to side k.
+pub data Turns (m : Topology) (s : ℕ) : ℕ → Type 0 where
+  here : Turns m s s
+  turn : {h k : ℕ} → Turns m s h → rotate m h ≡ k → k < sides m → Turns m s k
+
+-- One fan: v has a triangle, and turning from one of its sides leads to the side out of v in each of its triangles.
+pub record OneFan (m : Topology) (v : ℕ) : Type 0 where
+  pub first : ℕ
+  pub inUse : first < sides m
+  pub out : origin m first ≡ v
+  pub all : (h : ℕ) → h < sides m → origin m h ≡ v → Turns m first h
+
+pub record Sound (m : Mesh) : Type 0 where
+  pub tables : TablesAgree m
+  pub someVertex : 1 ≤ m .topology .vertices
+  pub someTriangle : 1 ≤ m .topology .triangles
+  pub vertexRoom : m .topology .vertices ≤ vertexSlots m
+  pub triangleRoom : m .topology .triangles ≤ triangleSlots m
+  pub corner : (h : ℕ) → h < sides (m .topology) → origin (m .topology) h < m .topology .vertices
+  pub distinct : (h : ℕ) → h < sides (m .topology) → origin (m .topology) h ≢ target (m .topology) h
+  pub linked : (h : ℕ) → h < sides (m .topology) → (link (m .topology) h ≡ boundary) ⊎ Linked (m .topology) h
+  pub fans : (v : ℕ) → v < m .topology .vertices → OneFan (m .topology) v
+  pub range : (i : ℕ) → i < 3 * m .topology .vertices → InRange (getD (m .positions) i (pos 0))
+  pub generations : (t : ℕ) → t < m .topology .triangles → generation (m .topology) t ≤ 20
+
+-- ---- the test
+
+unfoldable pub isLinked : Topology → ℕ → Bool
+isLinked m h =
+    let k = link m h in
+    ltb k (sides m)
+    && eqb (link m k) h
+    && eqb (origin m k) (target m h)
+    && eqb (target m k) (origin m h)
+    && fiveKinds (role m h) (role m k)
+
+unfoldable pub soundSide : Topology → ℕ → Bool
+soundSide m h = ltb (origin m h) (m .vertices) && not (eqb (origin m h) (target m h)) && (eqb (link m h) boundary || isLinked m h)
+
+-- The walk round v meets as many triangles as v has, and v has one.
+unfoldable pub hasOneFan : Topology → ℕ → Bool
+hasOneFan m v =
+    let n = length (fan m v) in
+    ltb 0 n && eqb n (count (sides m) (λ h. eqb (origin m h) v))
+
+unfoldable pub isSound : Mesh → Bool
+isSound m =
+    let t = m .topology in
+    tablesAgree m
+    && leb 1 (t .vertices)
+    && leb 1 (t .triangles)
+    && leb (t .vertices) (vertexSlots m)
+    && leb (t .triangles) (triangleSlots m)
+    && all (sides t) (soundSide t)
+    && all (t .vertices) (hasOneFan t)
+    && all (3 * t .vertices) (λ i. inRange (getD (m .positions) i (pos 0)))
+    && all (t .triangles) (λ x. leb (generation t x) 20)

@@ -1,0 +1,34 @@
+-- The whole smoothing step. (Whole step)
+use Prim.Native.Nat.{ℕ, zero, suc, _+_, _*_}
+use mathlib.Core.List.{List, [], _∷_}
+use lib.IntN.{ℤ, pos, _+ℤ_}
+use lib.ListN.{length}
+use Rattle.rules.specs.Numbers.{moved}
+use Rattle.rules.specs.Ring.{ring}
+use Rattle.rules.specs.Split.{Work, atFirst, withMesh, refine}
+use Rattle.rules.specs.Tables.{Mesh, withPositions, coordinate, putThree}
+
+-- Coordinate k of these vertices, added up.
+unfoldable pub sumOver : Mesh → ℕ → List ℕ → ℤ
+sumOver m k [] = pos 0
+sumOver m k (v ∷ vs) = coordinate m v k +ℤ sumOver m k vs
+
+-- Coordinate k of the place that vertex v moves to.
+unfoldable pub movedCoordinate : Mesh → ℕ → ℕ → ℤ
+movedCoordinate m v k = let r = ring (m .topology) v in moved (length r) (coordinate m v k) (sumOver m k r)
+
+-- The positions with the first n vertices moved, all of them by the old mesh m.
+unfoldable pub moveVertices : ℕ → Mesh → List ℤ → List ℤ
+moveVertices zero m l = l
+moveVertices (suc v) m l = moveVertices v m (putThree v (movedCoordinate m v 0, movedCoordinate m v 1, movedCoordinate m v 2) l)
+
+-- Slots 0 to n - 1 refined in order.
+unfoldable pub refineFirst : ℕ → Work → Work
+refineFirst zero w = w
+refineFirst (suc n) w = refine n (refineFirst n w)
+
+-- The step: all old triangles refined, with their centres at the old positions, and then all old vertices moved at once.
+unfoldable pub wholeStep : Mesh → Work
+wholeStep m =
+    let w = refineFirst (m .topology .triangles) (atFirst m) in
+    withMesh (withPositions (moveVertices (m .topology .vertices) m (w .mesh .positions)) (w .mesh)) w

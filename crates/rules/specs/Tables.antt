@@ -1,0 +1,125 @@
+-- The lent tables with their counts, and the sides of triangles. (The cage and the lent tables)
+use Prim.Native.Nat.{ℕ, _+_, _*_, _/_, _%_, _≤_}
+use mathlib.Core.Bool.{Bool, _&&_}
+use mathlib.Core.List.{List}
+use mathlib.Core.Path.{_≡_}
+use lib.Dec.{eqb, leb}
+use lib.IntN.{ℤ, pos}
+use lib.ListN.{length, getD, set}
+
+-- The counts in use and the tables that say how triangles hang together, with all their slots, those past the counts included.
+pub record Topology : Type 0 where
+  pub vertices : ℕ
+  pub triangles : ℕ
+  pub corners : List ℕ
+  pub links : List ℕ
+  pub generations : List ℕ
+
+pub record Mesh : Type 0 where
+  pub topology : Topology
+  pub positions : List ℤ
+
+-- Every topology and every mesh is built by these two.
+abbrev pub topologyOf : ℕ → ℕ → List ℕ → List ℕ → List ℕ → Topology
+topologyOf v f corners links generations = record {
+  vertices = v;
+  triangles = f;
+  corners = corners;
+  links = links;
+  generations = generations;
+}
+
+abbrev pub meshOf : Topology → List ℤ → Mesh
+meshOf t positions = record { topology = t; positions = positions }
+
+abbrev pub withTopology : Topology → Mesh → Mesh
+withTopology t m = meshOf t (m .positions)
+
+abbrev pub withPositions : List ℤ → Mesh → Mesh
+withPositions positions m = meshOf (m .topology) positions
+
+-- ---- sides (half-edges): side i of triangle t is the number 3 * t + i
+
+-- The number of sides in use.
+abbrev pub sides : Topology → ℕ
+sides m = 3 * m .triangles
+
+abbrev pub next : ℕ → ℕ
+next h = 3 * (h / 3) + (h % 3 + 1) % 3
+
+abbrev pub previous : ℕ → ℕ
+previous h = 3 * (h / 3) + (h % 3 + 2) % 3
+
+-- Side h runs from its origin to its target.
+abbrev pub origin : Topology → ℕ → ℕ
+origin m h = getD (m .corners) h 0
+
+abbrev pub target : Topology → ℕ → ℕ
+target m h = origin m (next h)
+
+-- What a side without a partner links to: the paper's rim. No table has a slot of this number.
+abbrev pub boundary : ℕ
+boundary = 4294967295
+
+-- The side across (the twin half-edge), or the boundary.
+abbrev pub link : Topology → ℕ → ℕ
+link m h = getD (m .links) h 0
+
+-- The next side with the same origin, across the side that leads to it; or the boundary.
+abbrev pub rotate : Topology → ℕ → ℕ
+rotate m h = link m (previous h)
+
+abbrev pub generation : Topology → ℕ → ℕ
+generation m t = getD (m .generations) t 0
+
+abbrev pub odd : ℕ → Bool
+odd g = eqb (g % 2) 1
+
+-- Side h is the base of an odd triangle: its side 0.
+abbrev pub isBase : Topology → ℕ → Bool
+isBase m h = eqb (h % 3) 0 && odd (generation m (h / 3))
+
+-- Coordinate k of vertex v.
+abbrev pub coordinate : Mesh → ℕ → ℕ → ℤ
+coordinate m v k = getD (m .positions) (3 * v + k) (pos 0)
+
+-- ---- writing one triangle's slot, one link, one vertex's slot
+
+abbrev pub putThree : {A : Type 0} → ℕ → A × A × A → List A → List A
+putThree i x l = set (set (set l (3 * i) (x .0)) (3 * i + 1) (x .1)) (3 * i + 2) (x .2)
+
+-- Triangle slot t with these corners, these links and this generation.
+abbrev pub putTriangle : ℕ → ℕ × ℕ × ℕ → ℕ × ℕ × ℕ → ℕ → Topology → Topology
+putTriangle t corners links g m =
+    topologyOf (m .vertices) (m .triangles) (putThree t corners (m .corners)) (putThree t links (m .links)) (set (m .generations) t g)
+
+-- Side h linked to side k. The boundary has no slot, so that nothing changes where h is the boundary.
+abbrev pub relink : ℕ → ℕ → Topology → Topology
+relink h k m = topologyOf (m .vertices) (m .triangles) (m .corners) (set (m .links) h k) (m .generations)
+
+abbrev pub withCounts : ℕ → ℕ → Topology → Topology
+withCounts v f m = topologyOf v f (m .corners) (m .links) (m .generations)
+
+-- ---- slots
+
+abbrev pub vertexSlots : Mesh → ℕ
+vertexSlots m = length (m .positions) / 3
+
+abbrev pub triangleSlots : Mesh → ℕ
+triangleSlots m = length (m .topology .generations)
+
+-- The tables agree in their slots and keep to the maxima. (Refused inputs, 1)
+pub record TablesAgree (m : Mesh) : Type 0 where
+  pub positions : length (m .positions) ≡ 3 * vertexSlots m
+  pub corners : length (m .topology .corners) ≡ 3 * triangleSlots m
+  pub links : length (m .topology .links) ≡ 3 * triangleSlots m
+  pub fewVertices : vertexSlots m ≤ 32768
+  pub fewTriangles : triangleSlots m ≤ 65536
+
+unfoldable pub tablesAgree : Mesh → Bool
+tablesAgree m =
+    eqb (length (m .positions)) (3 * vertexSlots m)
+    && eqb (length (m .topology .corners)) (3 * triangleSlots m)
+    && eqb (length (m .topology .links)) (3 * triangleSlots m)
+    && leb (vertexSlots m) 32768
+    && leb (triangleSlots m) 65536
