@@ -3,17 +3,10 @@ use Prim.Native.Nat.{ℕ, _+_, _*_}
 use mathlib.Core.List.{List, [], _∷_, map}
 use mathlib.Core.Path.{_≡_, refl}
 use lib.IntN.{ℤ, pos}
-use lib.ListN.{replicate}
-use Rattle.rules.specs.Below.{all, any, lowest, count, fill}
-use Rattle.rules.specs.Cage.{cageOf, partner, loaded, sizesFit, cornersFit, coordinatesFit, sidesDiffer, fansFit}
-use Rattle.rules.specs.Calls.{Outcome, closedEven, loadRefusal, refineRefusal, wholeStepRefusal, loadCall, refineCall, wholeStepCall}
+use Rattle.rules.proofs.Computing.{computing, fresh, tetrahedron}
+use Rattle.rules.specs.Calls.{Outcome}
 use Rattle.rules.specs.History.{Call, loads, refines, steps, after, outcomes}
-use Rattle.rules.specs.Numbers.{numberAt, signed, floorDiv, nearestThird, halfUp, weights, weight, moved}
-use Rattle.rules.specs.Ring.{firstSide, fanFrom, fan, neighbours, ring}
-use Rattle.rules.specs.Sound.{isLinked, soundSide, hasOneFan, isSound}
-use Rattle.rules.specs.Split.{split, flip, centre, splitPlaced, settle, faceSplit, chainEndWithin, chainOddWithin, raise, refine}
-use Rattle.rules.specs.Step.{sumOver, movedCoordinate, moveVertices, refineFirst, wholeStep}
-use Rattle.rules.specs.Tables.{Mesh, topologyOf, meshOf, tablesAgree, origin, generation, coordinate}
+use Rattle.rules.specs.Tables.{Mesh, origin, generation, coordinate}
 
 -- ---- what the facts speak of
 
@@ -29,23 +22,6 @@ triangleOf m t =
 
 abbrev pub pointOf : Mesh → ℕ → List ℤ
 pointOf m v = coordinate m v 0 ∷ coordinate m v 1 ∷ coordinate m v 2 ∷ []
-
--- A store of v vertex and f triangle slots, without content.
-unfoldable pub fresh : ℕ → ℕ → Mesh
-fresh v f = meshOf (topologyOf 0 0 (replicate (3 * f) 0) (replicate (3 * f) 0) (replicate f 0)) (replicate (3 * v) (pos 0))
-
--- Numbers below 256 as the four bytes of each, low byte first.
-unfoldable pub bytes : List ℕ → List ℕ
-bytes [] = []
-bytes (n ∷ ns) = n ∷ 0 ∷ 0 ∷ 0 ∷ bytes ns
-
-unfoldable pub tetrahedron : List ℕ
-tetrahedron = bytes (
-    4 ∷ 4
-    ∷ 0 ∷ 0 ∷ 0 ∷ 9 ∷ 0 ∷ 0 ∷ 0 ∷ 9 ∷ 0 ∷ 0 ∷ 0 ∷ 9
-    ∷ 0 ∷ 1 ∷ 2 ∷ 0 ∷ 3 ∷ 1 ∷ 1 ∷ 3 ∷ 2 ∷ 2 ∷ 3 ∷ 0
-    ∷ []
-    )
 
 -- ---- the table
 
@@ -76,12 +52,7 @@ pub record Table : Type 0 where
   pub p12₁ : pointOf (after smoothing store) 1 ≡ pos 4 ∷ pos 2 ∷ pos 2 ∷ []
 
 pub tetrahedron-run : Table
-unfolding run store smoothing tetrahedron bytes fresh
-    all any lowest count fill cageOf partner loaded sizesFit cornersFit coordinatesFit sidesDiffer fansFit
-    closedEven loadRefusal refineRefusal wholeStepRefusal loadCall refineCall wholeStepCall after outcomes
-    numberAt signed floorDiv nearestThird halfUp weights weight moved firstSide fanFrom fan neighbours ring
-    isLinked soundSide hasOneFan isSound split flip centre splitPlaced settle faceSplit chainEndWithin chainOddWithin raise refine
-    sumOver movedCoordinate moveVertices refineFirst wholeStep tablesAgree
+unfolding computing run store smoothing fresh tetrahedron
 tetrahedron-run = record {
   p1-to-p6 = refl;
   p7 = refl;

@@ -1,2 +1,5 @@
--- The theory of the rules.
+-- The theory of the rules, and examples computed from them.
+pub mod Computing
 pub mod Examples
+pub mod Refusals
+pub mod Readings

@@ -1,0 +1,45 @@
+-- A store, cages as bytes, and what opens the rules for computation.
+use Prim.Native.Nat.{ℕ, _*_}
+use mathlib.Core.List.{List, [], _∷_}
+use lib.IntN.{pos}
+use lib.ListN.{replicate}
+use Rattle.rules.specs.Below.{all, any, lowest, count, total, fill}
+use Rattle.rules.specs.Cage.{cageOf, partner, loaded, sizesFit, cornersFit, coordinatesFit, sidesDiffer, fansFit}
+use Rattle.rules.specs.Calls.{closedEven, loadRefusal, refineRefusal, wholeStepRefusal, ringRefusal, positionRefusal}
+use Rattle.rules.specs.Calls.{loadCall, refineCall, wholeStepCall, ringCall, positionCall}
+use Rattle.rules.specs.History.{after, outcomes, edges, cageEdges}
+use Rattle.rules.specs.Numbers.{numberAt, signed, floorDiv, nearestThird, halfUp, weights, weight, moved}
+use Rattle.rules.specs.Ring.{firstSide, fanFrom, fan, neighbours, ring}
+use Rattle.rules.specs.Sound.{isLinked, soundSide, hasOneFan, isSound}
+use Rattle.rules.specs.Split.{split, flip, centre, splitPlaced, settle, faceSplit}
+use Rattle.rules.specs.Split.{chainEndWithin, chainOddWithin, raise, refine}
+use Rattle.rules.specs.Step.{sumOver, movedCoordinate, moveVertices, refineFirst, wholeStep}
+use Rattle.rules.specs.Tables.{Mesh, topologyOf, meshOf, tablesAgree}
+
+-- A declaration that says `unfolding computing` computes with every definition of the rules.
+unfoldable pub computing : Unit {0}
+unfolding all any lowest count fill cageOf partner loaded sizesFit cornersFit coordinatesFit sidesDiffer fansFit
+    closedEven loadRefusal refineRefusal wholeStepRefusal ringRefusal positionRefusal loadCall refineCall
+    wholeStepCall ringCall positionCall after outcomes edges cageEdges numberAt signed floorDiv nearestThird halfUp
+    weights weight moved firstSide fanFrom fan neighbours ring isLinked soundSide hasOneFan isSound split flip
+    centre splitPlaced settle faceSplit chainEndWithin chainOddWithin raise refine sumOver movedCoordinate
+    moveVertices refineFirst wholeStep tablesAgree total
+computing = tt
+
+-- A store of v vertex and f triangle slots, without content.
+unfoldable pub fresh : ℕ → ℕ → Mesh
+fresh v f = meshOf (topologyOf 0 0 (replicate (3 * f) 0) (replicate (3 * f) 0) (replicate f 0)) (replicate (3 * v) (pos 0))
+
+-- Numbers below 256 as the four bytes of each, low byte first.
+unfoldable pub bytes : List ℕ → List ℕ
+bytes [] = []
+bytes (n ∷ ns) = n ∷ 0 ∷ 0 ∷ 0 ∷ bytes ns
+
+unfoldable pub tetrahedron : List ℕ
+unfolding bytes
+tetrahedron = bytes (
+    4 ∷ 4
+    ∷ 0 ∷ 0 ∷ 0 ∷ 9 ∷ 0 ∷ 0 ∷ 0 ∷ 9 ∷ 0 ∷ 0 ∷ 0 ∷ 9
+    ∷ 0 ∷ 1 ∷ 2 ∷ 0 ∷ 3 ∷ 1 ∷ 1 ∷ 3 ∷ 2 ∷ 2 ∷ 3 ∷ 0
+    ∷ []
+    )

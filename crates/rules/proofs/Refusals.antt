@@ -1,0 +1,85 @@
+-- One example of each refusal, computed from the rules. (Refused inputs, the column of examples)
+use Prim.Native.Nat.{ℕ, zero, suc, _+_, _*_, _%_}
+use mathlib.Core.List.{List, [], _∷_, _++_}
+use mathlib.Core.Path.{_≡_, refl}
+use lib.IntN.{pos}
+use lib.ListN.{replicate, take}
+use Rattle.rules.proofs.Computing.{computing, fresh, bytes, tetrahedron}
+use Rattle.rules.specs.Calls.{Outcome}
+use Rattle.rules.specs.History.{Call, loads, refines, steps, asksRing, asksPosition, after, outcome}
+use Rattle.rules.specs.Tables.{Mesh, topologyOf, meshOf}
+
+-- The refusal of the last call, on a mesh, after the others.
+abbrev pub refusalAfter : List Call → Call → Mesh → ℕ
+refusalAfter before c m = outcome c (after before m) .refusal
+
+unfoldable pub small : Mesh
+unfolding fresh
+small = fresh 6 9
+
+-- Tables that disagree: corners and links for 9 triangle slots, generations for 8.
+unfoldable pub uneven : Mesh
+uneven = meshOf (topologyOf 0 0 (replicate 27 0) (replicate 27 0) (replicate 8 0)) (replicate 18 (pos 0))
+
+-- A cage of v vertices at the origin and these corners.
+unfoldable pub flat : ℕ → ℕ → List ℕ → List ℕ
+unfolding bytes
+flat v f corners = bytes (v ∷ f ∷ []) ++ replicate (12 * v) 0 ++ bytes corners
+
+unfoldable pub triangle : List ℕ
+unfolding flat
+triangle = flat 3 1 (0 ∷ 1 ∷ 2 ∷ [])
+
+-- The same with a first coordinate of 16,777,217.
+unfoldable pub tooFar : List ℕ
+unfolding bytes
+tooFar = bytes (3 ∷ 1 ∷ []) ++ (1 ∷ 0 ∷ 0 ∷ 1 ∷ []) ++ replicate 32 0 ++ bytes (0 ∷ 1 ∷ 2 ∷ [])
+
+-- Two triangles back to back, of generation 20.
+unfoldable pub grown : Mesh
+grown =
+    meshOf (topologyOf 3 2 (0 ∷ 1 ∷ 2 ∷ 0 ∷ 2 ∷ 1 ∷ []) (5 ∷ 4 ∷ 3 ∷ 2 ∷ 1 ∷ 0 ∷ []) (20 ∷ 20 ∷ [])) (replicate 9 (pos 0))
+
+-- The triangles of a double pyramid on 13 sides, from side k on: its apexes are 13 and 14.
+unfoldable pub pyramids : ℕ → List ℕ
+pyramids zero = []
+pyramids (suc k) = k ∷ (suc k % 13) ∷ 13 ∷ (suc k % 13) ∷ k ∷ 14 ∷ pyramids k
+
+unfoldable pub doublePyramid : List ℕ
+unfolding flat pyramids
+doublePyramid = flat 15 26 (pyramids 13)
+
+pub record Table : Type 0 where
+  pub n1 : refusalAfter [] (loads tetrahedron) uneven ≡ 1
+  pub n2 : refusalAfter [] (loads (take 7 tetrahedron)) small ≡ 2
+  pub n3 : refusalAfter [] (loads (flat 3 1 (0 ∷ 0 ∷ 1 ∷ []))) small ≡ 3
+  pub n4 : refusalAfter [] (loads tooFar) small ≡ 4
+  pub n5 : refusalAfter [] (loads (flat 4 2 (0 ∷ 1 ∷ 2 ∷ 0 ∷ 1 ∷ 3 ∷ []))) small ≡ 5
+  pub n6 : refusalAfter [] (loads (flat 4 1 (0 ∷ 1 ∷ 2 ∷ []))) small ≡ 6
+  pub n7 : refusalAfter [] (refines 0) small ≡ 7
+  pub n8 : refusalAfter (loads tetrahedron ∷ []) (refines 4) small ≡ 8
+  pub n9 : refusalAfter [] (refines 0) grown ≡ 9
+  pub n10 : refusalAfter (loads triangle ∷ refines 0 ∷ []) (refines 0) small ≡ 10
+  pub n11 : refusalAfter (loads tetrahedron ∷ []) (refines 0) (fresh 6 5) ≡ 11
+  pub n12 : refusalAfter (loads tetrahedron ∷ refines 0 ∷ []) steps small ≡ 12
+  pub n13 : refusalAfter (loads doublePyramid ∷ []) steps (fresh 15 26) ≡ 13
+  pub n14 : refusalAfter (loads tetrahedron ∷ []) (asksRing 0 (7 ∷ 7 ∷ [])) small ≡ 14
+
+pub refusals : Table
+unfolding computing fresh small uneven tetrahedron flat triangle tooFar grown doublePyramid
+refusals = record {
+  n1 = refl;
+  n2 = refl;
+  n3 = refl;
+  n4 = refl;
+  n5 = refl;
+  n6 = refl;
+  n7 = refl;
+  n8 = refl;
+  n9 = refl;
+  n10 = refl;
+  n11 = refl;
+  n12 = refl;
+  n13 = refl;
+  n14 = refl;
+}
