@@ -3,7 +3,7 @@ use Prim.Native.Nat.{ℕ, _*_}
 use mathlib.Core.List.{List, [], _∷_}
 use lib.IntN.{pos}
 use lib.ListN.{replicate}
-use Rattle.rules.specs.Below.{all, any, lowest, count, total, fill}
+use Rattle.rules.specs.Below.{all, any, lowest, total, fill}
 use Rattle.rules.specs.Cage.{cageOf, partner, loaded, sizesFit, cornersFit, coordinatesFit, sidesDiffer, fansFit}
 use Rattle.rules.specs.Calls.{closedEven, loadRefusal, refineRefusal, wholeStepRefusal, ringRefusal, positionRefusal}
 use Rattle.rules.specs.Calls.{loadCall, refineCall, wholeStepCall, ringCall, positionCall}
@@ -18,12 +18,12 @@ use Rattle.rules.specs.Tables.{Mesh, topologyOf, meshOf, tablesAgree}
 
 -- A declaration that says `unfolding computing` computes with every definition of the rules.
 unfoldable pub computing : Unit {0}
-unfolding all any lowest count fill cageOf partner loaded sizesFit cornersFit coordinatesFit sidesDiffer fansFit
+unfolding all any lowest total fill cageOf partner loaded sizesFit cornersFit coordinatesFit sidesDiffer fansFit
     closedEven loadRefusal refineRefusal wholeStepRefusal ringRefusal positionRefusal loadCall refineCall
     wholeStepCall ringCall positionCall after outcomes edges cageEdges numberAt signed floorDiv nearestThird halfUp
     weights weight moved firstSide fanFrom fan neighbours ring isLinked soundSide hasOneFan isSound split flip
     centre splitPlaced settle faceSplit chainEndWithin chainOddWithin raise refine sumOver movedCoordinate
-    moveVertices refineFirst wholeStep tablesAgree total
+    moveVertices refineFirst wholeStep tablesAgree
 computing = tt
 
 -- A store of v vertex and f triangle slots, without content.

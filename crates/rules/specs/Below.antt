@@ -1,9 +1,9 @@
 -- Tests, searches, counts and writes that run over the numbers below n.
-use Prim.Native.Nat.{ℕ, zero, suc, _+_}
 use mathlib.Core.Bool.{Bool, true, false, _&&_}
 use mathlib.Core.List.{List}
-use lib.Dec.{ltb}
+use Prim.Native.Nat.{ℕ, zero, suc, _+_}
 use lib.ListN.{set}
+use lib.Dec.{ltb}
 
 -- Every number below n passes.
 unfoldable pub all : ℕ → (ℕ → Bool) → Bool
@@ -21,15 +21,18 @@ lowest (suc n) p =
 unfoldable pub any : ℕ → (ℕ → Bool) → Bool
 any n p = ltb (lowest n p) n
 
--- How many numbers below n pass.
-unfoldable pub count : ℕ → (ℕ → Bool) → ℕ
-count zero p = zero
-count (suc n) p = elim (p n) [ true ↦ suc (count n p) | false ↦ count n p ]
-
 -- The sum of f over the numbers below n.
 unfoldable pub total : ℕ → (ℕ → ℕ) → ℕ
 total zero f = zero
 total (suc n) f = total n f + f n
+
+abbrev pub bit : Bool → ℕ
+bit true = 1
+bit false = 0
+
+-- How many numbers below n pass.
+abbrev pub count : ℕ → (ℕ → Bool) → ℕ
+count n p = total n (λ i. bit (p i))
 
 -- The list with its first n entries written from f, and the later ones as they are.
 unfoldable pub fill : {A : Type 0} → ℕ → (ℕ → A) → List A → List A
