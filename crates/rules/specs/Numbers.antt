@@ -9,22 +9,23 @@ use lib.Signed.{_≤ℤ_, leZ}
 
 -- The number in the four bytes from place i on, low byte first. (The cage and the lent tables)
 unfoldable pub numberAt : List ℕ → ℕ → ℕ
-numberAt bytes i = getD bytes i 0 + 256 * getD bytes (i + 1) 0 + 65536 * getD bytes (i + 2) 0 + 16777216 * getD bytes (i + 3) 0
+numberAt bytes i =
+    getD bytes i 0 + 256 * getD bytes (i + 1) 0 + 65536 * getD bytes (i + 2) 0 + 16777216 * getD bytes (i + 3) 0
 
 -- The signed number, in two's complement, of four bytes whose unsigned number is n.
 unfoldable pub signed : ℕ → ℤ
 signed n = elim (ltb n 2147483648) [ true ↦ pos n | false ↦ pos n -ℤ pos 4294967296 ]
 
 -- The greatest coordinate; the least is its opposite. (The cage and the lent tables)
-abbrev pub limit : ℕ
-limit = 16777216
+abbrev pub maxCoordinate : ℕ
+maxCoordinate = 16777216
 
 pub record InRange (z : ℤ) : Type 0 where
-  pub low : negℤ (pos limit) ≤ℤ z
-  pub high : z ≤ℤ pos limit
+  pub low : negℤ (pos maxCoordinate) ≤ℤ z
+  pub high : z ≤ℤ pos maxCoordinate
 
 abbrev pub inRange : ℤ → Bool
-inRange z = leZ (negℤ (pos limit)) z && leZ z (pos limit)
+inRange z = leZ (negℤ (pos maxCoordinate)) z && leZ z (pos maxCoordinate)
 
 -- z / m, rounded down; `negsuc a` is -1 - a.
 unfoldable pub floorDiv : ℤ → ℕ → ℤ
@@ -33,12 +34,10 @@ floorDiv (negsuc a) m = negsuc (a / m)
 
 -- The whole number nearest to s / 3. (Face split and flip)
 unfoldable pub nearestThird : ℤ → ℤ
-unfolding floorDiv
 nearestThird s = floorDiv (s +ℤ pos 1) 3
 
 -- n / d to the nearest, half going up. (Whole step)
 unfoldable pub halfUp : ℤ → ℕ → ℤ
-unfolding floorDiv
 halfUp n d = floorDiv (pos 2 *ℤ n +ℤ pos d) (2 * d)
 
 -- The weight, out of 65536, of a vertex with 2 to 12 ring entries. (Whole step, the table)
@@ -46,10 +45,8 @@ unfoldable pub weights : List ℕ
 weights = 0 ∷ 0 ∷ 43691 ∷ 36409 ∷ 29127 ∷ 24627 ∷ 21845 ∷ 20047 ∷ 18829 ∷ 17971 ∷ 17345 ∷ 16875 ∷ 16515 ∷ []
 
 unfoldable pub weight : ℕ → ℕ
-unfolding weights
 weight n = getD weights n 0
 
 -- Where a vertex moves, in one coordinate: it is at p and has n ring entries that add up to s. (Whole step, N/D)
 unfoldable pub moved : ℕ → ℤ → ℤ → ℤ
-unfolding halfUp
 moved n p s = halfUp (pos n *ℤ (pos 65536 -ℤ pos (weight n)) *ℤ p +ℤ pos (weight n) *ℤ s) (65536 * n)

@@ -20,10 +20,12 @@ pub data Role : Type 0 where
   base : ℕ → Role
   other : ℕ → Role
 
+-- Side i of a triangle of generation g.
+abbrev pub roleOf : ℕ → ℕ → Role
+roleOf g i = elim (odd g) [ false ↦ even g | true ↦ elim (eqb i 0) [ true ↦ base g | false ↦ other g ] ]
+
 abbrev pub role : Topology → ℕ → Role
-role m h =
-    let g = generation m (h / 3) in
-    elim (odd g) [ false ↦ even g | true ↦ elim (eqb (h % 3) 0) [ true ↦ base g | false ↦ other g ] ]
+role m h = roleOf (generation m (h / 3)) (h % 3)
 
 -- The paper's five kinds, each in both orders; two bases never meet.
 abbrev pub fiveKinds : Role → Role → Bool

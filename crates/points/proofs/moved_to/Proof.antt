@@ -1,0 +1,113 @@
+-- `points::moved_to` meets its contract: counted from the least number, the mean is one of naturals.
+use borrow.Author.Needs.{needs}
+use Prim.Native.Nat.{ℕ, _+_, _-_, _*_, _≤_}
+use native.Mathlib.Omega.{arith}
+use native.Mathlib.Nat.{mul-le-mul, sub-le}
+use mathlib.Core.Path.{_≡_, _∙_, ap}
+use lib.IntN.{ℤ, pos, _-ℤ_}
+use mir.Syntax.{w32}
+use Rattle.rules.specs.Numbers.{halfUp, weight, moved}
+use Rattle.rules.proofs.Differences.{Is, nat, add, sub, scale, at-most, at-most-gives, less, less-gives}
+use Rattle.rules.proofs.Rounding.{Floor, half-up, half-up-only, moved-is, moved-at-most, parts-of-mean}
+use Rattle.points.proofs.Signed.{returned, counted, sum-of-one}
+use Rattle.points.proofs.moved_to.Statement.{statement}
+use Rattle.points.proofs.moved_to.Tie as tie
+
+-- With p and each ring entry counted from b below zero, so is the move.
+mean-is : (n b k x t : ℕ) {p s : ℤ} → 1 ≤ n → Is p x b → Is s t (n * b)
+    → pos k ≡ halfUp (pos (n * (65536 - weight n) * x + weight n * t)) (65536 * n) → pos k -ℤ pos b ≡ moved n p s
+mean-is n b k x t {p} {s} h at-p at-s e =
+    let d = 65536 * n in
+    let m = n * (65536 - weight n) * x + weight n * t in
+    let f : Floor (pos (2 * m + d)) (2 * d) (pos k) = rw e (half-up (pos m) (omega arith)) in
+    let l = at-most-gives (nat (2 * d * k)) (nat (2 * m + d)) (f .low) in
+    let g = less-gives (nat (2 * m + d)) (nat (2 * d * k + 2 * d)) (f .high) in
+    let q = sub (nat k) (nat b) in
+    let z = add (scale 2 (add (scale (n * (65536 - weight n)) at-p) (scale (weight n) at-s))) (nat d) in
+    let parts = ap (λ y. y * b) (parts-of-mean n) in
+    rw (moved-is n p s) (half-up-only _ (pos k -ℤ pos b) d (record {
+      low = at-most (scale (2 * d) q) z (omega arith);
+      high = less z (add (scale (2 * d) q) (nat (2 * d))) (omega arith);
+    }))
+
+-- The parts of the vertex, what they come to, and what the ring comes to.
+share : (c : tie.After-weight-of) → c .before .args .n * (65536 - c .weight-of .result) ≤ 12 * 65536
+share c = mul-le-mul (c .before .pre .1) (sub-le 65536 (c .weight-of .result))
+
+vertex : (c : tie.After-raised)
+    → c .before .before .args .n * (65536 - c .before .weight-of .result) * c .raised .result ≤ 12 * 65536 * 4294967295
+vertex c = mul-le-mul (share (c .before)) (c .raised .ensures .1)
+
+ring : (c : tie.After-raised-sum)
+    → c .before .before .weight-of .result * c .raised-sum .result ≤ 65536 * (12 * 4294967295)
+ring c = mul-le-mul {m₂ = 12 * 4294967295} (c .before .before .weight-of .ensures .1) (omega arith)
+
+mean : (c : tie.After-half-up) →
+    let args = c .before .before .before .before .args in
+    pos (c .half-up .result) -ℤ pos 2147483648 ≡ moved (args .n) (args .p) (args .s)
+mean c =
+    let start = c .before .before .before .before in
+    let x = c .before .before .raised in
+    let t = c .before .raised-sum in
+    mean-is (start .args .n) 2147483648 (c .half-up .result) (x .result) (t .result) (start .pre .0)
+    (counted (x .result) 2147483648 (start .fits .p) (x .ensures .0))
+    (counted (t .result) (start .args .n * 2147483648) (start .fits .s) (t .ensures .0))
+    (rw (c .before .before .before .weight-of .ensures .0) at (c .half-up .ensures))
+
+weight-of-requires : tie.Need-weight-of-requires
+weight-of-requires c κs = search needs
+
+sub-m : tie.Need-sub-m
+sub-m c = search needs
+
+mul-m : tie.Need-mul-m
+mul-m c = omega (arith, share c)
+
+raised-requires : tie.Need-raised-requires
+raised-requires c κs = search needs
+
+mul-m-2 : tie.Need-mul-m-2
+mul-m-2 c = omega (arith, vertex c)
+
+raised-sum-requires : tie.Need-raised-sum-requires
+raised-sum-requires c κs = search needs
+
+mul-m-3 : tie.Need-mul-m-3
+mul-m-3 c = omega (arith, ring c)
+
+add-m : tie.Need-add-m
+add-m c = omega (arith, vertex (c .before), ring c)
+
+mul-half-up : tie.Need-mul-half-up
+mul-half-up c = search needs
+
+half-up-requires : tie.Need-half-up-requires
+half-up-requires c κs = omega (arith, vertex (c .before), ring c)
+
+lowered-requires : tie.Need-lowered-requires
+lowered-requires c κs =
+    let start = c .before .before .before .before in
+    let p = sum-of-one (start .fits .p) .high in
+    let top = moved-at-most {hi = pos 2147483647} (start .pre .0) p (start .pre .2 .high) in
+    let k = sub (nat (c .half-up .result)) (nat 2147483648) in
+    omega (arith, at-most-gives k (nat 2147483647) (rw (mean c) top))
+
+returns : tie.Need-returns
+returns c = returned w32 (c .lowered .ok) (c .lowered .ensures ∙ mean (c .before))
+
+pub moved-to-spec : {M : Type 1} → statement M
+moved-to-spec =
+    tie.close
+    (tie.spec
+    weight-of-requires
+    sub-m
+    mul-m
+    raised-requires
+    mul-m-2
+    raised-sum-requires
+    mul-m-3
+    add-m
+    mul-half-up
+    half-up-requires
+    lowered-requires
+    returns)

@@ -1,0 +1,209 @@
+// Points with whole coordinates, the rules that make new coordinates, and numbers of four bytes.
+ghost use mathlib.Core.Path.{_≡_};
+ghost use mathlib.Core.Bool.{_&&_};
+ghost use Prim.Native.Nat.{ℕ, _+_, _*_, _≤_, _<_};
+ghost use lib.IntN.{pos, _+ℤ_, _-ℤ_};
+ghost use lib.ListN.{length};
+ghost use Rattle.rules.specs.Numbers.{inRange, nearestThird, halfUp, weight, moved, numberAt, signed};
+ghost use Rattle.points.specs.Axes.{at, eachTotal, thirds, movedPoint, plus, SumOf, SumOfPoints};
+
+// A point, in units of 1/1024 mm.
+pub struct Point {
+    pub x: i32,
+    pub y: i32,
+    pub z: i32,
+}
+
+// The sum of some points.
+pub struct Sum {
+    pub x: i64,
+    pub y: i64,
+    pub z: i64,
+}
+
+impl Point {
+    // The least and the greatest coordinate.
+    pub const LOW: i32 = -16777216;
+
+    pub const HIGH: i32 = 16777216;
+
+    pub fn new(x: i32, y: i32, z: i32) -> Self
+        ensures { λ r. ⌜ r ≡ at x y z ⌝ }
+    {
+        Self { x, y, z }
+    }
+
+    pub fn in_range(self) -> bool
+        ensures { λ r. ⌜ r ≡ (inRange (self .x) && (inRange (self .y) && inRange (self .z))) ⌝ }
+    {
+        in_range(self.x) && (in_range(self.y) && in_range(self.z))
+    }
+
+    // The nearest third of the sum on each axis: where a face split puts its vertex.
+    pub fn thirds(a: Point, b: Point, c: Point) -> Self
+        ensures { λ r. ⌜ r ≡ thirds a b c ⌝ }
+    {
+        Self {
+            x: third(a.x, b.x, c.x),
+            y: third(a.y, b.y, c.y),
+            z: third(a.z, b.z, c.z),
+        }
+    }
+
+    // Where a vertex moves in a whole step: it has n ring entries, which add up to sum.
+    pub fn moved(self, n: usize, sum: Sum) -> Self
+        requires { ⌜ (1 ≤ n) × (n ≤ 12) × SumOfPoints n sum ⌝ }
+        ensures { λ r. ⌜ r ≡ movedPoint n self sum ⌝ }
+    {
+        Self {
+            x: moved_to(n, self.x, sum.x),
+            y: moved_to(n, self.y, sum.y),
+            z: moved_to(n, self.z, sum.z),
+        }
+    }
+}
+
+impl Sum {
+    // The sum of no points.
+    pub fn empty() -> Self
+        ensures { λ r. ⌜ (r ≡ eachTotal (λ k. pos 0)) × SumOfPoints 0 r ⌝ }
+    {
+        Self { x: 0, y: 0, z: 0 }
+    }
+
+    // This sum, of fewer than 4294967296 points, and one point more.
+    pub fn plus(self, p: Point) -> Self
+        requires { ⌜ ((n : ℕ) × (n < 4294967296) × SumOfPoints n self) ⌝ }
+        ensures { λ r. ⌜ (r ≡ plus self p) × ((n : ℕ) → SumOfPoints n self → SumOfPoints (n + 1) r) ⌝ }
+    {
+        Self {
+            x: added(self.x, p.x),
+            y: added(self.y, p.y),
+            z: added(self.z, p.z),
+        }
+    }
+}
+
+// One axis of such a sum.
+fn added(s: i64, x: i32) -> i64
+    requires { ⌜ ((n : ℕ) × (n < 4294967296) × SumOf n s) ⌝ }
+    ensures { λ r. ⌜ r ≡ s +ℤ x ⌝ }
+{
+    s + x as i64
+}
+
+// Whether x is a coordinate.
+pub fn in_range(x: i32) -> bool
+    ensures { λ r. ⌜ r ≡ inRange x ⌝ }
+{
+    Point::LOW <= x && x <= Point::HIGH
+}
+
+// A sum of n numbers of 32 bits, with each counted from the least such number, so that none is negative.
+fn raised_sum(s: i64, n: u64) -> u64
+    requires { ⌜ (n ≤ 12) × SumOf n s ⌝ }
+    ensures { λ r. ⌜ (s ≡ pos r -ℤ pos (n * 2147483648)) × (r ≤ n * 4294967295) ⌝ }
+{
+    (s + (n * 2147483648) as i64) as u64
+}
+
+// One number, so counted.
+fn raised(x: i32) -> u64
+    ensures { λ r. ⌜ (x ≡ pos r -ℤ pos 2147483648) × (r ≤ 4294967295) ⌝ }
+{
+    raised_sum(x as i64, 1)
+}
+
+// The number that is k, so counted.
+fn lowered(k: u64) -> i32
+    requires { ⌜ k ≤ 4294967295 ⌝ }
+    ensures { λ r. ⌜ r ≡ pos k -ℤ pos 2147483648 ⌝ }
+{
+    (k as i64 - 2147483648) as i32
+}
+
+// The whole number nearest to a third of the sum.
+pub fn third(a: i32, b: i32, c: i32) -> i32
+    ensures { λ r. ⌜ r ≡ nearestThird (a +ℤ b +ℤ c) ⌝ }
+{
+    let sum = raised(a) + raised(b) + raised(c);
+    lowered((sum + 1) / 3)
+}
+
+// m / d to the nearest, half going up.
+fn half_up(m: u64, d: u64) -> u64
+    requires { ⌜ (0 < d) × (m + d < 9223372036854775808) ⌝ }
+    ensures { λ r. ⌜ pos r ≡ halfUp (pos m) d ⌝ }
+{
+    let down = m / d;
+    if 2 * (m % d) < d { down } else { down + 1 }
+}
+
+// By the number of ring entries, out of 65536.
+const WEIGHTS: [u64; 13] = [
+    0,
+    0,
+    43691,
+    36409,
+    29127,
+    24627,
+    21845,
+    20047,
+    18829,
+    17971,
+    17345,
+    16875,
+    16515,
+];
+
+fn weight_of(n: usize) -> u64
+    requires { ⌜ n ≤ 12 ⌝ }
+    ensures { λ r. ⌜ (r ≡ weight n) × (r ≤ 65536) ⌝ }
+{
+    WEIGHTS[n]
+}
+
+// Where a vertex moves, in one coordinate: it is at p and has n ring entries that add up to s.
+pub fn moved_to(n: usize, p: i32, s: i64) -> i32
+    requires { ⌜ (1 ≤ n) × (n ≤ 12) × SumOf n s ⌝ }
+    ensures { λ r. ⌜ r ≡ moved n p s ⌝ }
+{
+    let w = weight_of(n);
+    let k = n as u64;
+    let m = k * (65536 - w) * raised(p) + w * raised_sum(s, k);
+    lowered(half_up(m, 65536 * k))
+}
+
+// The number of four bytes, low byte first.
+fn number_of(a: u8, b: u8, c: u8, d: u8) -> u32
+    ensures { λ r. ⌜ r ≡ a + 256 * b + 65536 * c + 16777216 * d ⌝ }
+{
+    a as u32 + 256 * (b as u32) + 65536 * (c as u32) + 16777216 * (d as u32)
+}
+
+// The number in the four bytes from place i on.
+pub fn number_at(bytes: &[u8], i: usize) -> u32
+    requires { ⌜ i + 4 ≤ length (now bytes) ⌝ }
+    ensures { λ r. ⌜ r ≡ numberAt (now (bytes .entry)) i ⌝ }
+{
+    number_of(bytes[i], bytes[i + 1], bytes[i + 2], bytes[i + 3])
+}
+
+// The signed number of four bytes whose unsigned number is n: from 2147483648 on it counts from the least number.
+pub fn signed_of(n: u32) -> i32
+    ensures { λ r. ⌜ r ≡ signed n ⌝ }
+{
+    if n < 2147483648 {
+        n as i32
+    } else {
+        lowered(n as u64 - 2147483648)
+    }
+}
+
+// The signed number in the four bytes from place i on.
+pub fn signed_at(bytes: &[u8], i: usize) -> i32
+    requires { ⌜ i + 4 ≤ length (now bytes) ⌝ }
+    ensures { λ r. ⌜ r ≡ signed (numberAt (now (bytes .entry)) i) ⌝ }
+{
+    signed_of(number_at(bytes, i))
+}
