@@ -28,7 +28,8 @@ computing = tt
 
 -- A store of v vertex and f triangle slots, without content.
 unfoldable pub fresh : ℕ → ℕ → Mesh
-fresh v f = meshOf (topologyOf 0 0 (replicate (3 * f) 0) (replicate (3 * f) 0) (replicate f 0)) (replicate (3 * v) (pos 0))
+fresh v f =
+    meshOf (topologyOf 0 0 (replicate (3 * f) 0) (replicate (3 * f) 0) (replicate f 0)) (replicate (3 * v) (pos 0))
 
 -- Numbers below 256 as the four bytes of each, low byte first.
 unfoldable pub bytes : List ℕ → List ℕ

@@ -63,13 +63,15 @@ pub record Table : Type 0 where
   pub fewTriangleSlots : refusalAfter (loads tetrahedron ∷ []) (refines 0) (fresh 5 5) ≡ 11
   pub fewVertexSlots : refusalAfter (loads tetrahedron ∷ []) (refines 0) (fresh 4 6) ≡ 11
   -- A ring leaves the rest of its buffer; at the boundary it starts there, and ends with the last neighbour.
-  pub closedRing : outcome (asksRing 0 (replicate 5 77)) (after (loads tetrahedron ∷ []) store) .buffer ≡ 1 ∷ 2 ∷ 3 ∷ 77 ∷ 77 ∷ []
+  pub closedRing : outcome (asksRing 0 (replicate 5 77)) (after (loads tetrahedron ∷ []) store) .buffer ≡ 1 ∷ 2 ∷ 3
+      ∷ 77 ∷ 77 ∷ []
   pub openRing : outcome (asksRing 0 (replicate 3 77)) (after (loads triangle ∷ []) store) .buffer ≡ 1 ∷ 2 ∷ 77 ∷ []
   -- All vertices move at once.
   pub movedTwo : pointOf (after (loads tetrahedron ∷ steps ∷ []) store) 2 ≡ pos 2 ∷ pos 4 ∷ pos 2 ∷ []
   pub movedThree : pointOf (after (loads tetrahedron ∷ steps ∷ []) store) 3 ≡ pos 2 ∷ pos 2 ∷ pos 4 ∷ []
   -- The nearest third, on both sides of zero.
-  pub thirds : map nearestThird (pos 4 ∷ pos 5 ∷ negsuc 0 ∷ negsuc 3 ∷ negsuc 4 ∷ []) ≡ pos 1 ∷ pos 2 ∷ pos 0 ∷ negsuc 0 ∷ negsuc 1 ∷ []
+  pub thirds : map nearestThird (pos 4 ∷ pos 5 ∷ negsuc 0 ∷ negsuc 3 ∷ negsuc 4 ∷ []) ≡ pos 1 ∷ pos 2 ∷ pos 0
+      ∷ negsuc 0 ∷ negsuc 1 ∷ []
   -- Half goes up, on both sides of zero.
   pub halves : halfUp (pos 5) 2 ∷ halfUp (negsuc 4) 2 ∷ [] ≡ pos 3 ∷ negsuc 1 ∷ []
 

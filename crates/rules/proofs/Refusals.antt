@@ -38,7 +38,8 @@ tooFar = bytes (3 ∷ 1 ∷ []) ++ (1 ∷ 0 ∷ 0 ∷ 1 ∷ []) ++ replicate 32 
 -- Two triangles back to back, of generation 20.
 unfoldable pub grown : Mesh
 grown =
-    meshOf (topologyOf 3 2 (0 ∷ 1 ∷ 2 ∷ 0 ∷ 2 ∷ 1 ∷ []) (5 ∷ 4 ∷ 3 ∷ 2 ∷ 1 ∷ 0 ∷ []) (20 ∷ 20 ∷ [])) (replicate 9 (pos 0))
+    meshOf (topologyOf 3 2 (0 ∷ 1 ∷ 2 ∷ 0 ∷ 2 ∷ 1 ∷ []) (5 ∷ 4 ∷ 3 ∷ 2 ∷ 1 ∷ 0 ∷ []) (20 ∷ 20 ∷ []))
+    (replicate 9 (pos 0))
 
 -- The triangles of a double pyramid on 13 sides, from side k on: its apexes are 13 and 14.
 unfoldable pub pyramids : ℕ → List ℕ

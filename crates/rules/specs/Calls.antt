@@ -45,11 +45,11 @@ worked w = outcomeOf 0 (w .splits) (w .flips) 0 zeroPoint (w .mesh) []
 -- ---- refusals in their order
 
 infix 68 _if_
-pub data Condition : Type 0 where
-  _if_ : ℕ → Bool → Condition
+pub data Test : Type 0 where
+  _if_ : ℕ → Bool → Test
 
 -- The first number whose condition holds; 0 where none does.
-abbrev pub firstOf : List Condition → ℕ
+abbrev pub firstOf : List Test → ℕ
 firstOf [] = 0
 firstOf (n if holds ∷ rest) = elim holds [ true ↦ n | false ↦ firstOf rest ]
 

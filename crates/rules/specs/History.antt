@@ -27,6 +27,14 @@ outcome steps m = wholeStepCall m
 outcome (asksRing v buffer) m = ringCall v buffer m
 outcome (asksPosition v) m = positionCall v m
 
+-- The ring buffer that a call is lent.
+abbrev pub lentBuffer : Call → List ℕ
+lentBuffer (loads bytes) = []
+lentBuffer (refines t) = []
+lentBuffer steps = []
+lentBuffer (asksRing v buffer) = buffer
+lentBuffer (asksPosition v) = []
+
 -- The mesh after a list of calls, each getting it as the one before left it.
 unfoldable pub after : List Call → Mesh → Mesh
 after [] m = m
@@ -40,7 +48,7 @@ outcomes (c ∷ cs) m = let o = outcome c m in o ∷ outcomes cs (o .mesh)
 -- ---- the cage of the last accepted load
 
 pub data Opened : Type 0 where
-  none : Opened
+  nothing : Opened
   cage : List ℕ → Opened
 
 abbrev pub opens : Call → Mesh → Opened → Opened
@@ -101,4 +109,4 @@ pub record Kept (bytes : List ℕ) (m : Mesh) : Type 0 where
 
 -- The customer's third demand: every list of calls, begun on any tables and counts.
 abbrev pub EveryHistory : Type 0
-EveryHistory = (calls : List Call) (m : Mesh) (bytes : List ℕ) → lastOpened calls m none ≡ cage bytes → Kept bytes (after calls m)
+EveryHistory = (calls : List Call) (m : Mesh) (bytes : List ℕ) → lastOpened calls m nothing ≡ cage bytes → Kept bytes (after calls m)

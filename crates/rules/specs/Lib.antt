@@ -8,4 +8,5 @@ pub mod Split
 pub mod Step
 pub mod Cage
 pub mod Calls
+pub mod Conditions
 pub mod History

@@ -1,0 +1,31 @@
+-- Lists whose first n entries are written from a function, read back.
+use mathlib.Core.Path.{_≡_, refl, _∙_}
+use mathlib.Core.List.{List}
+use Prim.Native.Nat.{ℕ, zero, suc, _≤_, _<_}
+use native.Mathlib.Omega.{arith}
+use native.Mathlib.Decide.{ℕ-discrete}
+use lib.ListN.{length, getD, set, drop, length-set}
+use lib.Seq.{getD-set-same, getD-set-other, drop-set-lt}
+use Rattle.rules.specs.Below.{fill}
+
+module _ {A : Type 0} where
+  pub length-fill : (n : ℕ) (f : ℕ → A) (l : List A) → length (fill n f l) ≡ length l
+  unfolding fill
+  length-fill zero f l = refl
+  length-fill (suc n) f l = length-set (fill n f l) n (f n) ∙ length-fill n f l
+
+  -- An entry that is written.
+  pub getD-fill : (n : ℕ) (f : ℕ → A) (l : List A) (i : ℕ) (d : A) → n ≤ length l → i < n → getD (fill n f l) i d ≡ f i
+  unfolding fill
+  getD-fill zero f l i d r b = absurd (omega arith)
+  getD-fill (suc n) f l i d r b = go (ℕ-discrete i n) (getD-fill n f l i d (omega arith))
+    where
+      go : Dec (i ≡ n) → (i < n → getD (fill n f l) i d ≡ f i) → getD (set (fill n f l) n (f n)) i d ≡ f i
+      go (yes e) ih = rw e (getD-set-same (fill n f l) n (f n) d (omega (arith, length-fill n f l)))
+      go (no e) ih = getD-set-other (fill n f l) n i (f n) d e ∙ ih (omega arith)
+
+  -- The entries that are left, from b on.
+  pub drop-fill : (n : ℕ) (f : ℕ → A) (l : List A) (b : ℕ) → n ≤ b → drop b (fill n f l) ≡ drop b l
+  unfolding fill
+  drop-fill zero f l b i = refl
+  drop-fill (suc n) f l b i = drop-set-lt b (fill n f l) n (f n) i ∙ drop-fill n f l b (omega arith)

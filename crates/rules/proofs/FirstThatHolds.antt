@@ -1,0 +1,51 @@
+-- The first condition that holds, by the tests that decide the conditions.
+use mathlib.Core.Path.{_≡_, refl, sym, _∙_}
+use mathlib.Core.Logic.{_≢_}
+use mathlib.Core.Bool.{Bool, true, false, not}
+use mathlib.Core.List.{List, _∷_}
+use Prim.Native.Nat.{ℕ, zero, suc}
+use native.Mathlib.Omega.{arith}
+use Rattle.rules.proofs.Decide.{Decides}
+use Rattle.rules.specs.Calls.{Outcome, outcomeOf, zeroPoint, unless}
+use Rattle.rules.specs.Conditions.{Condition, _when_, First, this, later}
+use Rattle.rules.specs.Tables.{Mesh}
+
+-- A condition that holds where its test passes. What comes after may use that it does not hold.
+pub first-if : (n : ℕ) {b : Bool} {P : Type 0} {k : ℕ} {rest : List Condition} → Decides b P → (¬ P → First rest k)
+    → First (n when P ∷ rest) (elim b [ true ↦ n | false ↦ k ])
+first-if n {b = true} d f = this (d .holds tt)
+first-if n {b = false} d f = later (d .passes) (f (d .passes))
+
+-- A condition that holds where the test of its opposite fails.
+pub first-unless : (n : ℕ) {b : Bool} {Q : Type 0} {k : ℕ} {rest : List Condition} → Decides b Q → (Q → First rest k)
+    → First (n when (¬ Q) ∷ rest) (elim (not b) [ true ↦ n | false ↦ k ])
+first-unless n {b = true} {Q = Q} d f = later {P = ¬ Q} (λ x. x (d .holds tt)) (f (d .holds tt))
+first-unless n {b = false} d f = this (d .passes)
+
+-- ---- what a refusal leaves
+
+-- The call that m and the buffer are lent to either is refused, or its outcome is `success`.
+pub data Judged (n : ℕ) (m : Mesh) (buffer : List ℕ) (success : Outcome) : Outcome → Type 0 where
+  carried : n ≡ 0 → Judged n m buffer success success
+  refused : n ≢ 0 → Judged n m buffer success (outcomeOf n 0 0 0 zeroPoint m buffer)
+
+pub judged : (n : ℕ) (m : Mesh) (buffer : List ℕ) (success : Outcome)
+    → Judged n m buffer success (unless n m buffer success)
+judged zero m buffer success = carried refl
+judged (suc n) m buffer success = refused (λ e. omega arith)
+
+pub judged-refusal : {n : ℕ} {m : Mesh} {buffer : List ℕ} {success o : Outcome} → success .refusal ≡ 0
+    → Judged n m buffer success o → o .refusal ≡ n
+judged-refusal z (carried e) = z ∙ sym e
+judged-refusal z (refused e) = refl
+
+pub judged-refused : {n : ℕ} {m : Mesh} {buffer : List ℕ} {success o : Outcome} → success .refusal ≡ 0
+    → Judged n m buffer success o
+    → o .refusal ≢ 0 → o ≡ outcomeOf (o .refusal) 0 0 0 zeroPoint m buffer
+judged-refused z (carried e) r = absurd (r z)
+judged-refused z (refused e) r = refl
+
+pub judged-carried : {n : ℕ} {m : Mesh} {buffer : List ℕ} {success o : Outcome} → Judged n m buffer success o
+    → o .refusal ≡ 0 → (n ≡ 0) × (o ≡ success)
+judged-carried (carried e) r = (e, refl)
+judged-carried (refused e) r = absurd (e r)

@@ -1,0 +1,191 @@
+-- Every history: what each call keeps, and so what holds after every list of calls.
+use mathlib.Core.Path.{_≡_, refl, sym, _∙_, subst}
+use mathlib.Core.Logic.{_≢_, _⊎_, inl, inr}
+use mathlib.Core.Bool.{Bool, true, false}
+use mathlib.Core.List.{List, [], _∷_}
+use Prim.Native.Nat.{ℕ, zero, suc, _+_, _*_, _/_, _%_, _≤_, _<_}
+use native.Mathlib.Omega.{arith}
+use lib.Dec.{T, eqb}
+use lib.IntN.{pos, _+ℤ_, _-ℤ_}
+use Rattle.rules.proofs.Bases.{reached}
+use Rattle.rules.proofs.CageEdges.{load-characteristic}
+use Rattle.rules.proofs.CallRefusals.{load-judged, refine-judged, whole-step-judged, ring-judged, position-judged}
+use Rattle.rules.proofs.Carried.{LoadFound, RefineFound, load-found, refine-found, found-refined, step-found, found-stepped}
+use Rattle.rules.proofs.Chain.{odd-is, odd-not}
+use Rattle.rules.proofs.Differences.{nat, add, sub, equal}
+use Rattle.rules.proofs.FirstThatHolds.{Judged, carried, refused, judged-carried}
+use Rattle.rules.proofs.FiveKinds.{kind-level}
+use Rattle.rules.proofs.Load.{load-sound}
+use Rattle.rules.proofs.Refine.{Refined, chain-bound}
+use Rattle.rules.proofs.Sides.{eqb-no}
+use Rattle.rules.proofs.WholeStep.{Stepped}
+use Rattle.rules.specs.Cage.{cageOf, loaded}
+use Rattle.rules.specs.Calls.{Outcome, worked, loadRefusal, refineCall}
+use Rattle.rules.specs.History.{Near, Refines, Kept, Call, loads, refines, steps, asksRing, asksPosition, Opened, nothing, cage, outcome, after, opens, lastOpened, edges, characteristic, cageCharacteristic, EveryHistory}
+use Rattle.rules.specs.Sound.{Linked, Sound, roleOf, fiveKinds}
+use Rattle.rules.specs.Split.{Work, atFirst, chainOddWithin, chainOdd, refine}
+use Rattle.rules.specs.Tables.{Topology, Mesh, sides, boundary, link, generation}
+
+-- What is kept from an accepted load on: the tables are sound, and the characteristic is the cage's.
+pub record Good (bytes : List ℕ) (m : Mesh) : Type 0 where
+  pub sound : Sound m
+  pub euler : characteristic (m .topology) ≡ cageCharacteristic (cageOf bytes)
+
+abbrev pub Holds : Opened → Mesh → Type 0
+Holds nothing m = Unit {0}
+Holds (cage bytes) m = Good bytes m
+
+-- What a call has to keep; a call added later adds its case to `keeps` alone.
+pub record Keeps (c : Call) (m : Mesh) : Type 0 where
+  pub holds : (o : Opened) → Holds o m → Holds (opens c m o) (outcome c m .mesh)
+
+-- ---- splits keep the characteristic
+
+-- s splits, q of them at the boundary.
+same-characteristic : (v e f s q : ℕ) {v′ e′ f′ : ℕ} → v′ ≡ v + s + q → e′ ≡ e + 3 * s + q → f′ ≡ f + 2 * s
+    → pos v′ -ℤ pos e′ +ℤ pos f′ ≡ pos v -ℤ pos e +ℤ pos f
+same-characteristic v e f s q {v′} {e′} {f′} a b c =
+    equal (add (sub (nat v′) (nat e′)) (nat f′)) (add (sub (nat v) (nat e)) (nat f)) (omega arith)
+
+-- A mesh that a call made of a sound one: sound, and of the same characteristic.
+record Stays (m n : Mesh) : Type 0 where
+  sound : Sound n
+  euler : characteristic (n .topology) ≡ characteristic (m .topology)
+
+refined-stays : {t s q : ℕ} {m : Mesh} {w : Work} → Refined t s q m w → Stays m (w .mesh)
+refined-stays {s = s} {q = q} {m = m} R = record {
+  sound = R .sound;
+  euler =
+      same-characteristic (m .topology .vertices) (edges (m .topology)) (m .topology .triangles) s q (R .vertices)
+      (R .edges) (R .triangles);
+}
+
+stepped-stays : {g : ℕ} {m : Mesh} {w : Work} → Stepped g m w → Stays m (w .mesh)
+stepped-stays {m = m} {w = w} P =
+    let v : ℕ = m .topology .vertices in
+    let e : ℕ = edges (m .topology) in
+    let f : ℕ = m .topology .triangles in
+    let a : reached w .vertices ≡ v + f + 0 = omega (arith, P .vertices) in
+    let b : edges (reached w) ≡ e + 3 * f + 0 = omega (arith, P .edges) in
+    let c : reached w .triangles ≡ f + 2 * f = omega (arith, P .triangles) in
+    record { sound = P .sound; euler = same-characteristic v e f f 0 a b c }
+
+holds-on : {m n : Mesh} (o : Opened) → Stays m n → Holds o m → Holds o n
+holds-on nothing S h = tt
+holds-on (cage bytes) S h = record { sound = S .sound; euler = S .euler ∙ h .euler }
+
+-- A call that is refused leaves the mesh, and one that is carried out makes one that stays.
+judged-keeps : {n : ℕ} {m : Mesh} {buffer : List ℕ} {success o : Outcome} (a : Opened) → Judged n m buffer success o
+    → (n ≡ 0 → Holds a m → Holds a (success .mesh)) → Holds a m → Holds a (o .mesh)
+judged-keeps a (carried z) f h = f z h
+judged-keeps a (refused z) f h = h
+
+-- ---- load
+
+loaded-good : (bytes : List ℕ) (m : Mesh) → LoadFound bytes m → Good bytes (loaded (cageOf bytes) m)
+loaded-good bytes m L = record {
+  sound = load-sound bytes m (L .agree) (L .sizes) (L .corners) (L .coordinates) (L .differ) (L .fans);
+  euler =
+      load-characteristic (cageOf bytes) m (L .agree) (L .sizes .vertexRoom) (L .sizes .triangleRoom) (L .corners)
+      (L .differ);
+}
+
+load-holds : (bytes : List ℕ) (m : Mesh) (a : Opened) {o : Outcome}
+    → Judged (loadRefusal bytes m) m [] (worked (atFirst (loaded (cageOf bytes) m))) o
+    → Holds a m → Holds (elim (eqb (o .refusal) 0) [ true ↦ cage bytes | false ↦ a ]) (o .mesh)
+load-holds bytes m a (carried z) h = loaded-good bytes m (load-found bytes m z)
+load-holds bytes m a (refused z) h = rw (eqb-no (loadRefusal bytes m) 0 z) h
+
+-- ---- the calls
+
+pub keeps : (c : Call) (m : Mesh) → Keeps c m
+keeps (loads bytes) m = record { holds = λ a. load-holds bytes m a (load-judged bytes m) }
+keeps (refines t) m = record {
+  holds = λ a. judged-keeps a (refine-judged t m) (λ z. holds-on a (refined-stays (found-refined (refine-found t m z))));
+}
+keeps steps m = record {
+  holds = λ a. judged-keeps a (whole-step-judged m) (λ z. holds-on a (stepped-stays (found-stepped (step-found m z))));
+}
+keeps (asksRing v buffer) m = record { holds = λ a. judged-keeps a (ring-judged v buffer m) (λ z h. h) }
+keeps (asksPosition v) m = record { holds = λ a. judged-keeps a (position-judged v m) (λ z h. h) }
+
+history-holds : (calls : List Call) (m : Mesh) (o : Opened) → Holds o m → Holds (lastOpened calls m o) (after calls m)
+unfolding lastOpened after
+history-holds [] m o h = h
+history-holds (c ∷ cs) m o h = history-holds cs (outcome c m .mesh) (opens c m o) (keeps c m .holds o h)
+
+-- ---- what the customer asked for
+
+kind-near : (g i h j : ℕ) → T (fiveKinds (roleOf g i) (roleOf h j)) → Near g h
+kind-near g i h j t =
+    let e = kind-level g i h j t in
+    record {
+      up = omega arith;
+      down = omega arith;
+      even = λ x. elim x [ inl q ↦ (omega arith, omega arith) | inr q ↦ (omega arith, omega arith) ];
+    }
+
+module _ (m : Mesh) (S : Sound m) where
+  linked-mutual : (h : ℕ) → (link (m .topology) h ≡ boundary) ⊎ Linked (m .topology) h
+      → (link (m .topology) h ≡ boundary) ⊎ ((link (m .topology) h < sides (m .topology))
+      × (link (m .topology) (link (m .topology) h) ≡ h))
+  linked-mutual h (inl e) = inl e
+  linked-mutual h (inr L) = inr (L .inUse, L .back)
+
+  linked-near : (h : ℕ) → link (m .topology) h ≢ boundary → (link (m .topology) h ≡ boundary) ⊎ Linked (m .topology) h
+      → Near (generation (m .topology) (h / 3)) (generation (m .topology) (link (m .topology) h / 3))
+  linked-near h n (inl e) = absurd (n e)
+  linked-near h n (inr L) = kind-near _ (h % 3) _ (link (m .topology) h % 3) (L .kind)
+
+-- An odd triangle's chain has an odd triangle, itself; an even one's has none.
+odd-chain : (n : ℕ) (m : Topology) (t : ℕ) → generation m t % 2 ≡ 1 → 1 ≤ chainOddWithin (suc n) m t
+unfolding chainOddWithin
+odd-chain n m t o = rw (odd-is (generation m t) o, chainOddWithin) (go (eqb (link m (3 * t)) boundary))
+  where
+    go : (b : Bool) → 1 ≤ elim b [ true ↦ 1 | false ↦ suc (chainOddWithin n m (link m (3 * t) / 3)) ]
+    go true = omega arith
+    go false = omega arith
+
+even-chain : (n : ℕ) (m : Topology) (t : ℕ) → generation m t % 2 ≡ 0 → chainOddWithin n m t ≡ 0
+unfolding chainOddWithin
+even-chain zero m t e = refl
+even-chain (suc n) m t e = rw (odd-not (generation m t) e, chainOddWithin)
+
+some-chain : (g : ℕ) (m : Topology) (t : ℕ) → generation m t ≡ g → g % 2 ≡ 1 → 1 ≤ chainOddWithin g m t
+some-chain zero m t e o = absurd (omega arith)
+some-chain (suc n) m t e o = odd-chain n m t (omega arith)
+
+-- What a refine that is carried out makes and reports.
+pub found-refines : (t : ℕ) (m : Mesh) → RefineFound t m → Refines m t (worked (refine t (atFirst m)))
+found-refines t m F =
+    let R = found-refined F in
+    let s = R .splits in
+    let b = chain-bound t m (F .sound) (F .inUse) (F .young) (F .evenEnd) in
+    let some : generation (m .topology) t % 2 ≡ 1 → 1 ≤ chainOdd (m .topology) t =
+    some-chain (generation (m .topology) t) (m .topology) t refl in
+    record {
+      odd = λ o. let i = some o in omega arith;
+      bound = λ o. let i = some o in omega arith;
+      even = λ e. let i = even-chain (generation (m .topology) t) (m .topology) t e in omega arith;
+      made = omega (arith, R .triangles);
+    }
+
+pub carried-refines : (t : ℕ) (m : Mesh) → refineCall t m .refusal ≡ 0 → Refines m t (refineCall t m)
+carried-refines t m z =
+    let x = judged-carried (refine-judged t m) z in
+    subst (Refines m t) (sym (x .1)) (found-refines t m (refine-found t m (x .0)))
+
+good-kept : (bytes : List ℕ) (m : Mesh) → Good bytes m → Kept bytes m
+good-kept bytes m G =
+    let S = G .sound in
+    record {
+      linksMutual = λ h l. linked-mutual m S h (S .linked h l);
+      euler = G .euler;
+      near = λ h l n. linked-near m S h n (S .linked h l);
+      refines = λ t z. carried-refines t m z;
+    }
+
+pub every-history : EveryHistory
+every-history calls m bytes e =
+    good-kept bytes (after calls m)
+    (subst (λ (o : Opened). Holds o (after calls m)) e (history-holds calls m nothing tt))

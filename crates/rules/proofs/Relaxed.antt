@@ -1,0 +1,97 @@
+-- Sound meshes are the manifolds with agreeing tables in which no two bases meet: the five kinds traded for levels, and back.
+use mathlib.Core.Path.{_≡_, sym, subst}
+use mathlib.Core.Logic.{_⊎_, inl, inr}
+use Prim.Native.Nat.{ℕ, _*_, _/_, _%_, _≤_, _<_}
+use native.Mathlib.Omega.{arith}
+use lib.ListN.{length, getD}
+use lib.IntN.{pos}
+use Rattle.rules.proofs.Bases.{boundary-not-base}
+use Rattle.rules.proofs.Differences.{near}
+use Rattle.rules.proofs.FiveKinds.{kind-level, kind-bases, level-kind}
+use Rattle.rules.proofs.Manifold.{Manifold, Joined, Base, BasesMeetIn}
+use Rattle.rules.proofs.Settled.{nowhere}
+use Rattle.rules.specs.Numbers.{InRange}
+use Rattle.rules.specs.Sound.{Linked, Sound}
+use Rattle.rules.specs.Tables.{Topology, Mesh, TablesAgree, boundary, link, generation, vertexSlots}
+
+module _ (m : Topology) (h : ℕ) where
+  pub linked-joined : (link m h ≡ boundary) ⊎ Linked m h → Joined m h
+  linked-joined (inl e) = inl e
+  linked-joined (inr M) = inr (record {
+    inUse = M .inUse;
+    back = M .back;
+    from = M .from;
+    onto = M .onto;
+    level = sym (kind-level (generation m (h / 3)) (h % 3) (generation m (link m h / 3)) (link m h % 3) (M .kind));
+  })
+
+  joined-linked : (Base m h → Base m (link m h) → nowhere (h / 3) ⊎ nowhere (link m h / 3)) → Joined m h
+      → (link m h ≡ boundary) ⊎ Linked m h
+  joined-linked n (inl e) = inl e
+  joined-linked n (inr M) = inr (record {
+    inUse = M .inUse;
+    back = M .back;
+    from = M .from;
+    onto = M .onto;
+    kind = level-kind (generation m (h / 3)) (h % 3) (generation m (link m h / 3)) (link m h % 3) (sym (M .level))
+        (λ a b. elim (n a b) [ inl x ↦ x | inr x ↦ x ]);
+  })
+
+-- A sound mesh is a manifold.
+pub sound-manifold : {m : Mesh} → Sound m → Manifold (m .topology)
+sound-manifold {m} S = record {
+  slots = S .tables .fewTriangles;
+  linkSlots = omega (arith, S .tables .links, S .tables .fewTriangles);
+  cornerRoom = omega (arith, S .tables .corners, S .triangleRoom);
+  linkRoom = omega (arith, S .tables .links, S .triangleRoom);
+  generationRoom = S .triangleRoom;
+  corner = S .corner;
+  distinct = S .distinct;
+  linked = λ h l. linked-joined (m .topology) h (S .linked h l);
+  fan = S .fans;
+}
+
+-- In a sound mesh no two bases meet.
+pub sound-bases : {m : Mesh} → Sound m → BasesMeetIn nowhere (m .topology)
+sound-bases {m} S h l a b = go (S .linked h l)
+  where
+    t : Topology
+    t = m .topology
+
+    go : (link t h ≡ boundary) ⊎ Linked t h → nowhere (h / 3) ⊎ nowhere (link t h / 3)
+    go (inl e) = absurd (boundary-not-base t (sound-manifold S) (subst (Base t) e b))
+    go (inr M) =
+        absurd (kind-bases (generation t (h / 3)) (h % 3) (generation t (link t h / 3)) (link t h % 3) (M .kind) a b)
+
+-- A manifold in which no two bases meet is sound, where the tables agree and hold what a sound mesh asks of each
+-- vertex and triangle alone.
+pub manifold-sound : (m : Mesh) → TablesAgree m → Manifold (m .topology) → BasesMeetIn nowhere (m .topology)
+    → 1 ≤ m .topology .vertices → 1 ≤ m .topology .triangles → m .topology .vertices ≤ vertexSlots m
+    → ((t : ℕ) → t < m .topology .triangles → generation (m .topology) t ≤ 20)
+    → ((i : ℕ) → i < 3 * m .topology .vertices → InRange (getD (m .positions) i (pos 0))) → Sound m
+manifold-sound m A F K v f room low near = record {
+  tables = A;
+  someVertex = v;
+  someTriangle = f;
+  vertexRoom = room;
+  triangleRoom = F .generationRoom;
+  corner = F .corner;
+  distinct = F .distinct;
+  linked = λ h l. joined-linked (m .topology) h (K h l) (F .linked h l);
+  fans = F .fan;
+  range = near;
+  generations = low;
+}
+
+-- The slots stay, so that the tables go on agreeing.
+pub agree-on : {m n : Mesh} → TablesAgree m → length (n .positions) ≡ length (m .positions)
+    → length (n .topology .corners) ≡ length (m .topology .corners)
+    → length (n .topology .links) ≡ length (m .topology .links)
+    → length (n .topology .generations) ≡ length (m .topology .generations) → TablesAgree n
+agree-on A p c l g = record {
+  positions = omega (arith, A .positions);
+  corners = omega (arith, A .corners);
+  links = omega (arith, A .links);
+  fewVertices = omega (arith, A .fewVertices);
+  fewTriangles = omega (arith, A .fewTriangles);
+}

@@ -1,0 +1,120 @@
+-- The conditions of the refusals as statements; the tests that the calls compute are proved to decide them. (Refused inputs)
+use Prim.Native.Nat.{ℕ, _+_, _*_, _/_, _%_, _≤_, _<_}
+use mathlib.Core.List.{List, [], _∷_}
+use mathlib.Core.Logic.{_≢_}
+use mathlib.Core.Path.{_≡_}
+use lib.ListN.{length}
+use Rattle.rules.specs.Calls.{splitsOf}
+use Rattle.rules.specs.Cage.{Cage, cageOf, loaded}
+use Rattle.rules.specs.Numbers.{InRange}
+use Rattle.rules.specs.Ring.{ring}
+use Rattle.rules.specs.Sound.{OneFan, Sound}
+use Rattle.rules.specs.Tables.{Topology, Mesh, TablesAgree, vertexSlots, triangleSlots, sides, next, link, boundary, generation}
+
+-- ---- a cage
+
+-- Not 2: the bytes are as long as their sizes say, and the sizes are at least 1 and within the slots.
+pub record SizesFit (bytes : List ℕ) (m : Mesh) : Type 0 where
+  pub header : 8 ≤ length bytes
+  pub someVertex : 1 ≤ cageOf bytes .vertices
+  pub someTriangle : 1 ≤ cageOf bytes .triangles
+  pub vertexRoom : cageOf bytes .vertices ≤ vertexSlots m
+  pub triangleRoom : cageOf bytes .triangles ≤ triangleSlots m
+  pub size : length bytes ≡ 8 + 12 * (cageOf bytes .vertices + cageOf bytes .triangles)
+
+-- Not 3: corners are below V, and no triangle repeats one.
+pub record CornersFit (c : Cage) : Type 0 where
+  pub corner : (h : ℕ) → h < 3 * c .triangles → c .corner h < c .vertices
+  pub distinct : (h : ℕ) → h < 3 * c .triangles → c .corner h ≢ c .corner (next h)
+
+-- Not 4: coordinates are in range.
+abbrev pub CoordinatesFit : Cage → Type 0
+CoordinatesFit c = (i : ℕ) → i < 3 * c .vertices → InRange (c .coordinate i)
+
+-- Not 5: no directed side occurs twice.
+abbrev pub SidesDiffer : Cage → Type 0
+SidesDiffer c =
+    (h k : ℕ) → h < 3 * c .triangles → k < 3 * c .triangles → c .corner h ≡ c .corner k → c .corner (next h) ≡ c .corner (next k) → h ≡ k
+
+-- Not 6: the triangles of each vertex form one fan, and it has one.
+abbrev pub FansFit : Cage → Mesh → Type 0
+FansFit c m = (v : ℕ) → v < c .vertices → OneFan (loaded c m .topology) v
+
+-- ---- a mesh
+
+-- 10: the base chain of t ends at the boundary.
+pub data EndsAtBoundary (m : Topology) : ℕ → Type 0 where
+  stops : {t : ℕ} → generation m t % 2 ≡ 1 → link m (3 * t) ≡ boundary → EndsAtBoundary m t
+  goesOn : {t : ℕ} → generation m t % 2 ≡ 1 → link m (3 * t) ≢ boundary → EndsAtBoundary m (link m (3 * t) / 3) → EndsAtBoundary m t
+
+-- Not 11: there are slots for s face splits.
+pub record RoomFor (s : ℕ) (m : Mesh) : Type 0 where
+  pub vertices : m .topology .vertices + s ≤ vertexSlots m
+  pub triangles : m .topology .triangles + 2 * s ≤ triangleSlots m
+
+-- Not 12: no side is on the boundary, and all triangles are of one even generation.
+pub record ClosedEven (m : Topology) : Type 0 where
+  pub closed : (h : ℕ) → h < sides m → link m h ≢ boundary
+  pub common : ℕ
+  pub even : common % 2 ≡ 0
+  pub all : (t : ℕ) → t < m .triangles → generation m t ≡ common
+
+-- 13: some ring has more than 12 entries.
+abbrev pub LongRing : Topology → Type 0
+LongRing m = (v : ℕ) × (v < m .vertices) × (12 < length (ring m v))
+
+-- ---- the first that holds
+
+infix 68 _when_
+pub data Condition : Type 1 where
+  _when_ : ℕ → Type 0 → Condition
+
+-- n is the number of the first condition of the list that holds, or 0 where none does.
+pub data First : List Condition → ℕ → Type 1 where
+  none : First [] 0
+  this : {n : ℕ} {P : Type 0} {rest : List Condition} → P → First (n when P ∷ rest) n
+  later : {n k : ℕ} {P : Type 0} {rest : List Condition} → ¬ P → First rest k → First (n when P ∷ rest) k
+
+-- ---- the conditions of each call, in its order
+
+abbrev pub loadConditions : List ℕ → Mesh → List Condition
+loadConditions bytes m =
+    let c = cageOf bytes in
+    1 when (¬ TablesAgree m)
+    ∷ 2 when (¬ SizesFit bytes m)
+    ∷ 3 when (¬ CornersFit c)
+    ∷ 4 when (¬ CoordinatesFit c)
+    ∷ 5 when (¬ SidesDiffer c)
+    ∷ 6 when (¬ FansFit c m)
+    ∷ []
+
+abbrev pub refineConditions : ℕ → Mesh → List Condition
+refineConditions t m =
+    1 when (¬ TablesAgree m)
+    ∷ 7 when (¬ Sound m)
+    ∷ 8 when (¬ (t < m .topology .triangles))
+    ∷ 9 when (generation (m .topology) t ≡ 20)
+    ∷ 10 when EndsAtBoundary (m .topology) t
+    ∷ 11 when (¬ RoomFor (splitsOf (m .topology) t) m)
+    ∷ []
+
+abbrev pub wholeStepConditions : Mesh → List Condition
+wholeStepConditions m =
+    1 when (¬ TablesAgree m)
+    ∷ 7 when (¬ Sound m)
+    ∷ 12 when (¬ ClosedEven (m .topology))
+    ∷ 9 when (generation (m .topology) 0 ≡ 20)
+    ∷ 13 when LongRing (m .topology)
+    ∷ 11 when (¬ RoomFor (m .topology .triangles) m)
+    ∷ []
+
+abbrev pub ringConditions : ℕ → List ℕ → Mesh → List Condition
+ringConditions v buffer m =
+    1 when (¬ TablesAgree m)
+    ∷ 7 when (¬ Sound m)
+    ∷ 8 when (¬ (v < m .topology .vertices))
+    ∷ 14 when (length buffer < length (ring (m .topology) v))
+    ∷ []
+
+abbrev pub positionConditions : ℕ → Mesh → List Condition
+positionConditions v m = 1 when (¬ TablesAgree m) ∷ 7 when (¬ Sound m) ∷ 8 when (¬ (v < m .topology .vertices)) ∷ []
