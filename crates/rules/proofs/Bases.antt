@@ -114,7 +114,6 @@ pub record Settles (c : ℕ) (w v : Work) : Type 0 where
   pub settling : Settling c (reached w) (reached v)
   pub splits : v .splits ≡ w .splits
   pub flips : v .flips ≡ w .flips + flipsOf settling
-  pub positions : v .mesh .positions ≡ w .mesh .positions
 
 pub settle-settles : (p g c : ℕ) (w : Work) → Manifold (reached w) → Child p g c (reached w) → Settles c w (settle c w)
 unfolding settle
@@ -133,13 +132,11 @@ settle-settles p g c w F C = go (isBase m (link m (3 * c))) refl
           settling = flipped u B (flip-flips c u m F (B .useS) (B .useU) (B .differ));
           splits = refl;
           flips = omega arith;
-          positions = refl;
         }
     go false e = record {
       settling = kept (base-no m (link m (3 * c)) e);
       splits = refl;
       flips = omega arith;
-      positions = refl;
     }
 
 pub settling-manifold : (c : ℕ) (m n : Topology) → Manifold m → Settling c m n → Manifold n

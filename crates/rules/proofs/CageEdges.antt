@@ -7,13 +7,14 @@ use native.Mathlib.Omega.{arith}
 use native.Mathlib.Decide.{decLt}
 use lib.Dec.{ltb}
 use Rattle.rules.proofs.Decide.{Decides, is-eq, is-lt, is-iff, is-and, is-or, is-any}
-use Rattle.rules.proofs.Load.{Opposite, Matches, only, alone, opposite-back, matches-opposite, partner-matches, loaded-loads}
+use Rattle.rules.proofs.Load.{opposite-back, matches-opposite, partner-matches, loaded-loads}
 use Rattle.rules.proofs.Sides.{next-lt}
 use Rattle.rules.proofs.Sums.{total-same, total-zero, total-swap, total-one}
 use Rattle.rules.specs.Below.{any, total, bit, count}
 use Rattle.rules.specs.Cage.{Cage, partner, loaded}
 use Rattle.rules.specs.Conditions.{CornersFit, SidesDiffer}
 use Rattle.rules.specs.History.{edges, characteristic, joins, cageEdges, cageCharacteristic}
+use Rattle.rules.specs.Promises.{Opposite, Matches, only, alone}
 use Rattle.rules.specs.Tables.{Mesh, TablesAgree, next, boundary, vertexSlots, triangleSlots}
 
 -- ---- tests counted

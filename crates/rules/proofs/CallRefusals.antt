@@ -6,7 +6,7 @@ use mathlib.Core.List.{List, []}
 use Prim.Native.Nat.{ℕ, _+_, _*_, _%_, _≤_, _<_}
 use native.Mathlib.Omega.{arith}
 use native.Mathlib.Decide.{decLt}
-use lib.ListN.{length, getD}
+use lib.ListN.{length}
 use lib.Dec.{eqb, leb, ltb}
 use Rattle.rules.proofs.CageTests.{sizes-fit-is, corners-fit-is, coordinates-fit-is, sides-differ-is}
 use Rattle.rules.proofs.ChainEnd.{ends-at-boundary-is}
@@ -15,15 +15,15 @@ use Rattle.rules.proofs.FirstThatHolds.{Judged, first-if, first-unless,
 use Rattle.rules.proofs.Load.{fans-fit-is}
 use Rattle.rules.proofs.Relaxed.{sound-manifold, sound-bases}
 use Rattle.rules.proofs.SoundTest.{tables-agree-is, sound-is}
-use Rattle.rules.specs.Below.{any, fill}
+use Rattle.rules.specs.Below.{any}
 use Rattle.rules.specs.Cage.{Cage, cageOf, loaded}
-use Rattle.rules.specs.Calls.{Outcome, outcomeOf, zeroPoint, worked, roomFor, splitsOf, closedEven, loadRefusal, refineRefusal, wholeStepRefusal, ringRefusal, positionRefusal, loadCall, refineCall, wholeStepCall, ringCall, positionCall}
+use Rattle.rules.specs.Calls.{outcomeOf, zeroPoint, worked, roomFor, splitsOf, closedEven, loadRefusal, refineRefusal, wholeStepRefusal, ringRefusal, positionRefusal, loadCall, refineCall, wholeStepCall, ringRead, ringCall, positionRead, positionCall}
 use Rattle.rules.specs.Conditions.{RoomFor, ClosedEven, First, none, LongRing, loadConditions, refineConditions, wholeStepConditions, ringConditions, positionConditions}
 use Rattle.rules.specs.History.{Call, loads, refines, steps, asksRing, asksPosition, outcome, lentBuffer}
 use Rattle.rules.specs.Ring.{ring}
 use Rattle.rules.specs.Split.{atFirst, refine}
 use Rattle.rules.specs.Step.{wholeStep}
-use Rattle.rules.specs.Tables.{Topology, Mesh, sides, boundary, link, generation, odd, coordinate, vertexSlots, triangleSlots}
+use Rattle.rules.specs.Tables.{Topology, Mesh, sides, boundary, link, generation, odd, vertexSlots, triangleSlots}
 
 -- ---- tests
 
@@ -124,20 +124,10 @@ pub whole-step-judged : (m : Mesh) → Judged (wholeStepRefusal m) m [] (worked 
 unfolding wholeStepCall
 whole-step-judged m = judged (wholeStepRefusal m) m [] (worked (wholeStep m))
 
--- The outcome of a ring query that is carried out.
-abbrev pub ringRead : ℕ → List ℕ → Mesh → Outcome
-ringRead v buffer m =
-    let r = ring (m .topology) v in
-    outcomeOf 0 0 0 (length r) zeroPoint m (fill (length r) (λ i. getD r i 0) buffer)
-
 pub ring-judged : (v : ℕ) (buffer : List ℕ) (m : Mesh)
     → Judged (ringRefusal v buffer m) m buffer (ringRead v buffer m) (ringCall v buffer m)
 unfolding ringCall
 ring-judged v buffer m = judged (ringRefusal v buffer m) m buffer (ringRead v buffer m)
-
--- The outcome of a position query that is carried out.
-abbrev pub positionRead : ℕ → Mesh → Outcome
-positionRead v m = outcomeOf 0 0 0 0 (coordinate m v 0, coordinate m v 1, coordinate m v 2) m []
 
 pub position-judged : (v : ℕ) (m : Mesh) → Judged (positionRefusal v m) m [] (positionRead v m) (positionCall v m)
 unfolding positionCall

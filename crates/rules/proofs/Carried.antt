@@ -16,10 +16,11 @@ use Rattle.rules.proofs.Load.{fans-fit-is}
 use Rattle.rules.proofs.Refine.{Refined, refine-refined}
 use Rattle.rules.proofs.Relaxed.{sound-manifold, sound-bases}
 use Rattle.rules.proofs.SoundTest.{tables-agree-is, sound-is}
-use Rattle.rules.proofs.WholeStep.{Stepped, whole-stepped}
+use Rattle.rules.proofs.WholeStep.{step-makes}
 use Rattle.rules.specs.Cage.{Cage, cageOf}
 use Rattle.rules.specs.Calls.{splitsOf, loadRefusal, refineRefusal, wholeStepRefusal}
 use Rattle.rules.specs.Conditions.{SizesFit, CornersFit, RoomFor, ClosedEven, Condition, _when_, First, this, later, CoordinatesFit, SidesDiffer, FansFit}
+use Rattle.rules.specs.Promises.{StepMakes}
 use Rattle.rules.specs.Sound.{Sound}
 use Rattle.rules.specs.Split.{atFirst, chainEnd, refine}
 use Rattle.rules.specs.Step.{wholeStep}
@@ -141,5 +142,5 @@ step-found m z =
       room = stable (room-is (m .topology .triangles) m) (fails f₆ (zero-not 10 z));
     }
 
-pub found-stepped : {m : Mesh} (F : StepFound m) → Stepped (F .closed .common) m (wholeStep m)
-found-stepped {m} F = whole-stepped m (F .sound) (F .closed) (F .young) (F .room)
+pub found-step : {m : Mesh} (F : StepFound m) → StepMakes (F .closed .common) m (wholeStep m)
+found-step {m} F = step-makes m (F .sound) (F .closed) (F .young) (F .room)

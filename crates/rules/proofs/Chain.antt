@@ -15,6 +15,7 @@ use Rattle.rules.proofs.Settled.{nowhere}
 use Rattle.rules.proofs.Settling.{Follow}
 use Rattle.rules.proofs.Sides.{eqb-no}
 use Rattle.rules.proofs.SplitKeeps.{level₀}
+use Rattle.rules.specs.Conditions.{OddInChain, atEven, onward}
 use Rattle.rules.specs.Split.{Work, chainEndWithin, chainOddWithin}
 use Rattle.rules.specs.Tables.{Topology, boundary, link, generation, odd}
 
@@ -137,6 +138,14 @@ path-short {m} F K l (across {t = t} {k = k} o r p) =
 pub path-fit : {m : Topology} {t v k : ℕ} → Path m t v k → Splittable m v
 path-fit (ends f) = f
 path-fit (across o r p) = path-fit p
+
+-- A path to an even triangle counts the odd triangles of the chain.
+end-counts : {m : Topology} {v : ℕ} → Splittable m v → OddInChain m v 0
+end-counts (isEven e) = atEven e
+
+pub path-counts : {m : Topology} {t v k : ℕ} → Path m t v k → OddInChain m t k
+path-counts (ends f) = end-counts f
+path-counts (across o r p) = onward o r (path-counts p)
 
 pub way : (n : ℕ) (m : Topology) → Manifold m → BasesMeetIn nowhere m → (t : ℕ) → t < m .triangles
     → generation m t ≤ n → generation m (chainEndWithin n m t) % 2 ≡ 0

@@ -16,17 +16,17 @@ use Rattle.rules.specs.Tables.{Topology, boundary, link, generation, odd
 
 -- A triangle ends the chain, or the chain goes on from the next.
 data Goes (m : Topology) (t : ℕ) : Type 0 where
-  atEven : generation m t % 2 ≡ 0 → Goes m t
-  atBoundary : generation m t % 2 ≡ 1 → link m (3 * t) ≡ boundary → Goes m t
-  onward : generation m t % 2 ≡ 1 → link m (3 * t) ≢ boundary → Goes m t
+  evenHere : generation m t % 2 ≡ 0 → Goes m t
+  boundaryHere : generation m t % 2 ≡ 1 → link m (3 * t) ≡ boundary → Goes m t
+  furtherOn : generation m t % 2 ≡ 1 → link m (3 * t) ≢ boundary → Goes m t
 
 goes : (m : Topology) (t : ℕ) → Goes m t
 goes m t = go (ℕ-discrete (generation m t % 2) 1) (ℕ-discrete (link m (3 * t)) boundary)
   where
     go : Dec (generation m t % 2 ≡ 1) → Dec (link m (3 * t) ≡ boundary) → Goes m t
-    go (no o) d = atEven (omega arith)
-    go (yes o) (yes e) = atBoundary o e
-    go (yes o) (no e) = onward o e
+    go (no o) d = evenHere (omega arith)
+    go (yes o) (yes e) = boundaryHere o e
+    go (yes o) (no e) = furtherOn o e
 
 -- The cases of the statement.
 not-even : {A : Type 0} {m : Topology} {t : ℕ} → generation m t % 2 ≡ 0 → EndsAtBoundary m t → A
@@ -51,12 +51,12 @@ module _ (m : Topology) (F : Manifold m) (K : BasesMeetIn nowhere m) where
           → Decides (odd (generation m (chainEndWithin n m (link m (3 * t) / 3)))) (EndsAtBoundary m
           (link m (3 * t) / 3)))
           → Decides (odd (generation m (chainEndWithin (suc n) m t))) (EndsAtBoundary m t)
-      go (atEven e) ih =
+      go (evenHere e) ih =
           rw (odd-not (generation m t) e, chainEndWithin)
           (rw (odd-not (generation m t) e) (record { holds = λ x. absurd x; passes = not-even e }))
-      go (atBoundary o e) ih =
+      go (boundaryHere o e) ih =
           rw (odd-is (generation m t) o, ap (λ (x : ℕ). eqb x boundary) e, chainEndWithin) (rw (odd-is (generation m t) o) (record { holds = λ x. stops o e; passes = λ x. tt }))
-      go (onward o e) ih =
+      go (furtherOn o e) ih =
           let f = falls m F K t l o e in
           let d = ih (f .0) (omega (arith, f .1)) in
           rw (odd-is (generation m t) o, eqb-no (link m (3 * t)) boundary e, chainEndWithin)

@@ -1,6 +1,7 @@
 -- The face split with its flips.
 use mathlib.Core.Path.{_≡_, refl, sym, ap, _∙_, subst}
 use mathlib.Core.Logic.{_≢_, _⊎_, inl, inr}
+use mathlib.Core.Bool.{Bool, true, false}
 use mathlib.Core.List.{List, [], _∷_}
 use Prim.Native.Nat.{ℕ, suc, _+_, _*_, _/_, _%_, _≤_, _<_}
 use native.Mathlib.Omega.{arith}
@@ -18,8 +19,8 @@ use Rattle.rules.proofs.Sides.{renameTwo, rename-a, rename-b, rename-el
 use Rattle.rules.proofs.SplitKeeps.{no-self, split-manifold}
 use Rattle.rules.proofs.SplitRead.{Splits, split-splits}
 use Rattle.rules.specs.Numbers.{InRange}
-use Rattle.rules.specs.Split.{Work, split, withSplit, centre, splitPlaced, settle, settleAll, faceSplit}
-use Rattle.rules.specs.Tables.{Topology, Mesh, sides, origin, boundary, link, generation, coordinate}
+use Rattle.rules.specs.Split.{Work, split, flip, withSplit, withFlip, centre, splitPlaced, settle, settleAll, faceSplit}
+use Rattle.rules.specs.Tables.{Topology, Mesh, withTopology, sides, origin, boundary, link, generation, isBase, coordinate, putThree}
 
 -- Room for 2k triangles more.
 pub record Room (k : ℕ) (m : Topology) : Type 0 where
@@ -161,22 +162,44 @@ settled-of : {cs : List ℕ} {w x : Work} → SettlesAll cs w x → Settled cs (
 settled-of all-done = done
 settled-of (next-child S s) = then (S .settling) (settled-of s)
 
--- Settling counts no split and places no vertex, and each flip takes two odd triangles away.
+-- Settling counts no split, and each flip takes two odd triangles away.
 record Counted (w x : Work) : Type 0 where
   splits : x .splits ≡ w .splits
-  positions : x .mesh .positions ≡ w .mesh .positions
   odd : 2 * x .flips + odds (reached x) ≡ 2 * w .flips + odds (reached w)
 
 counted-on : {c : ℕ} {w v x : Work} → Settles c w v → Counted v x → Counted w x
 counted-on S C = record {
   splits = C .splits ∙ S .splits;
-  positions = C .positions ∙ S .positions;
   odd = omega (arith, C .odd, S .flips, settling-odds (S .settling));
 }
 
 counted : {cs : List ℕ} {w x : Work} → SettlesAll cs w x → Counted w x
-counted all-done = record { splits = refl; positions = refl; odd = refl }
+counted all-done = record { splits = refl; odd = refl }
 counted (next-child S s) = counted-on S (counted s)
+
+-- ---- the new vertex
+
+settle-positions : (s : ℕ) (w : Work) → settle s w .mesh .positions ≡ w .mesh .positions
+unfolding settle
+settle-positions s w = go (isBase m (link m (3 * s)))
+  where
+    m : Topology
+    m = reached w
+
+    go : (b : Bool)
+        → (elim b as (λ _. Work) [
+          | true ↦ withFlip (withTopology (flip s (link m (3 * s) / 3) m) (w .mesh)) w
+          | false ↦ w
+        ]) .mesh .positions ≡ w .mesh .positions
+    go true = refl
+    go false = refl
+
+-- A face split places its vertex at the centre, and no other.
+pub face-positions : (t : ℕ) (w : Work)
+    → faceSplit t w .mesh .positions
+    ≡ putThree (reached w .vertices) (centre (w .mesh) t 0, centre (w .mesh) t 1, centre (w .mesh) t 2) (w .mesh .positions)
+unfolding faceSplit splitPlaced
+face-positions t w = simp settle-positions
 
 -- ---- any split, with what is counted and placed
 
@@ -221,7 +244,7 @@ module _ (v : ℕ) (w : Work) (F : Manifold (reached w)) (b : v < reached w .tri
         result = result;
         splits = K .splits;
         odd = omega (arith, K .odd, split-odds v m (split v m) b flat S);
-        places = places-new (w .mesh) (faceSplit v w .mesh) _ (omega (arith, result .vertices)) (K .positions)
+        places = places-new (w .mesh) (faceSplit v w .mesh) _ (omega (arith, result .vertices)) (face-positions v w)
             (λ a. (
               centre-in-range (w .mesh) v 0 F b (omega arith) a,
               centre-in-range (w .mesh) v 1 F b

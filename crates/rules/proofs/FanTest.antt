@@ -8,10 +8,11 @@ use native.Mathlib.Decide.{ℕ-discrete, decLe}
 use lib.ListN.{length}
 use lib.Dec.{T, eqb}
 use Rattle.rules.proofs.Decide.{Decides, is-eq, is-lt, is-iff, is-and}
-use Rattle.rules.proofs.Fans.{Walked, Starts, sideAt, Meets, triangleCount, walk-walked, first-side, first-in-use, fan-walked, fan-some}
+use Rattle.rules.proofs.Fans.{Walked, Starts, sideAt, Meets, walk-walked, first-side, first-in-use, fan-walked, fan-some}
 use Rattle.rules.proofs.Pigeonhole.{each-reached, as-many}
 use Rattle.rules.proofs.Renaming.{turns-trans}
 use Rattle.rules.proofs.Turning.{Glued, rotate-inner, before}
+use Rattle.rules.specs.Promises.{triangleCount}
 use Rattle.rules.specs.Ring.{firstSide, fanFrom, fan}
 use Rattle.rules.specs.Sound.{OneFan, Turns, here, turn, hasOneFan}
 use Rattle.rules.specs.Tables.{Topology, sides, origin, boundary, link, rotate}

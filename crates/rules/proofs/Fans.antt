@@ -29,10 +29,6 @@ sideAt l i = getD l i 0
 abbrev pub Meets : List ℕ → ℕ → Type 0
 Meets l h = Reached (length l) (sideAt l) h
 
--- How many triangles v has: one for each side out of it.
-abbrev pub triangleCount : Topology → ℕ → ℕ
-triangleCount m v = count (sides m) (λ h. eqb (origin m h) v)
-
 -- A turn from h leads to a side in use, and not back to s.
 abbrev GoesOn : Topology → ℕ → ℕ → Type 0
 GoesOn m s h = (rotate m h < sides m) × (¬ (rotate m h ≡ s))
@@ -210,11 +206,12 @@ walk-walked m G s l =
 
 -- ---- where the walk round v starts
 
--- A side out of v, and on the boundary if one is.
+-- A side out of v: on the boundary if one is, and else the lowest.
 pub record Starts (m : Topology) (v s : ℕ) : Type 0 where
   pub inUse : s < sides m
   pub out : origin m s ≡ v
   pub best : (link m s ≡ boundary) ⊎ ((h : ℕ) → h < sides m → origin m h ≡ v → link m h ≢ boundary)
+  pub lowest : ((h : ℕ) → h < sides m → origin m h ≡ v → link m h ≢ boundary) → (h : ℕ) → h < sides m → origin m h ≡ v → s ≤ h
 
 module _ (m : Topology) (v : ℕ) where
   outBoundary : ℕ → Bool
@@ -236,12 +233,17 @@ module _ (m : Topology) (v : ℕ) where
       → (elim c [ true ↦ a | false ↦ b ]) < sides m → Starts m v (elim c [ true ↦ a | false ↦ b ])
   pick a b true d A B l =
       let x = outBoundary-is a .holds (A .passes l) in
-      record { inUse = l; out = x .0; best = inl (x .1) }
+      record { inUse = l; out = x .0; best = inl (x .1); lowest = λ n h i q. absurd (n a l (x .0) (x .1)) }
   pick a b false d A B l = record {
     inUse = l;
     out = out-is b .holds (B .passes l);
     best = inr (λ h i q r. A .none h (omega (arith, d .passes)) (outBoundary-is h .passes (q, r)));
+    lowest = λ n h i q. no-lower h q (decLt h b);
   }
+    where
+      no-lower : (h : ℕ) → origin m h ≡ v → Dec (h < b) → b ≤ h
+      no-lower h q (yes r) = absurd (B .none h r (out-is h .passes q))
+      no-lower h q (no r) = omega arith
 
   pick-some : (a b : ℕ) (c : Bool) → Decides c (a < sides m) → Lowest (sides m) out b → (h : ℕ) → h < sides m
       → origin m h ≡ v

@@ -1,29 +1,30 @@
 -- Every history: what each call keeps, and so what holds after every list of calls.
 use mathlib.Core.Path.{_≡_, refl, sym, _∙_, subst}
 use mathlib.Core.Logic.{_≢_, _⊎_, inl, inr}
-use mathlib.Core.Bool.{Bool, true, false}
+use mathlib.Core.Bool.{true, false}
 use mathlib.Core.List.{List, [], _∷_}
-use Prim.Native.Nat.{ℕ, zero, suc, _+_, _*_, _/_, _%_, _≤_, _<_}
+use Prim.Native.Nat.{ℕ, _+_, _*_, _/_, _%_, _≤_, _<_}
 use native.Mathlib.Omega.{arith}
 use lib.Dec.{T, eqb}
 use lib.IntN.{pos, _+ℤ_, _-ℤ_}
 use Rattle.rules.proofs.Bases.{reached}
 use Rattle.rules.proofs.CageEdges.{load-characteristic}
 use Rattle.rules.proofs.CallRefusals.{load-judged, refine-judged, whole-step-judged, ring-judged, position-judged}
-use Rattle.rules.proofs.Carried.{LoadFound, RefineFound, load-found, refine-found, found-refined, step-found, found-stepped}
-use Rattle.rules.proofs.Chain.{odd-is, odd-not}
+use Rattle.rules.proofs.Carried.{LoadFound, RefineFound, load-found, refine-found, found-refined, step-found, found-step}
 use Rattle.rules.proofs.Differences.{nat, add, sub, equal}
 use Rattle.rules.proofs.FirstThatHolds.{Judged, carried, refused, judged-carried}
 use Rattle.rules.proofs.FiveKinds.{kind-level}
 use Rattle.rules.proofs.Load.{load-sound}
-use Rattle.rules.proofs.Refine.{Refined, chain-bound}
+use Rattle.rules.proofs.Refine.{Refined, chain-counts, chain-bound}
 use Rattle.rules.proofs.Sides.{eqb-no}
-use Rattle.rules.proofs.WholeStep.{Stepped}
+use Rattle.rules.specs.Below.{all}
 use Rattle.rules.specs.Cage.{cageOf, loaded}
 use Rattle.rules.specs.Calls.{Outcome, worked, loadRefusal, refineCall}
-use Rattle.rules.specs.History.{Near, Refines, Kept, Call, loads, refines, steps, asksRing, asksPosition, Opened, nothing, cage, outcome, after, opens, lastOpened, edges, characteristic, cageCharacteristic, EveryHistory}
+use Rattle.rules.specs.Conditions.{OddInChain, atEven, atBoundary, onward}
+use Rattle.rules.specs.History.{Near, ReportsSplits, Kept, Call, loads, refines, steps, asksRing, asksPosition, Opened, nothing, cage, outcome, after, opens, lastOpened, edges, characteristic, cageCharacteristic, EveryHistory}
+use Rattle.rules.specs.Promises.{StepMakes}
 use Rattle.rules.specs.Sound.{Linked, Sound, roleOf, fiveKinds}
-use Rattle.rules.specs.Split.{Work, atFirst, chainOddWithin, chainOdd, refine}
+use Rattle.rules.specs.Split.{Work, atFirst, chainOdd, refine}
 use Rattle.rules.specs.Tables.{Topology, Mesh, sides, boundary, link, generation}
 
 -- What is kept from an accepted load on: the tables are sound, and the characteristic is the cage's.
@@ -60,8 +61,8 @@ refined-stays {s = s} {q = q} {m = m} R = record {
       (R .edges) (R .triangles);
 }
 
-stepped-stays : {g : ℕ} {m : Mesh} {w : Work} → Stepped g m w → Stays m (w .mesh)
-stepped-stays {m = m} {w = w} P =
+step-stays : {g : ℕ} {m : Mesh} {w : Work} → StepMakes g m w → Stays m (w .mesh)
+step-stays {m = m} {w = w} P =
     let v : ℕ = m .topology .vertices in
     let e : ℕ = edges (m .topology) in
     let f : ℕ = m .topology .triangles in
@@ -104,7 +105,7 @@ keeps (refines t) m = record {
   holds = λ a. judged-keeps a (refine-judged t m) (λ z. holds-on a (refined-stays (found-refined (refine-found t m z))));
 }
 keeps steps m = record {
-  holds = λ a. judged-keeps a (whole-step-judged m) (λ z. holds-on a (stepped-stays (found-stepped (step-found m z))));
+  holds = λ a. judged-keeps a (whole-step-judged m) (λ z. holds-on a (step-stays (found-step (step-found m z))));
 }
 keeps (asksRing v buffer) m = record { holds = λ a. judged-keeps a (ring-judged v buffer m) (λ z h. h) }
 keeps (asksPosition v) m = record { holds = λ a. judged-keeps a (position-judged v m) (λ z h. h) }
@@ -138,42 +139,35 @@ module _ (m : Mesh) (S : Sound m) where
   linked-near h n (inr L) = kind-near _ (h % 3) _ (link (m .topology) h % 3) (L .kind)
 
 -- An odd triangle's chain has an odd triangle, itself; an even one's has none.
-odd-chain : (n : ℕ) (m : Topology) (t : ℕ) → generation m t % 2 ≡ 1 → 1 ≤ chainOddWithin (suc n) m t
-unfolding chainOddWithin
-odd-chain n m t o = rw (odd-is (generation m t) o, chainOddWithin) (go (eqb (link m (3 * t)) boundary))
-  where
-    go : (b : Bool) → 1 ≤ elim b [ true ↦ 1 | false ↦ suc (chainOddWithin n m (link m (3 * t) / 3)) ]
-    go true = omega arith
-    go false = omega arith
+odd-some : {m : Topology} {t k : ℕ} → OddInChain m t k → generation m t % 2 ≡ 1 → 1 ≤ k
+odd-some (atEven e) o = absurd (omega arith)
+odd-some (atBoundary q e) o = omega arith
+odd-some (onward q e x) o = omega arith
 
-even-chain : (n : ℕ) (m : Topology) (t : ℕ) → generation m t % 2 ≡ 0 → chainOddWithin n m t ≡ 0
-unfolding chainOddWithin
-even-chain zero m t e = refl
-even-chain (suc n) m t e = rw (odd-not (generation m t) e, chainOddWithin)
-
-some-chain : (g : ℕ) (m : Topology) (t : ℕ) → generation m t ≡ g → g % 2 ≡ 1 → 1 ≤ chainOddWithin g m t
-some-chain zero m t e o = absurd (omega arith)
-some-chain (suc n) m t e o = odd-chain n m t (omega arith)
+odd-none : {m : Topology} {t k : ℕ} → OddInChain m t k → generation m t % 2 ≡ 0 → k ≡ 0
+odd-none (atEven e) o = refl
+odd-none (atBoundary q e) o = absurd (omega arith)
+odd-none (onward q e x) o = absurd (omega arith)
 
 -- What a refine that is carried out makes and reports.
-pub found-refines : (t : ℕ) (m : Mesh) → RefineFound t m → Refines m t (worked (refine t (atFirst m)))
+pub found-refines : (t : ℕ) (m : Mesh) → RefineFound t m → ReportsSplits m t (worked (refine t (atFirst m)))
 found-refines t m F =
     let R = found-refined F in
-    let s = R .splits in
+    let c = chain-counts t m (F .sound) (F .inUse) (F .young) (F .evenEnd) in
     let b = chain-bound t m (F .sound) (F .inUse) (F .young) (F .evenEnd) in
-    let some : generation (m .topology) t % 2 ≡ 1 → 1 ≤ chainOdd (m .topology) t =
-    some-chain (generation (m .topology) t) (m .topology) t refl in
+    let all : generation (m .topology) t % 2 ≡ 1 → refine t (atFirst m) .splits ≡ chainOdd (m .topology) t =
+    λ o. let i = odd-some c o in omega (arith, R .splits) in
     record {
-      odd = λ o. let i = some o in omega arith;
-      bound = λ o. let i = some o in omega arith;
-      even = λ e. let i = even-chain (generation (m .topology) t) (m .topology) t e in omega arith;
-      made = omega (arith, R .triangles);
+      odd = λ o. subst (OddInChain (m .topology) t) (sym (all o)) c;
+      bound = λ o. let i = all o in omega arith;
+      even = λ e. let i = odd-none c e in omega (arith, R .splits);
+      made = omega (arith, R .triangles, R .splits);
     }
 
-pub carried-refines : (t : ℕ) (m : Mesh) → refineCall t m .refusal ≡ 0 → Refines m t (refineCall t m)
+pub carried-refines : (t : ℕ) (m : Mesh) → refineCall t m .refusal ≡ 0 → ReportsSplits m t (refineCall t m)
 carried-refines t m z =
     let x = judged-carried (refine-judged t m) z in
-    subst (Refines m t) (sym (x .1)) (found-refines t m (refine-found t m (x .0)))
+    subst (ReportsSplits m t) (sym (x .1)) (found-refines t m (refine-found t m (x .0)))
 
 good-kept : (bytes : List ℕ) (m : Mesh) → Good bytes m → Kept bytes m
 good-kept bytes m G =

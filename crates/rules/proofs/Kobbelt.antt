@@ -1,10 +1,8 @@
 -- Kobbelt's recursive split of a triangle, and that refine makes the same splits.
 use mathlib.Core.Path.{_≡_, refl, sym, ap, _∙_, subst, subst₂}
 use mathlib.Core.Logic.{_≢_}
-use mathlib.Core.Bool.{true, false}
 use Prim.Native.Nat.{ℕ, zero, suc, _+_, _*_, _/_, _%_, _≤_, _<_, max}
 use native.Mathlib.Omega.{arith}
-use lib.Dec.{eqb}
 use Rattle.rules.proofs.Bases.{reached}
 use Rattle.rules.proofs.Chain.{Path, ends, across, falls, odd-is, odd-not, path-end, cut-splitting, path-use, path-short, path-fit, way, stays}
 use Rattle.rules.proofs.FaceSplit.{Room, face-splitting}
@@ -17,26 +15,10 @@ use Rattle.rules.proofs.Settled.{nowhere}
 use Rattle.rules.proofs.Sides.{eqb-yes, eqb-no}
 use Rattle.rules.specs.Calls.{splitsOf}
 use Rattle.rules.specs.Conditions.{RoomFor}
+use Rattle.rules.specs.Promises.{mate, kobbelt}
 use Rattle.rules.specs.Sound.{Sound}
 use Rattle.rules.specs.Split.{Work, atFirst, faceSplit, chainEnd, raise, refine}
-use Rattle.rules.specs.Tables.{Topology, Mesh, boundary, link, generation, odd}
-
--- The triangle across the base of t.
-abbrev pub mate : ℕ → Work → ℕ
-mate t w = link (reached w) (3 * t) / 3
-
--- The procedure split(T) of document 000, section 4, to a depth of at most n. An even triangle is split. For an odd
--- one its mate is split, which flips the two; a mate two generations below is first raised by the same procedure, and
--- the mate read again.
-unfoldable pub kobbelt : ℕ → ℕ → Work → Work
-kobbelt zero t w = w
-kobbelt (suc n) t w = elim (odd (generation (reached w) t)) [
-  | false ↦ faceSplit t w
-  | true ↦
-      let far = eqb (generation (reached w) (mate t w) + 2) (generation (reached w) t) in
-      let w′ : Work = elim far [ true ↦ kobbelt n (mate t w) w | false ↦ w ] in
-      kobbelt n (mate t w′) w′
-]
+use Rattle.rules.specs.Tables.{Topology, Mesh, boundary, link, generation}
 
 kobbelt-even : (n t : ℕ) (w : Work) → 0 < n → generation (reached w) t % 2 ≡ 0 → kobbelt n t w ≡ faceSplit t w
 unfolding kobbelt

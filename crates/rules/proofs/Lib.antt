@@ -45,6 +45,7 @@ pub mod WholeStep
 pub mod CallRefusals
 pub mod Carried
 pub mod Histories
+pub mod Outcomes
 pub mod Results
 pub mod Computing
 pub mod Examples

@@ -21,21 +21,11 @@ use Rattle.rules.proofs.Turning.{Glued}
 use Rattle.rules.specs.Below.{lowest}
 use Rattle.rules.specs.Cage.{Cage, cageOf, opposite, partner, loaded, fansFit}
 use Rattle.rules.specs.Conditions.{SizesFit, CornersFit, CoordinatesFit, SidesDiffer, FansFit}
+use Rattle.rules.specs.Promises.{Opposite, Matches, only, alone}
 use Rattle.rules.specs.Sound.{OneFan, Sound, hasOneFan}
 use Rattle.rules.specs.Tables.{Topology, Mesh, TablesAgree, sides, next, origin, target, boundary, link, generation, vertexSlots, triangleSlots}
 
 -- ---- the partner of a side
-
--- Side k of the cage runs between the vertices of side h the other way.
-pub record Opposite (c : Cage) (h k : ℕ) : Type 0 where
-  pub inUse : k < 3 * c .triangles
-  pub from : c .corner k ≡ c .corner (next h)
-  pub onto : c .corner (next k) ≡ c .corner h
-
--- The matching side of h: the only opposite one, or the boundary where there is none.
-pub data Matches (c : Cage) (h : ℕ) : ℕ → Type 0 where
-  only : {k : ℕ} → Opposite c h k → ((j : ℕ) → Opposite c h j → j ≡ k) → Matches c h k
-  alone : ((j : ℕ) → ¬ Opposite c h j) → Matches c h boundary
 
 opposite-is : (c : Cage) (h k : ℕ)
     → Decides (opposite c h k) ((c .corner k ≡ c .corner (next h)) × (c .corner (next k) ≡ c .corner h))

@@ -2,8 +2,9 @@
 use mathlib.Core.Path.{_≡_, refl, sym, subst}
 use Prim.Native.Nat.{ℕ, zero, suc, _+_, _*_, _%_, _≤_, _<_, max}
 use native.Mathlib.Omega.{arith}
+use lib.ListN.{length}
 use Rattle.rules.proofs.Bases.{reached}
-use Rattle.rules.proofs.Chain.{Path, ends, topOf, boundaryOf, path-short, path-fit, way}
+use Rattle.rules.proofs.Chain.{Path, ends, topOf, boundaryOf, path-short, path-fit, path-counts, way}
 use Rattle.rules.proofs.Edges.{edges-boundary}
 use Rattle.rules.proofs.FaceSplit.{Room}
 use Rattle.rules.proofs.Manifold.{Manifold, BasesMeetIn}
@@ -14,7 +15,7 @@ use Rattle.rules.proofs.Relaxed.{sound-manifold, sound-bases, manifold-
 use Rattle.rules.proofs.Runs.{Splittable, isEven}
 use Rattle.rules.proofs.Settled.{Still, nowhere}
 use Rattle.rules.specs.Calls.{splitsOf}
-use Rattle.rules.specs.Conditions.{RoomFor}
+use Rattle.rules.specs.Conditions.{RoomFor, OddInChain}
 use Rattle.rules.specs.History.{edges}
 use Rattle.rules.specs.Sound.{Sound}
 use Rattle.rules.specs.Split.{Work, atFirst, chainEnd, chainOdd, refine}
@@ -30,6 +31,9 @@ pub record Refined (t s q : ℕ) (m : Mesh) (w : Work) : Type 0 where
   pub rises : generation (m .topology) t < generation (reached w) t
   pub oddByOne : generation (m .topology) t % 2 ≡ 1 → generation (reached w) t ≡ suc (generation (m .topology) t)
   pub still : Still (m .topology) (reached w)
+  pub cornerRoom : length (reached w .corners) ≡ length (m .topology .corners)
+  pub linkRoom : length (reached w .links) ≡ length (m .topology .links)
+  pub generationRoom : length (reached w .generations) ≡ length (m .topology .generations)
   pub past : Past (reached w .triangles) (m .topology) (reached w)
   pub places : Places m (w .mesh)
 
@@ -74,6 +78,9 @@ module _ (t : ℕ) (m : Mesh) (S : Sound m) (b : t < m .topology .triangles) (yo
           rises = X .rises;
           oddByOne = X .oddByOne;
           still = X .still;
+          cornerRoom = X .cornerRoom;
+          linkRoom = X .linkRoom;
+          generationRoom = X .generationRoom;
           past = X .past (reached w .triangles) (omega arith);
           places = X .places;
         }
@@ -114,8 +121,15 @@ module _ (t : ℕ) (m : Mesh) (S : Sound m) (b : t < m .topology .triangles) (yo
         subst (λ (q : ℕ). Refined t (splitsOf (m .topology) t) q m (refine t (atFirst m))) z
         (refine-path (chainOdd (m .topology) t) (chainEnd (m .topology) t) p x R (omega (arith, R .vertices)))
 
-    -- The chain's odd triangles are at most half of the generations up to t's.
-    pub chain-bound : generation (m .topology) (chainEnd (m .topology) t) % 2 ≡ 0
-        → 2 * chainOdd (m .topology) t ≤ generation (m .topology) t + 1
-    unfolding F K
-    chain-bound e = path-short F K b (way (generation (m .topology) t) (m .topology) F K t b (omega arith) e)
+      -- The chain counts its odd triangles, which are at most half of the generations up to t's.
+    module _ (e : generation (m .topology) (chainEnd (m .topology) t) % 2 ≡ 0) where
+      chain-path : Path (m .topology) t (chainEnd (m .topology) t) (chainOdd (m .topology) t)
+      unfolding F K
+      chain-path = way (generation (m .topology) t) (m .topology) F K t b (omega arith) e
+
+      pub chain-counts : OddInChain (m .topology) t (chainOdd (m .topology) t)
+      chain-counts = path-counts chain-path
+
+      pub chain-bound : 2 * chainOdd (m .topology) t ≤ generation (m .topology) t + 1
+      unfolding F K
+      chain-bound = path-short F K b chain-path

@@ -6,10 +6,11 @@ use native.Mathlib.Omega.{arith}
 use lib.ListN.{length}
 use lib.Dec.{eqb}
 use Rattle.rules.proofs.Fans.{sideAt}
-use Rattle.rules.proofs.RingTheory.{RingIs, ring-is}
+use Rattle.rules.proofs.RingTheory.{ring-makes}
 use Rattle.rules.proofs.Sides.{next-lt, previous-lt}
 use Rattle.rules.proofs.StepPositions.{Each}
 use Rattle.rules.specs.Numbers.{InRange}
+use Rattle.rules.specs.Promises.{RingMakes}
 use Rattle.rules.specs.Ring.{fan, neighbours, ring}
 use Rattle.rules.specs.Sound.{Sound}
 use Rattle.rules.specs.Tables.{Topology, Mesh, sides, next, previous, origin, boundary, rotate, coordinate}
@@ -39,16 +40,16 @@ neighbours-some m (h ∷ []) a = omega arith
 neighbours-some m (h ∷ k ∷ l) a = omega arith
 
 module _ {m : Mesh} (S : Sound m) (v : ℕ) (b : v < m .topology .vertices) where
-  R : RingIs (m .topology) v
-  R = ring-is S v b
+  R : RingMakes (m .topology) v
+  R = ring-makes S v b
 
   pub ring-coordinates : (k : ℕ) → k < 3 → Each (λ u. InRange (coordinate m u k)) (ring (m .topology) v)
   unfolding ring
   ring-coordinates k i =
       neighbours-each (m .topology) (λ u. InRange (coordinate m u k))
       (λ h l. S .range (3 * origin (m .topology) h + k) (omega (arith, S .corner h l)))
-      (fan (m .topology) v) (each-at (λ h. h < sides (m .topology)) (fan (m .topology) v) (R .walk .inUse))
+      (fan (m .topology) v) (each-at (λ h. h < sides (m .topology)) (fan (m .topology) v) (R .inUse))
 
   pub ring-some : 1 ≤ length (ring (m .topology) v)
   unfolding ring
-  ring-some = neighbours-some (m .topology) (fan (m .topology) v) (R .walk .some)
+  ring-some = neighbours-some (m .topology) (fan (m .topology) v) (R .some)

@@ -3,9 +3,10 @@ use mathlib.Core.Path.{_≡_, refl, sym, ap, _∙_, subst}
 use mathlib.Core.Logic.{_≢_, _⊎_, inl, inr}
 use mathlib.Core.Bool.{Bool, true, false}
 use mathlib.Core.List.{List}
-use Prim.Native.Nat.{ℕ, _+_, _*_, _/_, _%_, _≤_, _<_}
+use Prim.Native.Nat.{ℕ, zero, suc, _+_, _*_, _/_, _%_, _≤_, _<_}
 use native.Mathlib.Omega.{arith}
 use native.Mathlib.Decide.{ℕ-discrete}
+use native.Mathlib.Nat.{add-zero}
 use lib.ListN.{length, getD, set, length-set}
 use lib.Seq.{getD-set-same, getD-set-other}
 use lib.Dec.{T, eqb, eqb-refl, eqb→eq}
@@ -161,6 +162,14 @@ pub row-each : {A : Type 0} (P : A → Type 0) (l : List A) (d : A) (t : ℕ) (a
     → (i : ℕ) → i / 3 ≡ t → P (getD l i d)
 row-each P l d t a b c r x y z i e = by-triangle (λ j. j / 3 ≡ t → P (getD l j d)) t
     (λ _. rw (r .0) x) (λ _. rw (r .1) y) (λ _. rw (r .2) z) (λ h n q. absurd (n q)) i e
+
+-- The three entries of triangle t, by their place.
+pub put-at : {A : Type 0} (l : List A) (t : ℕ) (f : ℕ → A) (d : A) → 3 * t + 3 ≤ length l → (k : ℕ) → k < 3
+    → getD (putThree t (f 0, f 1, f 2) l) (3 * t + k) d ≡ f k
+put-at l t f d r zero i = rw add-zero (put-row l t (f 0) (f 1) (f 2) d r .0)
+put-at l t f d r (suc zero) i = put-row l t (f 0) (f 1) (f 2) d r .1
+put-at l t f d r (suc (suc zero)) i = put-row l t (f 0) (f 1) (f 2) d r .2
+put-at l t f d r (suc (suc (suc k))) i = absurd (omega arith)
 
 -- A row that a write to another triangle leaves.
 pub row-else : {A : Type 0} (l : List A) (t : ℕ) (a b c d : A) (u : ℕ) (x y z : A) → u ≢ t → Row l d u x y z

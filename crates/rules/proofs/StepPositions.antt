@@ -1,16 +1,16 @@
 -- The positions of the whole step: all old vertices moved at once, and in range.
-use mathlib.Core.Path.{_≡_, refl, sym, _∙_, subst}
+use mathlib.Core.Path.{_≡_, refl, _∙_}
 use mathlib.Core.List.{List, [], _∷_}
-use Prim.Native.Nat.{ℕ, zero, suc, _*_, _/_, _≤_, _<_}
+use Prim.Native.Nat.{ℕ, zero, suc, _+_, _*_, _/_, _≤_, _<_}
 use native.Mathlib.Omega.{arith}
 use native.Mathlib.Decide.{ℕ-discrete}
-use lib.ListN.{length, getD, drop}
+use lib.ListN.{length, getD, drop, length-set}
 use lib.IntN.{ℤ, pos, negℤ, _+ℤ_}
 use lib.Signed.{_≤ℤ_}
 use Rattle.rules.proofs.Differences.{its, nat, add, neg, at-most, at-most-gives}
 use Rattle.rules.proofs.Past.{drop-put}
 use Rattle.rules.proofs.Rounding.{moved-in-range}
-use Rattle.rules.proofs.Sides.{length-put, put-else, put-row, row-each}
+use Rattle.rules.proofs.Sides.{length-put, put-else, put-at}
 use Rattle.rules.specs.Numbers.{InRange, maxCoordinate}
 use Rattle.rules.specs.Ring.{ring}
 use Rattle.rules.specs.Step.{sumOver, movedCoordinate, moveVertices}
@@ -33,28 +33,25 @@ unfolding moveVertices
 move-past zero m l b k = refl
 move-past (suc v) m l b k = move-past v m _ b (omega arith) ∙ drop-put l v b _ k
 
--- What holds of every moved coordinate holds of every entry of the first n vertices.
-pub move-each : (P : ℤ → Type 0) (m : Mesh) (n : ℕ) (l : List ℤ) → 3 * n ≤ length l
-    → ((v : ℕ) → v < n → P (movedCoordinate m v 0) × P (movedCoordinate m v 1) × P (movedCoordinate m v 2))
-    → (i : ℕ) → i / 3 < n → P (getD (moveVertices n m l) i (pos 0))
-unfolding moveVertices
-move-each P m zero l r f i k = absurd (omega arith)
-move-each P m (suc v) l r f i k =
-    let x = movedCoordinate m v 0 in
-    let y = movedCoordinate m v 1 in
-    let z = movedCoordinate m v 2 in
-    let q : List ℤ = putThree v (x, y, z) l in
-    here-or-before (moveVertices v m q) q (ℕ-discrete (i / 3) v)
-    (move-each P m v q (omega (arith, length-put l v x y z (pos 0))) (λ u j. f u (omega arith)) i)
-    (move-else v m q i)
-    (row-each P q (pos 0) v x y z (put-row l v x y z (pos 0) (omega arith)) (f v (omega arith) .0)
-    (f v (omega arith) .1) (f v (omega arith) .2) i)
-  where
-    here-or-before : (moved put : List ℤ) → Dec (i / 3 ≡ v) → (i / 3 < v → P (getD moved i (pos 0)))
-        → (v ≤ i / 3 → getD moved i (pos 0) ≡ getD put i (pos 0)) → (i / 3 ≡ v → P (getD put i (pos 0)))
-        → P (getD moved i (pos 0))
-    here-or-before moved put (yes e) a b c = subst P (sym (b (omega arith))) (c e)
-    here-or-before moved put (no e) a b c = a (omega arith)
+-- The first n vertices stand where they move to.
+module _ (m : Mesh) (v k : ℕ) (three : k < 3) where
+  pub move-at : (n : ℕ) (l : List ℤ) → 3 * n ≤ length l → v < n
+      → getD (moveVertices n m l) (3 * v + k) (pos 0) ≡ movedCoordinate m v k
+  unfolding moveVertices
+  move-at zero l r i = absurd (omega arith)
+  move-at (suc n) l r i = go (ℕ-discrete v n) (move-at n put fits)
+    where
+      put : List ℤ
+      put = putThree n (movedCoordinate m n 0, movedCoordinate m n 1, movedCoordinate m n 2) l
+
+      fits : 3 * n ≤ length put
+      fits = simp length-set (omega arith)
+
+      go : Dec (v ≡ n) → (v < n → getD (moveVertices n m put) (3 * v + k) (pos 0) ≡ movedCoordinate m v k)
+          → getD (moveVertices n m put) (3 * v + k) (pos 0) ≡ movedCoordinate m v k
+      go (yes e) ih =
+          move-else n m put (3 * v + k) (omega arith) ∙ rw e (put-at l n (movedCoordinate m n) (pos 0) (omega arith) k three)
+      go (no e) ih = ih (omega arith)
 
 -- ---- sums over a ring
 

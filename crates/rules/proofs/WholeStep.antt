@@ -4,39 +4,27 @@ use mathlib.Core.Logic.{_≢_}
 use Prim.Native.Nat.{ℕ, suc, _+_, _*_, _/_, _%_, _≤_, _<_}
 use native.Mathlib.Omega.{arith}
 use native.Mathlib.Decide.{decLt}
-use lib.ListN.{length, getD, drop}
+use lib.ListN.{length, getD}
 use lib.IntN.{pos}
 use Rattle.rules.proofs.Bases.{reached}
 use Rattle.rules.proofs.Edges.{edges-boundary, boundary-none}
 use Rattle.rules.proofs.FaceSplit.{Room}
 use Rattle.rules.proofs.Manifold.{Manifold}
 use Rattle.rules.proofs.Odds.{odds}
-use Rattle.rules.proofs.Past.{Past}
 use Rattle.rules.proofs.Refine.{sound-room}
 use Rattle.rules.proofs.Relaxed.{sound-manifold, sound-bases, manifold-sound, agree-on}
 use Rattle.rules.proofs.RingVertices.{ring-coordinates, ring-some}
-use Rattle.rules.proofs.StepPositions.{length-move, move-else, move-past, move-each, moved-coordinate-in-range}
+use Rattle.rules.proofs.StepPositions.{length-move, move-else, move-past, move-at, moved-coordinate-in-range}
 use Rattle.rules.proofs.StepTopology.{Midway, refine-first, two-up}
 use Rattle.rules.proofs.Sums.{total-zero}
 use Rattle.rules.specs.Conditions.{RoomFor, ClosedEven}
 use Rattle.rules.specs.History.{edges}
 use Rattle.rules.specs.Numbers.{InRange}
+use Rattle.rules.specs.Promises.{StepMakes}
 use Rattle.rules.specs.Sound.{Sound}
 use Rattle.rules.specs.Split.{Work, atFirst}
 use Rattle.rules.specs.Step.{movedCoordinate, moveVertices, refineFirst, wholeStep}
 use Rattle.rules.specs.Tables.{Topology, Mesh, TablesAgree, generation}
-
-pub record Stepped (g : ℕ) (m : Mesh) (w : Work) : Type 0 where
-  pub sound : Sound (w .mesh)
-  pub splits : w .splits ≡ m .topology .triangles
-  pub flips : 2 * w .flips ≡ 3 * m .topology .triangles
-  pub vertices : reached w .vertices ≡ m .topology .vertices + m .topology .triangles
-  pub triangles : reached w .triangles ≡ 3 * m .topology .triangles
-  pub edges : edges (reached w) ≡ edges (m .topology) + 3 * m .topology .triangles
-  pub generations : (t : ℕ) → t < reached w .triangles → generation (reached w) t ≡ g + 2
-  pub past : Past (reached w .triangles) (m .topology) (reached w)
-  pub positionsPast : drop (3 * reached w .vertices) (w .mesh .positions) ≡ drop (3 * reached w .vertices)
-      (m .positions)
 
 none-odd : (m : Topology) → ((t : ℕ) → t < m .triangles → generation m t % 2 ≡ 0) → odds m ≡ 0
 unfolding odds
@@ -60,13 +48,16 @@ module _ (m : Mesh) (S : Sound m) (C : ClosedEven (m .topology)) (young : C .com
   unfolding f
   room = sound-room (m .topology .triangles) (S .tables) R
 
+  slots : 3 * (m .topology .vertices + m .topology .triangles) ≤ length (m .positions)
+  slots = omega (arith, S .tables .positions, R .vertices)
+
   M : Midway g f (atFirst m) w
   unfolding g f w F room
-  M = refine-first g (C .even) (atFirst m) F (sound-bases S) (C .all) room f (omega arith)
+  M = refine-first g (C .even) (atFirst m) F (sound-bases S) (C .all) room slots f (omega arith)
 
   up : (t : ℕ) → t < reached w .triangles → generation (reached w) t ≡ suc (suc g)
   unfolding g f w F room
-  up = two-up g (C .even) (atFirst m) F (sound-bases S) (C .all) room (boundary-none (m .topology) (C .closed))
+  up = two-up g (C .even) (atFirst m) F (sound-bases S) (C .all) room slots (boundary-none (m .topology) (C .closed))
 
   -- 20 is the only even generation above 18.
   low : g ≤ 18
@@ -77,57 +68,72 @@ module _ (m : Mesh) (S : Sound m) (C : ClosedEven (m .topology)) (young : C .com
       let c = C .even in
       omega arith
 
-  moved-range : (v : ℕ) → v < m .topology .vertices
-      → InRange (movedCoordinate m v 0) × InRange (movedCoordinate m v 1) × InRange (movedCoordinate m v 2)
-  moved-range v l = (at 0 (omega arith), at 1 (omega arith), at 2 (omega arith))
-    where
-      at : (k : ℕ) → k < 3 → InRange (movedCoordinate m v k)
-      at k i =
-          moved-coordinate-in-range m v k (S .range (3 * v + k) (omega arith)) (ring-coordinates S v l k i)
-          (ring-some S v l)
+  moved-range : (v k : ℕ) → v < m .topology .vertices → k < 3 → InRange (movedCoordinate m v k)
+  moved-range v k l i =
+      moved-coordinate-in-range m v k (S .range (3 * v + k) (omega arith)) (ring-coordinates S v l k i) (ring-some S v l)
+
+  fits : 3 * m .topology .vertices ≤ length (w .mesh .positions)
+  unfolding w g f
+  fits = let p = M .places .size in omega (arith, S .tables .positions, S .vertexRoom)
+
+  moved-to : (v k : ℕ) → v < m .topology .vertices → k < 3
+      → getD (moveVertices (m .topology .vertices) m (w .mesh .positions)) (3 * v + k) (pos 0) ≡ movedCoordinate m v k
+  moved-to v k l i = move-at m v k i (m .topology .vertices) (w .mesh .positions) fits l
 
   range : (i : ℕ) → i < 3 * reached w .vertices
       → InRange (getD (moveVertices (m .topology .vertices) m (w .mesh .positions)) i (pos 0))
   unfolding w g f
   range i l = go (decLt (i / 3) (m .topology .vertices))
     where
-      fits : 3 * reached w .vertices ≤ length (w .mesh .positions)
-      fits = let p = M .places .size in omega (arith, M .vertices, S .tables .positions, R .vertices)
-
       go : Dec (i / 3 < m .topology .vertices)
           → InRange (getD (moveVertices (m .topology .vertices) m (w .mesh .positions)) i (pos 0))
       go (yes q) =
-          move-each InRange m (m .topology .vertices) (w .mesh .positions)
-          (let a = fits in let b = M .vertices in omega arith) moved-range i q
+          let e : 3 * (i / 3) + i % 3 ≡ i = omega arith in
+          subst (λ (j : ℕ). InRange (getD (moveVertices (m .topology .vertices) m (w .mesh .positions)) j (pos 0))) e
+          (subst InRange (sym (moved-to (i / 3) (i % 3) q (omega arith))) (moved-range (i / 3) (i % 3) q (omega arith)))
       go (no q) =
           subst InRange (sym (move-else (m .topology .vertices) m (w .mesh .positions) i (omega arith)))
-          (M .places .range fits (S .range) i l)
+          (M .places .range (let p = M .places .size in let v = M .vertices in let s = slots in omega arith) (S .range) i l)
 
-  pub whole-stepped : Stepped (C .common) m (wholeStep m)
+  pub step-makes : StepMakes (C .common) m (wholeStep m)
   unfolding wholeStep w g f
-  whole-stepped =
+  step-makes =
       let t = M .triangles in
+      let v = M .vertices in
       let size : length (moveVertices (m .topology .vertices) m (w .mesh .positions)) ≡ length (m .positions) =
       length-move (m .topology .vertices) m (w .mesh .positions) ∙ M .places .size in
       let A : TablesAgree (wholeStep m .mesh) = agree-on (S .tables) size (M .corners) (M .links) (M .generations) in
       let o : odds (reached w) ≡ 0 = none-odd (reached w) (λ x l. two-even (up x l) (C .even)) in
       let o′ : odds (m .topology) ≡ 0 = none-odd (m .topology) (λ x l. rw (C .all x l) (C .even)) in
+      let past = M .past (reached w .triangles) (omega arith) in
       record {
         sound =
-            manifold-sound (wholeStep m .mesh) A (M .manifold) (M .basesMeet)
-            (omega (arith, M .vertices, S .someVertex)) (omega (arith, S .someTriangle))
-            (omega (arith, M .vertices, R .vertices)) (λ x l. let u = up x l in let y = low in omega arith) range;
+            manifold-sound (wholeStep m .mesh) A (M .manifold) (M .basesMeet) (omega (arith, S .someVertex))
+            (omega (arith, S .someTriangle)) (omega (arith, R .vertices))
+            (λ x l. let u = up x l in let y = low in omega arith) range;
         splits = omega (arith, M .splits);
         flips = omega (arith, M .odd);
-        vertices = M .vertices;
+        vertices = v;
         triangles = omega arith;
         edges =
             omega (arith, M .boundaryCount, edges-boundary (m .topology) F, edges-boundary (reached w) (M .manifold));
         generations = λ x l. let u = up x l in omega arith;
-        past = M .past (reached w .triangles) (omega arith);
-        positionsPast =
-            move-past (m .topology .vertices) m (w .mesh .positions) (reached w .vertices) (omega (arith, M .vertices))
-            ∙ M .places .past (reached w .vertices) (omega arith);
+        moved = moved-to;
+        placed = λ x k l i.
+            move-else (m .topology .vertices) m (w .mesh .positions) (3 * (m .topology .vertices + x) + k) (omega arith)
+            ∙ M .centres x k l i;
+        past = record {
+          cornerSlots = M .corners;
+          linkSlots = M .links;
+          generationSlots = M .generations;
+          positionSlots = size;
+          corners = past .corners;
+          links = past .links;
+          generations = past .generations;
+          positions =
+              move-past (m .topology .vertices) m (w .mesh .positions) (reached w .vertices) (omega arith)
+              ∙ M .places .past (reached w .vertices) (omega arith);
+        };
       }
     where
       two-even : {x g : ℕ} → x ≡ suc (suc g) → g % 2 ≡ 0 → x % 2 ≡ 0

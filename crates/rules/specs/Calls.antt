@@ -137,14 +137,17 @@ refineCall t m = unless (refineRefusal t m) m [] (worked (refine t (atFirst m)))
 unfoldable pub wholeStepCall : Mesh → Outcome
 wholeStepCall m = unless (wholeStepRefusal m) m [] (worked (wholeStep m))
 
--- The ring goes into the first entries of the buffer. (Rings and positions)
-unfoldable pub ringCall : ℕ → List ℕ → Mesh → Outcome
-ringCall v buffer m =
+-- The ring goes into the first entries of the buffer, and later ones keep their content. (Rings and positions)
+abbrev pub ringRead : ℕ → List ℕ → Mesh → Outcome
+ringRead v buffer m =
     let r = ring (m .topology) v in
-    let written = fill (length r) (λ i. getD r i 0) buffer in
-    unless (ringRefusal v buffer m) m buffer (outcomeOf 0 0 0 (length r) zeroPoint m written)
+    outcomeOf 0 0 0 (length r) zeroPoint m (fill (length r) (λ i. getD r i 0) buffer)
+
+unfoldable pub ringCall : ℕ → List ℕ → Mesh → Outcome
+ringCall v buffer m = unless (ringRefusal v buffer m) m buffer (ringRead v buffer m)
+
+abbrev pub positionRead : ℕ → Mesh → Outcome
+positionRead v m = outcomeOf 0 0 0 0 (coordinate m v 0, coordinate m v 1, coordinate m v 2) m []
 
 unfoldable pub positionCall : ℕ → Mesh → Outcome
-positionCall v m =
-    let p : ℤ × ℤ × ℤ = (coordinate m v 0, coordinate m v 1, coordinate m v 2) in
-    unless (positionRefusal v m) m [] (outcomeOf 0 0 0 0 p m [])
+positionCall v m = unless (positionRefusal v m) m [] (positionRead v m)

@@ -1,5 +1,5 @@
 -- The conditions of the refusals as statements; the tests that the calls compute are proved to decide them. (Refused inputs)
-use Prim.Native.Nat.{ℕ, _+_, _*_, _/_, _%_, _≤_, _<_}
+use Prim.Native.Nat.{ℕ, suc, _+_, _*_, _/_, _%_, _≤_, _<_}
 use mathlib.Core.List.{List, [], _∷_}
 use mathlib.Core.Logic.{_≢_}
 use mathlib.Core.Path.{_≡_}
@@ -46,6 +46,13 @@ FansFit c m = (v : ℕ) → v < c .vertices → OneFan (loaded c m .topology) v
 pub data EndsAtBoundary (m : Topology) : ℕ → Type 0 where
   stops : {t : ℕ} → generation m t % 2 ≡ 1 → link m (3 * t) ≡ boundary → EndsAtBoundary m t
   goesOn : {t : ℕ} → generation m t % 2 ≡ 1 → link m (3 * t) ≢ boundary → EndsAtBoundary m (link m (3 * t) / 3) → EndsAtBoundary m t
+
+-- The base chain of t has k odd triangles.
+pub data OddInChain (m : Topology) : ℕ → ℕ → Type 0 where
+  atEven : {t : ℕ} → generation m t % 2 ≡ 0 → OddInChain m t 0
+  atBoundary : {t : ℕ} → generation m t % 2 ≡ 1 → link m (3 * t) ≡ boundary → OddInChain m t 1
+  onward : {t k : ℕ} → generation m t % 2 ≡ 1 → link m (3 * t) ≢ boundary → OddInChain m (link m (3 * t) / 3) k
+      → OddInChain m t (suc k)
 
 -- Not 11: there are slots for s face splits.
 pub record RoomFor (s : ℕ) (m : Mesh) : Type 0 where

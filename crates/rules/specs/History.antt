@@ -9,7 +9,7 @@ use lib.IntN.{ℤ, pos, _+ℤ_, _-ℤ_}
 use Rattle.rules.specs.Below.{any, count, total}
 use Rattle.rules.specs.Cage.{Cage, cageOf, opposite}
 use Rattle.rules.specs.Calls.{Outcome, loadCall, refineCall, wholeStepCall, ringCall, positionCall}
-use Rattle.rules.specs.Split.{chainOdd}
+use Rattle.rules.specs.Conditions.{OddInChain}
 use Rattle.rules.specs.Tables.{Topology, Mesh, sides, link, boundary, generation, next}
 
 -- A call with its arguments: a cage's bytes, a triangle, none, a vertex and a ring buffer, a vertex.
@@ -91,8 +91,8 @@ pub record Near (g h : ℕ) : Type 0 where
   pub even : (g % 2 ≡ 0) ⊎ (h % 2 ≡ 0) → (h ≤ g + 1) × (g ≤ h + 1)
 
 -- What a refine of t that is carried out on m makes and reports.
-pub record Refines (m : Mesh) (t : ℕ) (o : Outcome) : Type 0 where
-  pub odd : generation (m .topology) t % 2 ≡ 1 → o .splits ≡ chainOdd (m .topology) t
+pub record ReportsSplits (m : Mesh) (t : ℕ) (o : Outcome) : Type 0 where
+  pub odd : generation (m .topology) t % 2 ≡ 1 → OddInChain (m .topology) t (o .splits)
   pub bound : generation (m .topology) t % 2 ≡ 1 → o .splits ≤ (generation (m .topology) t + 1) / 2
   pub even : generation (m .topology) t % 2 ≡ 0 → o .splits ≡ 1
   pub made : o .mesh .topology .triangles ≡ m .topology .triangles + 2 * o .splits
@@ -105,7 +105,7 @@ pub record Kept (bytes : List ℕ) (m : Mesh) : Type 0 where
   pub euler : characteristic (m .topology) ≡ cageCharacteristic (cageOf bytes)
   pub near : (h : ℕ) → h < sides (m .topology) → link (m .topology) h ≢ boundary
       → Near (generation (m .topology) (h / 3)) (generation (m .topology) (link (m .topology) h / 3))
-  pub refines : (t : ℕ) → refineCall t m .refusal ≡ 0 → Refines m t (refineCall t m)
+  pub refines : (t : ℕ) → refineCall t m .refusal ≡ 0 → ReportsSplits m t (refineCall t m)
 
 -- The customer's third demand: every list of calls, begun on any tables and counts.
 abbrev pub EveryHistory : Type 0

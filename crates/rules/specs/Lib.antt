@@ -10,3 +10,4 @@ pub mod Cage
 pub mod Calls
 pub mod Conditions
 pub mod History
+pub mod Promises

@@ -1,0 +1,163 @@
+-- What holds of each call that is carried out, as statements; proofs/Results proves every one of them.
+use Prim.Native.Nat.{ℕ, zero, suc, _+_, _*_, _/_, _%_, _≤_, _<_}
+use mathlib.Core.Bool.{true, false}
+use mathlib.Core.List.{List}
+use mathlib.Core.Logic.{_≢_, _⊎_, _↔_}
+use mathlib.Core.Path.{_≡_}
+use lib.Dec.{eqb}
+use lib.IntN.{ℤ, pos, _+ℤ_, _*ℤ_}
+use lib.ListN.{length, getD, drop}
+use lib.Signed.{_≤ℤ_, _<ℤ_}
+use Rattle.rules.specs.Below.{count}
+use Rattle.rules.specs.Calls.{worked}
+use Rattle.rules.specs.Cage.{Cage}
+use Rattle.rules.specs.History.{ReportsSplits, edges, cageEdges}
+use Rattle.rules.specs.Ring.{firstSide, fan, ring}
+use Rattle.rules.specs.Sound.{Sound}
+use Rattle.rules.specs.Split.{Work, centre, faceSplit}
+use Rattle.rules.specs.Step.{movedCoordinate}
+use Rattle.rules.specs.Tables.{Topology, Mesh, sides, next, previous, origin, target, boundary, link, rotate, generation, odd, coordinate}
+
+-- ---- numbers (Whole step)
+
+-- q is n / d to the nearest, half going up: 2 d q ≤ 2 n + d < 2 d q + 2 d.
+pub record Nearest (n : ℤ) (d : ℕ) (q : ℤ) : Type 0 where
+  pub low : (pos (2 * d) *ℤ q) ≤ℤ (pos 2 *ℤ n +ℤ pos d)
+  pub high : (pos 2 *ℤ n +ℤ pos d) <ℤ (pos (2 * d) *ℤ q +ℤ pos (2 * d))
+
+-- ---- slots (The cage and the lent tables)
+
+-- The tables of n are as long as those of m, and past the counts of n they have the same entries.
+pub record SamePast (m n : Mesh) : Type 0 where
+  pub cornerSlots : length (n .topology .corners) ≡ length (m .topology .corners)
+  pub linkSlots : length (n .topology .links) ≡ length (m .topology .links)
+  pub generationSlots : length (n .topology .generations) ≡ length (m .topology .generations)
+  pub positionSlots : length (n .positions) ≡ length (m .positions)
+  pub corners : drop (sides (n .topology)) (n .topology .corners) ≡ drop (sides (n .topology)) (m .topology .corners)
+  pub links : drop (sides (n .topology)) (n .topology .links) ≡ drop (sides (n .topology)) (m .topology .links)
+  pub generations :
+      drop (n .topology .triangles) (n .topology .generations) ≡ drop (n .topology .triangles) (m .topology .generations)
+  pub positions : drop (3 * n .topology .vertices) (n .positions) ≡ drop (3 * n .topology .vertices) (m .positions)
+
+-- ---- load (Load)
+
+-- Side k of the cage runs between the vertices of side h the other way.
+pub record Opposite (c : Cage) (h k : ℕ) : Type 0 where
+  pub inUse : k < 3 * c .triangles
+  pub from : c .corner k ≡ c .corner (next h)
+  pub onto : c .corner (next k) ≡ c .corner h
+
+-- What side h has to be linked to: the one opposite side, or the boundary where there is none.
+pub data Matches (c : Cage) (h : ℕ) : ℕ → Type 0 where
+  only : {k : ℕ} → Opposite c h k → ((j : ℕ) → Opposite c h j → j ≡ k) → Matches c h k
+  alone : ((j : ℕ) → ¬ Opposite c h j) → Matches c h boundary
+
+-- n is the mesh that a cage is loaded as, over m.
+pub record Loaded (c : Cage) (m n : Mesh) : Type 0 where
+  pub sound : Sound n
+  pub vertices : n .topology .vertices ≡ c .vertices
+  pub triangles : n .topology .triangles ≡ c .triangles
+  pub corners : (h : ℕ) → h < sides (n .topology) → origin (n .topology) h ≡ c .corner h
+  pub positions : (i : ℕ) → i < 3 * n .topology .vertices → getD (n .positions) i (pos 0) ≡ c .coordinate i
+  pub generations : (t : ℕ) → t < n .topology .triangles → generation (n .topology) t ≡ 0
+  pub links : (h : ℕ) → h < sides (n .topology) → Matches c h (link (n .topology) h)
+  pub edges : edges (n .topology) ≡ cageEdges c
+  pub past : SamePast m n
+
+-- ---- refine (Refine one triangle)
+
+-- Along the base chain the generation falls by two, and by one where it ends at an even triangle.
+pub record ChainFalls (m : Topology) (t : ℕ) : Type 0 where
+  pub inUse : link m (3 * t) / 3 < m .triangles
+  pub toOdd : generation m (link m (3 * t) / 3) % 2 ≡ 1 → generation m (link m (3 * t) / 3) + 2 ≡ generation m t
+  pub toEven : generation m (link m (3 * t) / 3) % 2 ≡ 0 → generation m (link m (3 * t) / 3) + 1 ≡ generation m t
+
+-- What a refine of triangle t makes of a mesh; `reports` says how many splits, and that F grows by twice as many.
+pub record RefineMakes (t : ℕ) (m : Mesh) (w : Work) : Type 0 where
+  pub sound : Sound (w .mesh)
+  pub reports : ReportsSplits m t (worked w)
+  pub vertices : w .mesh .topology .vertices ≡ m .topology .vertices + w .splits
+  pub edges : edges (w .mesh .topology) ≡ edges (m .topology) + 3 * w .splits
+  pub rises : generation (m .topology) t < generation (w .mesh .topology) t
+  pub oddByOne : generation (m .topology) t % 2 ≡ 1
+      → generation (w .mesh .topology) t ≡ suc (generation (m .topology) t)
+  -- A triangle whose generation has not risen has its corners, and so have the old vertices their places.
+  pub leaves : (h : ℕ) → h < sides (m .topology)
+      → generation (w .mesh .topology) (h / 3) ≡ generation (m .topology) (h / 3)
+      → origin (w .mesh .topology) h ≡ origin (m .topology) h
+  pub oldVertices : (i : ℕ) → i < 3 * m .topology .vertices
+      → getD (w .mesh .positions) i (pos 0) ≡ getD (m .positions) i (pos 0)
+  pub past : SamePast m (w .mesh)
+
+-- The triangle across the base of t (document 000: mate[1]).
+abbrev pub mate : ℕ → Work → ℕ
+mate t w = link (w .mesh .topology) (3 * t) / 3
+
+-- The procedure split(T) of document 000, section 4, to a depth of at most n, with the face split and its flips as the
+-- outline fixes them. An even triangle is split. For an odd one its mate is split, which flips the two; a mate two
+-- generations below is first raised by the same procedure, and the mate read again.
+unfoldable pub kobbelt : ℕ → ℕ → Work → Work
+kobbelt zero t w = w
+kobbelt (suc n) t w = elim (odd (generation (w .mesh .topology) t)) [
+  | false ↦ faceSplit t w
+  | true ↦
+      let far = eqb (generation (w .mesh .topology) (mate t w) + 2) (generation (w .mesh .topology) t) in
+      let w′ : Work = elim far [ true ↦ kobbelt n (mate t w) w | false ↦ w ] in
+      kobbelt n (mate t w′) w′
+]
+
+-- ---- whole step (Whole step)
+
+-- What the whole step makes of a mesh whose triangles are all of generation g.
+pub record StepMakes (g : ℕ) (m : Mesh) (w : Work) : Type 0 where
+  pub sound : Sound (w .mesh)
+  pub splits : w .splits ≡ m .topology .triangles
+  pub flips : 2 * w .flips ≡ 3 * m .topology .triangles
+  pub vertices : w .mesh .topology .vertices ≡ m .topology .vertices + m .topology .triangles
+  pub triangles : w .mesh .topology .triangles ≡ 3 * m .topology .triangles
+  pub edges : edges (w .mesh .topology) ≡ edges (m .topology) + 3 * m .topology .triangles
+  pub generations : (t : ℕ) → t < w .mesh .topology .triangles → generation (w .mesh .topology) t ≡ g + 2
+  -- Old vertices are moved, and new ones placed, by the old mesh.
+  pub moved : (v k : ℕ) → v < m .topology .vertices → k < 3 → coordinate (w .mesh) v k ≡ movedCoordinate m v k
+  pub placed : (t k : ℕ) → t < m .topology .triangles → k < 3
+      → coordinate (w .mesh) (m .topology .vertices + t) k ≡ centre m t k
+  pub past : SamePast m (w .mesh)
+
+-- ---- rings (Rings and positions)
+
+-- A side out of v is on the boundary.
+abbrev pub OnBoundary : Topology → ℕ → Type 0
+OnBoundary m v = (h : ℕ) × (h < sides m) × (origin m h ≡ v) × (link m h ≡ boundary)
+
+-- The number of triangles that v has: each has one side out of it.
+abbrev pub triangleCount : Topology → ℕ → ℕ
+triangleCount m v = count (sides m) (λ h. eqb (origin m h) v)
+
+-- Side number i of the walk round v.
+abbrev pub walkAt : Topology → ℕ → ℕ → ℕ
+walkAt m v i = getD (fan m v) i 0
+
+-- The walk round v, and its ring.
+pub record RingMakes (m : Topology) (v : ℕ) : Type 0 where
+  pub some : 0 < length (fan m v)
+  pub first : walkAt m v 0 ≡ firstSide m v
+  pub startsOut : origin m (firstSide m v) ≡ v
+  -- At the boundary it starts there; elsewhere it starts in the lowest slot that holds v.
+  pub start : (OnBoundary m v → link m (firstSide m v) ≡ boundary)
+      × (¬ OnBoundary m v → (h : ℕ) → h < sides m → origin m h ≡ v → firstSide m v ≤ h)
+  pub inUse : (i : ℕ) → i < length (fan m v) → walkAt m v i < sides m
+  -- Each side is a turn from the one before.
+  pub turns : (i : ℕ) → suc i < length (fan m v) → walkAt m v (suc i) ≡ rotate m (walkAt m v i)
+  -- It ends back at its start or at the boundary, at the boundary exactly if v is on it, and so is never cut short.
+  pub ends : (i : ℕ) → suc i ≡ length (fan m v)
+      → (rotate m (walkAt m v i) ≡ firstSide m v) ⊎ (rotate m (walkAt m v i) ≡ boundary)
+  pub endsAtBoundary : (i : ℕ) → suc i ≡ length (fan m v) → (rotate m (walkAt m v i) ≡ boundary) ↔ OnBoundary m v
+  -- It meets each triangle of v, and none twice.
+  pub meets : (h : ℕ) → h < sides m → origin m h ≡ v → (i : ℕ) × (i < length (fan m v)) × (walkAt m v i ≡ h)
+  pub once : (i j : ℕ) → i < length (fan m v) → j < length (fan m v) → walkAt m v i / 3 ≡ walkAt m v j / 3 → i ≡ j
+  -- The ring lists the targets of its sides, and at the boundary the last triangle's other neighbour too.
+  pub entries : (i : ℕ) → i < length (fan m v) → getD (ring m v) i 0 ≡ target m (walkAt m v i)
+  pub inner : ¬ OnBoundary m v → length (ring m v) ≡ triangleCount m v
+  pub outer : OnBoundary m v → length (ring m v) ≡ triangleCount m v + 1
+  pub lastEntry : OnBoundary m v → (i : ℕ) → suc i ≡ length (fan m v)
+      → getD (ring m v) (suc i) 0 ≡ origin m (previous (walkAt m v i))
