@@ -11,9 +11,10 @@ use Rattle.rules.proofs.Bases.{boundary-not-base, partner-of}
 use Rattle.rules.proofs.Edges.{boundarySides}
 use Rattle.rules.proofs.Manifold.{Partnered, Manifold, level, Joined, Base, BasesMeetIn}
 use Rattle.rules.proofs.Past.{Past, past-on}
-use Rattle.rules.proofs.Settled.{Still, Settled, nowhere, Among, Children, Distinct, Met, settled-manifold, settled-same, settled-boundary, settled-bases, settled-past, settled-generation, settled-spread, settled-flips, settled-moved, settled-follow, Written, still-on, settled-still}
+use Rattle.rules.proofs.Settled.{Settled, nowhere, Among, Children, Distinct, Met, settled-manifold, settled-same, settled-boundary, settled-bases, settled-past, settled-generation, settled-spread, settled-flips, settled-moved, settled-follow, still-on, settled-still}
 use Rattle.rules.proofs.Settling.{Same, Follow}
 use Rattle.rules.proofs.SplitKeeps.{level-of, level₀}
+use Rattle.rules.specs.Promises.{Still, Written}
 use Rattle.rules.specs.Tables.{Topology, sides, origin, boundary, link, generation}
 
 -- Side k is the base of one of them.

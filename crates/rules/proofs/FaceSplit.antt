@@ -11,7 +11,7 @@ use Rattle.rules.proofs.Bases.{Settles, boundary-not-base, partner-of, 
 use Rattle.rules.proofs.Cut.{Cut, CutResult, Onto, cut-settled}
 use Rattle.rules.proofs.Edges.{split-boundary}
 use Rattle.rules.proofs.Manifold.{Partnered, Manifold, Base}
-use Rattle.rules.proofs.Odds.{odds, split-odds, settling-odds}
+use Rattle.rules.proofs.Odds.{split-odds, settling-odds}
 use Rattle.rules.proofs.Places.{Places, places-new}
 use Rattle.rules.proofs.Rounding.{third-in-range}
 use Rattle.rules.proofs.Settled.{Settled, done, then, Among, Children, Distinct, children-on}
@@ -19,6 +19,7 @@ use Rattle.rules.proofs.Sides.{renameTwo, rename-a, rename-b, rename-el
 use Rattle.rules.proofs.SplitKeeps.{no-self, split-manifold}
 use Rattle.rules.proofs.SplitRead.{Splits, split-splits}
 use Rattle.rules.specs.Numbers.{InRange}
+use Rattle.rules.specs.Promises.{odds}
 use Rattle.rules.specs.Split.{Work, split, flip, withSplit, withFlip, centre, splitPlaced, settle, settleAll, faceSplit}
 use Rattle.rules.specs.Tables.{Topology, Mesh, withTopology, sides, origin, boundary, link, generation, isBase, coordinate, putThree}
 

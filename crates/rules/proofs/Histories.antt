@@ -21,7 +21,7 @@ use Rattle.rules.specs.Below.{all}
 use Rattle.rules.specs.Cage.{cageOf, loaded}
 use Rattle.rules.specs.Calls.{Outcome, worked, loadRefusal, refineCall}
 use Rattle.rules.specs.Conditions.{OddInChain, atEven, atBoundary, onward}
-use Rattle.rules.specs.History.{Near, ReportsSplits, Kept, Call, loads, refines, steps, asksRing, asksPosition, Opened, nothing, cage, outcome, after, opens, lastOpened, edges, characteristic, cageCharacteristic, EveryHistory}
+use Rattle.rules.specs.History.{Near, ReportsSplits, Kept, Call, loads, refines, steps, asksRing, asksPosition, LastLoad, nothing, cage, outcome, after, opens, lastLoad, edges, characteristic, cageCharacteristic, EveryHistory}
 use Rattle.rules.specs.Promises.{StepMakes}
 use Rattle.rules.specs.Sound.{Linked, Sound, roleOf, fiveKinds}
 use Rattle.rules.specs.Split.{Work, atFirst, chainOdd, refine}
@@ -32,13 +32,13 @@ pub record Good (bytes : List ℕ) (m : Mesh) : Type 0 where
   pub sound : Sound m
   pub euler : characteristic (m .topology) ≡ cageCharacteristic (cageOf bytes)
 
-abbrev pub Holds : Opened → Mesh → Type 0
+abbrev pub Holds : LastLoad → Mesh → Type 0
 Holds nothing m = Unit {0}
 Holds (cage bytes) m = Good bytes m
 
 -- What a call has to keep; a call added later adds its case to `keeps` alone.
 pub record Keeps (c : Call) (m : Mesh) : Type 0 where
-  pub holds : (o : Opened) → Holds o m → Holds (opens c m o) (outcome c m .mesh)
+  pub holds : (o : LastLoad) → Holds o m → Holds (opens c m o) (outcome c m .mesh)
 
 -- ---- splits keep the characteristic
 
@@ -71,12 +71,12 @@ step-stays {m = m} {w = w} P =
     let c : reached w .triangles ≡ f + 2 * f = omega (arith, P .triangles) in
     record { sound = P .sound; euler = same-characteristic v e f f 0 a b c }
 
-holds-on : {m n : Mesh} (o : Opened) → Stays m n → Holds o m → Holds o n
+holds-on : {m n : Mesh} (o : LastLoad) → Stays m n → Holds o m → Holds o n
 holds-on nothing S h = tt
 holds-on (cage bytes) S h = record { sound = S .sound; euler = S .euler ∙ h .euler }
 
 -- A call that is refused leaves the mesh, and one that is carried out makes one that stays.
-judged-keeps : {n : ℕ} {m : Mesh} {buffer : List ℕ} {success o : Outcome} (a : Opened) → Judged n m buffer success o
+judged-keeps : {n : ℕ} {m : Mesh} {buffer : List ℕ} {success o : Outcome} (a : LastLoad) → Judged n m buffer success o
     → (n ≡ 0 → Holds a m → Holds a (success .mesh)) → Holds a m → Holds a (o .mesh)
 judged-keeps a (carried z) f h = f z h
 judged-keeps a (refused z) f h = h
@@ -91,7 +91,7 @@ loaded-good bytes m L = record {
       (L .differ);
 }
 
-load-holds : (bytes : List ℕ) (m : Mesh) (a : Opened) {o : Outcome}
+load-holds : (bytes : List ℕ) (m : Mesh) (a : LastLoad) {o : Outcome}
     → Judged (loadRefusal bytes m) m [] (worked (atFirst (loaded (cageOf bytes) m))) o
     → Holds a m → Holds (elim (eqb (o .refusal) 0) [ true ↦ cage bytes | false ↦ a ]) (o .mesh)
 load-holds bytes m a (carried z) h = loaded-good bytes m (load-found bytes m z)
@@ -110,8 +110,8 @@ keeps steps m = record {
 keeps (asksRing v buffer) m = record { holds = λ a. judged-keeps a (ring-judged v buffer m) (λ z h. h) }
 keeps (asksPosition v) m = record { holds = λ a. judged-keeps a (position-judged v m) (λ z h. h) }
 
-history-holds : (calls : List Call) (m : Mesh) (o : Opened) → Holds o m → Holds (lastOpened calls m o) (after calls m)
-unfolding lastOpened after
+history-holds : (calls : List Call) (m : Mesh) (o : LastLoad) → Holds o m → Holds (lastLoad calls m o) (after calls m)
+unfolding lastLoad after
 history-holds [] m o h = h
 history-holds (c ∷ cs) m o h = history-holds cs (outcome c m .mesh) (opens c m o) (keeps c m .holds o h)
 
@@ -182,4 +182,4 @@ good-kept bytes m G =
 pub every-history : EveryHistory
 every-history calls m bytes e =
     good-kept bytes (after calls m)
-    (subst (λ (o : Opened). Holds o (after calls m)) e (history-holds calls m nothing tt))
+    (subst (λ (o : LastLoad). Holds o (after calls m)) e (history-holds calls m nothing tt))

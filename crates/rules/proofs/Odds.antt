@@ -8,10 +8,8 @@ use Rattle.rules.proofs.FlipRead.{Flips}
 use Rattle.rules.proofs.SplitRead.{Splits}
 use Rattle.rules.proofs.Sums.{total-change, total-change₂, total-two}
 use Rattle.rules.specs.Below.{total}
+use Rattle.rules.specs.Promises.{odds}
 use Rattle.rules.specs.Tables.{Topology, generation}
-
-unfoldable pub odds : Topology → ℕ
-odds m = total (m .triangles) (λ t. generation m t % 2)
 
 odd-next : {t y : ℕ} → t % 2 ≡ 0 → y ≡ suc t → y % 2 ≡ 1
 odd-next e q = omega arith

@@ -39,27 +39,29 @@ load-makes bytes m z =
     let v = L .sizes .vertexRoom in
     let f = L .sizes .triangleRoom in
     let R = loaded-loads c m A v f in
-    let P = loaded-past c m in
-    (x .1, record {
-      sound = load-sound bytes m A (L .sizes) (L .corners) (L .coordinates) (L .differ) (L .fans);
-      vertices = R .vertices;
-      triangles = R .triangles;
-      corners = R .corners;
-      positions = R .positions;
-      generations = R .generations;
-      links = links-are c m A v f (L .differ);
-      edges = load-edges c m A v f (L .corners) (L .differ);
-      past = record {
-        cornerSlots = R .cornerRoom;
-        linkSlots = R .linkRoom;
-        generationSlots = R .generationRoom;
-        positionSlots = R .positionRoom;
-        corners = P .corners;
-        links = P .links;
-        generations = P .generations;
-        positions = loaded-positions-past c m;
-      };
-    })
+    let P = loaded-past c m in (
+      x .1,
+      record {
+        sound = load-sound bytes m A (L .sizes) (L .corners) (L .coordinates) (L .differ) (L .fans);
+        vertices = R .vertices;
+        triangles = R .triangles;
+        corners = R .corners;
+        positions = R .positions;
+        generations = R .generations;
+        links = links-are c m A v f (L .differ);
+        edges = load-edges c m A v f (L .corners) (L .differ);
+        past = record {
+          cornerSlots = R .cornerRoom;
+          linkSlots = R .linkRoom;
+          generationSlots = R .generationRoom;
+          positionSlots = R .positionRoom;
+          corners = P .corners;
+          links = P .links;
+          generations = P .generations;
+          positions = loaded-positions-past c m;
+        };
+      },
+    )
 
 -- ---- refine
 
@@ -70,27 +72,31 @@ refine-makes t m z =
     let F = refine-found t m (x .0) in
     let R = found-refined F in
     let s = R .splits in
-    let P = R .past in
-    (x .1, record {
-      sound = R .sound;
-      reports = found-refines t m F;
-      vertices = omega (arith, R .vertices);
-      edges = omega (arith, R .edges);
-      rises = R .rises;
-      oddByOne = R .oddByOne;
-      leaves = R .still .corners;
-      oldVertices = R .places .old;
-      past = record {
-        cornerSlots = R .cornerRoom;
-        linkSlots = R .linkRoom;
-        generationSlots = R .generationRoom;
-        positionSlots = R .places .size;
-        corners = P .corners;
-        links = P .links;
-        generations = P .generations;
-        positions = R .places .past (refine t (atFirst m) .mesh .topology .vertices) (omega arith);
-      };
-    })
+    let P = R .past in (
+      x .1,
+      record {
+        sound = R .sound;
+        reports = found-refines t m F;
+        vertices = omega (arith, R .vertices);
+        edges = omega (arith, R .edges);
+        rises = R .rises;
+        needed = s;
+        flips = omega (arith, R .odd);
+        oddByOne = R .oddByOne;
+        still = R .still;
+        oldVertices = R .places .old;
+        past = record {
+          cornerSlots = R .cornerRoom;
+          linkSlots = R .linkRoom;
+          generationSlots = R .generationRoom;
+          positionSlots = R .places .size;
+          corners = P .corners;
+          links = P .links;
+          generations = P .generations;
+          positions = R .places .past (refine t (atFirst m) .mesh .topology .vertices) (omega arith);
+        };
+      },
+    )
 
 -- The chain's count is that of its odd triangles.
 pub chain-counted : (t : ℕ) (m : Mesh) → refineCall t m .refusal ≡ 0 → OddInChain (m .topology) t (chainOdd (m .topology) t)

@@ -13,11 +13,11 @@ use Rattle.rules.proofs.Cut.{CutResult}
 use Rattle.rules.proofs.Edges.{boundarySides}
 use Rattle.rules.proofs.FaceSplit.{Room}
 use Rattle.rules.proofs.Manifold.{Manifold, BasesMeetIn}
-use Rattle.rules.proofs.Odds.{odds}
 use Rattle.rules.proofs.Past.{Past, past-on}
 use Rattle.rules.proofs.Places.{Places, places-on}
 use Rattle.rules.proofs.Runs.{Splittable, isEven, Run, finish, first, cut, cut-face}
-use Rattle.rules.proofs.Settled.{Still, nowhere, still-on}
+use Rattle.rules.proofs.Settled.{nowhere, still-on}
+use Rattle.rules.specs.Promises.{Still, odds}
 use Rattle.rules.specs.Split.{Work, faceSplit, chainEndWithin, raise}
 use Rattle.rules.specs.Tables.{Topology, boundary, link, generation}
 

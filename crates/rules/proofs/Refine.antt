@@ -13,10 +13,11 @@ use Rattle.rules.proofs.Places.{Places}
 use Rattle.rules.proofs.Raise.{Raised, raise-chain, raise-own}
 use Rattle.rules.proofs.Relaxed.{sound-manifold, sound-bases, manifold-sound, agree-on}
 use Rattle.rules.proofs.Runs.{Splittable, isEven}
-use Rattle.rules.proofs.Settled.{Still, nowhere}
+use Rattle.rules.proofs.Settled.{nowhere}
 use Rattle.rules.specs.Calls.{splitsOf}
 use Rattle.rules.specs.Conditions.{RoomFor, OddInChain}
 use Rattle.rules.specs.History.{edges}
+use Rattle.rules.specs.Promises.{Still, odds}
 use Rattle.rules.specs.Sound.{Sound}
 use Rattle.rules.specs.Split.{Work, atFirst, chainEnd, chainOdd, refine}
 use Rattle.rules.specs.Tables.{Mesh, TablesAgree, generation, vertexSlots}
@@ -25,6 +26,7 @@ use Rattle.rules.specs.Tables.{Mesh, TablesAgree, generation, vertexSlot
 pub record Refined (t s q : ℕ) (m : Mesh) (w : Work) : Type 0 where
   pub sound : Sound (w .mesh)
   pub splits : w .splits ≡ s
+  pub odd : 2 * w .flips + odds (reached w) ≡ odds (m .topology) + 3 * s
   pub vertices : reached w .vertices ≡ m .topology .vertices + s + q
   pub triangles : reached w .triangles ≡ m .topology .triangles + 2 * s
   pub edges : edges (reached w) ≡ edges (m .topology) + 3 * s + q
@@ -64,6 +66,7 @@ module _ (t : ℕ) (m : Mesh) (S : Sound m) (b : t < m .topology .triangles) (yo
               (omega (arith, X .triangles, S .someTriangle)) v (X .most 20 (S .generations) i)
               (X .places .range (omega (arith, A .positions)) (S .range));
           splits = omega (arith, X .splits);
+          odd = omega (arith, X .odd);
           vertices = X .vertices;
           triangles = X .triangles;
           edges =
@@ -120,8 +123,8 @@ module _ (t : ℕ) (m : Mesh) (S : Sound m) (b : t < m .topology .triangles) (yo
         let z = boundary-none-of (chainEnd (m .topology) t) x in
         subst (λ (q : ℕ). Refined t (splitsOf (m .topology) t) q m (refine t (atFirst m))) z
         (refine-path (chainOdd (m .topology) t) (chainEnd (m .topology) t) p x R (omega (arith, R .vertices)))
+        -- The chain counts its odd triangles, which are at most half of the generations up to t's.
 
-      -- The chain counts its odd triangles, which are at most half of the generations up to t's.
     module _ (e : generation (m .topology) (chainEnd (m .topology) t) % 2 ≡ 0) where
       chain-path : Path (m .topology) t (chainEnd (m .topology) t) (chainOdd (m .topology) t)
       unfolding F K

@@ -1,8 +1,9 @@
 -- What is proved of the rules: the theorems that users rely on, readable with the specs alone.
 use mathlib.Core.Path.{_≡_}
 use mathlib.Core.Logic.{_≢_, _↔_}
-use mathlib.Core.List.{List}
+use mathlib.Core.List.{List, []}
 use Prim.Native.Nat.{ℕ, _*_, _%_, _≤_, _<_}
+use lib.ListN.{length, getD}
 use lib.Dec.{T}
 use lib.IntN.{ℤ, pos, natAbs, _-ℤ_, _*ℤ_}
 use Rattle.rules.proofs.CallRefusals.{load-refusal, refine-refusal, whole-step-refusal, ring-refusal, position-refusal, refused-leaves}
@@ -11,16 +12,18 @@ use Rattle.rules.proofs.Outcomes.{load-makes, refine-makes, chain-count
 use Rattle.rules.proofs.RingTheory.{ring-makes}
 use Rattle.rules.proofs.Rounding.{nearest-third, nearest-third-only}
 use Rattle.rules.proofs.SoundTest.{sound-is}
+use Rattle.rules.specs.Below.{fill}
 use Rattle.rules.specs.Cage.{cageOf, loaded}
-use Rattle.rules.specs.Calls.{outcomeOf, zeroPoint, worked, loadCall, refineCall, wholeStepCall, ringRead, ringCall, positionRead, positionCall}
+use Rattle.rules.specs.Calls.{outcomeOf, zeroPoint, loadCall, refineCall, wholeStepCall, ringCall, positionCall}
 use Rattle.rules.specs.Conditions.{OddInChain, First, loadConditions, refineConditions, wholeStepConditions, ringConditions, positionConditions}
 use Rattle.rules.specs.History.{Call, outcome, lentBuffer, EveryHistory}
 use Rattle.rules.specs.Numbers.{nearestThird, halfUp}
 use Rattle.rules.specs.Promises.{Nearest, Loaded, ChainFalls, RefineMakes, StepMakes, RingMakes, kobbelt}
+use Rattle.rules.specs.Ring.{ring}
 use Rattle.rules.specs.Sound.{Sound, isSound}
 use Rattle.rules.specs.Split.{atFirst, chainOdd, refine}
 use Rattle.rules.specs.Step.{wholeStep}
-use Rattle.rules.specs.Tables.{Mesh, boundary, link, generation}
+use Rattle.rules.specs.Tables.{Mesh, boundary, link, generation, coordinate}
 
 -- ---- soundness (The cage and the lent tables)
 
@@ -72,14 +75,16 @@ refusal-leaves = refused-leaves
 
 -- A load that is carried out answers no splits and no flips, and leaves the cage, sound and linked.
 pub load-carried : (bytes : List ℕ) (m : Mesh) → loadCall bytes m .refusal ≡ 0
-    → (loadCall bytes m ≡ worked (atFirst (loaded (cageOf bytes) m))) × Loaded (cageOf bytes) m (loaded (cageOf bytes) m)
+    → (loadCall bytes m ≡ outcomeOf 0 0 0 0 zeroPoint (loaded (cageOf bytes) m) [])
+    × Loaded (cageOf bytes) m (loaded (cageOf bytes) m)
 load-carried = load-makes
 
 -- ---- refine (Refine one triangle)
 
 -- A refine that is carried out answers and leaves what `refine` makes, and that is sound and counted.
 pub refine-carried : (t : ℕ) (m : Mesh) → refineCall t m .refusal ≡ 0
-    → (refineCall t m ≡ worked (refine t (atFirst m))) × RefineMakes t m (refine t (atFirst m))
+    → let w = refine t (atFirst m) in
+    (refineCall t m ≡ outcomeOf 0 (w .splits) (w .flips) 0 zeroPoint (w .mesh) []) × RefineMakes t m w
 refine-carried = refine-makes
 
 -- The number of splits that condition 11 asks room for is counted along the whole base chain.
@@ -101,7 +106,9 @@ refine-recursive = refine-is-split
 
 -- A whole step that is carried out answers and leaves what `wholeStep` makes.
 pub whole-step-carried : (m : Mesh) → wholeStepCall m .refusal ≡ 0
-    → (wholeStepCall m ≡ worked (wholeStep m)) × StepMakes (generation (m .topology) 0) m (wholeStep m)
+    → let w = wholeStep m in
+    (wholeStepCall m ≡ outcomeOf 0 (w .splits) (w .flips) 0 zeroPoint (w .mesh) [])
+    × StepMakes (generation (m .topology) 0) m w
 whole-step-carried = whole-step-makes
 
 -- ---- rings and positions (Rings and positions)
@@ -112,11 +119,13 @@ ring-whole = ring-makes
 
 -- A ring query that is carried out writes the ring into the first entries of the buffer, and nothing else.
 pub ring-carried : (v : ℕ) (buffer : List ℕ) (m : Mesh) → ringCall v buffer m .refusal ≡ 0
-    → ringCall v buffer m ≡ ringRead v buffer m
+    → let r = ring (m .topology) v in
+    ringCall v buffer m ≡ outcomeOf 0 0 0 (length r) zeroPoint m (fill (length r) (λ i. getD r i 0) buffer)
 ring-carried = ring-reads
 
 -- A position query that is carried out answers the coordinates, and writes nothing.
-pub position-carried : (v : ℕ) (m : Mesh) → positionCall v m .refusal ≡ 0 → positionCall v m ≡ positionRead v m
+pub position-carried : (v : ℕ) (m : Mesh) → positionCall v m .refusal ≡ 0
+    → positionCall v m ≡ outcomeOf 0 0 0 0 (coordinate m v 0, coordinate m v 1, coordinate m v 2) m []
 position-carried = position-reads
 
 -- ---- every history (the customer's third demand)

@@ -11,7 +11,8 @@ use Rattle.rules.proofs.Manifold.{Manifold, BasesMeetIn}
 use Rattle.rules.proofs.Past.{Past, past-same, past-on}
 use Rattle.rules.proofs.Settling.{Same, settling-child, settling-bases, settling-same, settling-past, settling-generation, settling-flips, settling-waits, Follow, settling-follow, settling-spread, settling-meets}
 use Rattle.rules.proofs.Sides.{renameTwo, rename-a, rename-b, rename-else}
-use Rattle.rules.specs.Tables.{Topology, sides, origin, boundary, link, generation}
+use Rattle.rules.specs.Promises.{Still, Written}
+use Rattle.rules.specs.Tables.{Topology, sides, boundary, link, generation}
 
 -- The children cs, settled in this order.
 pub data Settled : List ℕ → Topology → Topology → Type 0 where
@@ -214,20 +215,6 @@ settled-follow p g x t (then {c = c} {cs = cs} {m = m} {k = k} {n = n} o s) F K 
     (settled-follow p g x t s (settling-manifold c m k F o) (children-on p g c m k cs o (K .0) (K .1) (D .0)) (D .1))
 
 -- ---- what is not written: a triangle whose generation has not changed
-
--- Slot y is new, or has another generation.
-abbrev pub Written : Topology → Topology → ℕ → Type 0
-Written m n y = (m .triangles ≤ y) ⊎ (generation n y ≢ generation m y)
-
-pub record Still (m n : Topology) : Type 0 where
-  pub grows : m .triangles ≤ n .triangles
-  pub mono : (x : ℕ) → x < m .triangles → generation m x ≤ generation n x
-  pub corners : (h : ℕ) → h < sides m → generation n (h / 3) ≡ generation m (h / 3) → origin n h ≡ origin m h
-  pub links : (h : ℕ) → h < sides m → generation n (h / 3) ≡ generation m (h / 3)
-      → (link m h ≡ boundary) ⊎ ((link m h < sides m) × (generation n (link m h / 3) ≡ generation m (link m h / 3)))
-      → link n h ≡ link m h
-  pub shift : (h : ℕ) → h < sides m → generation n (h / 3) ≡ generation m (h / 3)
-      → (link n h ≡ link m h) ⊎ Written m n (link n h / 3)
 
 pub still-all : (m : Topology) → Still m m
 still-all m = record {

@@ -12,13 +12,13 @@ use Rattle.rules.proofs.Chain.{falls}
 use Rattle.rules.proofs.Edges.{boundarySides, no-boundary}
 use Rattle.rules.proofs.FaceSplit.{Room, face-positions, face-splitting}
 use Rattle.rules.proofs.Manifold.{Manifold, BasesMeetIn}
-use Rattle.rules.proofs.Odds.{odds}
 use Rattle.rules.proofs.Past.{Past, past-same, past-on}
 use Rattle.rules.proofs.Places.{Places, places-same, places-on}
 use Rattle.rules.proofs.Raise.{raise-cuts}
 use Rattle.rules.proofs.Runs.{isEven}
 use Rattle.rules.proofs.Settled.{nowhere}
 use Rattle.rules.proofs.Sides.{put-at}
+use Rattle.rules.specs.Promises.{odds}
 use Rattle.rules.specs.Split.{Work, centre, faceSplit, refine}
 use Rattle.rules.specs.Step.{refineFirst}
 use Rattle.rules.specs.Tables.{Topology, sides, origin, boundary, link, generation, coordinate}

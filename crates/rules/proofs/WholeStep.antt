@@ -10,7 +10,6 @@ use Rattle.rules.proofs.Bases.{reached}
 use Rattle.rules.proofs.Edges.{edges-boundary, boundary-none}
 use Rattle.rules.proofs.FaceSplit.{Room}
 use Rattle.rules.proofs.Manifold.{Manifold}
-use Rattle.rules.proofs.Odds.{odds}
 use Rattle.rules.proofs.Refine.{sound-room}
 use Rattle.rules.proofs.Relaxed.{sound-manifold, sound-bases, manifold-sound, agree-on}
 use Rattle.rules.proofs.RingVertices.{ring-coordinates, ring-some}
@@ -20,7 +19,7 @@ use Rattle.rules.proofs.Sums.{total-zero}
 use Rattle.rules.specs.Conditions.{RoomFor, ClosedEven}
 use Rattle.rules.specs.History.{edges}
 use Rattle.rules.specs.Numbers.{InRange}
-use Rattle.rules.specs.Promises.{StepMakes}
+use Rattle.rules.specs.Promises.{StepMakes, odds}
 use Rattle.rules.specs.Sound.{Sound}
 use Rattle.rules.specs.Split.{Work, atFirst}
 use Rattle.rules.specs.Step.{movedCoordinate, moveVertices, refineFirst, wholeStep}

@@ -10,7 +10,7 @@ use Rattle.rules.specs.Numbers.{numberAt, signed, inRange}
 use Rattle.rules.specs.Sound.{hasOneFan}
 use Rattle.rules.specs.Tables.{Mesh, topologyOf, meshOf, next, boundary, vertexSlots, triangleSlots}
 
--- Coordinate k of vertex v is the number 3 * v + k of the coordinates, and corner h the origin of side h.
+-- `coordinate (3 * v + k)` is coordinate k of vertex v, and `corner h` the origin of side h.
 pub record Cage : Type 0 where
   pub vertices : ℕ
   pub triangles : ℕ
@@ -51,7 +51,7 @@ loaded c m =
     (fill (c .triangles) (λ i. 0) (t .generations)))
     (fill (3 * c .vertices) (c .coordinate) (m .positions))
 
--- ---- what makes a cage acceptable (Refused inputs, 2 to 6)
+-- ---- tests of a cage (Refused inputs, 2 to 6), which decide the conditions (proofs/Results, load-returns)
 
 -- The bytes are as long as their sizes say, and the sizes are at least 1 and within the slots.
 unfoldable pub sizesFit : List ℕ → Mesh → Bool

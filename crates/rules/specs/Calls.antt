@@ -13,8 +13,8 @@ use Rattle.rules.specs.Split.{Work, atFirst, chainEnd, chainOdd, refine}
 use Rattle.rules.specs.Step.{wholeStep}
 use Rattle.rules.specs.Tables.{Topology, Mesh, tablesAgree, vertexSlots, triangleSlots, sides, link, boundary, generation, odd, coordinate}
 
--- What a call returns and what it leaves: the mesh with its counts V and F, and the ring buffer (none is lent: the empty list).
--- Only `outcomeOf` builds it.
+-- What a call returns, and what it leaves: the mesh with its counts V and F, and the ring buffer, empty where none is
+-- lent. Only `outcomeOf` builds it.
 pub record Outcome : Type 0 where
   pub refusal : ℕ
   pub splits : ℕ
@@ -42,7 +42,7 @@ zeroPoint = (pos 0, pos 0, pos 0)
 abbrev pub worked : Work → Outcome
 worked w = outcomeOf 0 (w .splits) (w .flips) 0 zeroPoint (w .mesh) []
 
--- ---- refusals in their order
+-- ---- refusals in their order, which is that of the conditions (proofs/Results, the theorems ..-returns)
 
 infix 68 _if_
 pub data Test : Type 0 where

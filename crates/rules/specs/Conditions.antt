@@ -1,4 +1,4 @@
--- The conditions of the refusals as statements; the tests that the calls compute are proved to decide them. (Refused inputs)
+-- The conditions of the refusals as statements, which the tests that the calls compute decide. (Refused inputs)
 use Prim.Native.Nat.{ℕ, suc, _+_, _*_, _/_, _%_, _≤_, _<_}
 use mathlib.Core.List.{List, [], _∷_}
 use mathlib.Core.Logic.{_≢_}
@@ -36,7 +36,7 @@ abbrev pub SidesDiffer : Cage → Type 0
 SidesDiffer c =
     (h k : ℕ) → h < 3 * c .triangles → k < 3 * c .triangles → c .corner h ≡ c .corner k → c .corner (next h) ≡ c .corner (next k) → h ≡ k
 
--- Not 6: the triangles of each vertex form one fan, and it has one.
+-- Not 6: the triangles of each vertex form one fan, and it has at least one.
 abbrev pub FansFit : Cage → Mesh → Type 0
 FansFit c m = (v : ℕ) → v < c .vertices → OneFan (loaded c m .topology) v
 

@@ -12,7 +12,8 @@ use Rattle.rules.specs.Calls.{Outcome, loadCall, refineCall, wholeStepCa
 use Rattle.rules.specs.Conditions.{OddInChain}
 use Rattle.rules.specs.Tables.{Topology, Mesh, sides, link, boundary, generation, next}
 
--- A call with its arguments: a cage's bytes, a triangle, none, a vertex and a ring buffer, a vertex.
+-- A call with its arguments: a cage's bytes, a triangle, none, a vertex and a ring buffer, a vertex. The buffer is a
+-- list of its own, never one of the tables.
 pub data Call : Type 0 where
   loads : List ℕ → Call
   refines : ℕ → Call
@@ -47,24 +48,25 @@ outcomes (c ∷ cs) m = let o = outcome c m in o ∷ outcomes cs (o .mesh)
 
 -- ---- the cage of the last accepted load
 
-pub data Opened : Type 0 where
-  nothing : Opened
-  cage : List ℕ → Opened
+pub data LastLoad : Type 0 where
+  nothing : LastLoad
+  cage : List ℕ → LastLoad
 
-abbrev pub opens : Call → Mesh → Opened → Opened
+abbrev pub opens : Call → Mesh → LastLoad → LastLoad
 opens (loads bytes) m before = elim (eqb (loadCall bytes m .refusal) 0) [ true ↦ cage bytes | false ↦ before ]
 opens (refines t) m before = before
 opens steps m before = before
 opens (asksRing v buffer) m before = before
 opens (asksPosition v) m before = before
 
-unfoldable pub lastOpened : List Call → Mesh → Opened → Opened
-lastOpened [] m before = before
-lastOpened (c ∷ cs) m before = lastOpened cs (outcome c m .mesh) (opens c m before)
+unfoldable pub lastLoad : List Call → Mesh → LastLoad → LastLoad
+lastLoad [] m before = before
+lastLoad (c ∷ cs) m before = lastLoad cs (outcome c m .mesh) (opens c m before)
 
 -- ---- vertices minus edges plus triangles (the Euler characteristic)
 
--- Edges of the tables: a linked pair counts once, at its lower side, and a boundary side once. The boundary is above every side.
+-- Edges of the tables: a linked pair counts once, at its lower side, and a boundary side once, as the boundary is above
+-- every side. (Refine one triangle)
 unfoldable pub edges : Topology → ℕ
 edges m = count (sides m) (λ h. ltb h (link m h))
 
@@ -75,7 +77,7 @@ characteristic m = pos (m .vertices) -ℤ pos (edges m) +ℤ pos (m .triangles)
 abbrev pub joins : Cage → ℕ → ℕ → ℕ → Bool
 joins c a b h = (eqb (c .corner h) a && eqb (c .corner (next h)) b) || (eqb (c .corner h) b && eqb (c .corner (next h)) a)
 
--- Edges of a cage: the pairs of vertices, b below a, that some triangle has as a side.
+-- Edges of a cage: the pairs of vertices, b below a, that some triangle has as a side. (Every history)
 unfoldable pub cageEdges : Cage → ℕ
 cageEdges c = total (c .vertices) (λ a. count a (λ b. any (3 * c .triangles) (joins c a b)))
 
@@ -84,7 +86,7 @@ cageCharacteristic c = pos (c .vertices) -ℤ pos (cageEdges c) +ℤ pos (c .tri
 
 -- ---- the claim
 
--- Generations that differ by two at most, and by one at most if either is even.
+-- Generations that differ by two at most, and by one at most if either is even. (The third demand)
 pub record Near (g h : ℕ) : Type 0 where
   pub up : h ≤ g + 2
   pub down : g ≤ h + 2
@@ -109,4 +111,4 @@ pub record Kept (bytes : List ℕ) (m : Mesh) : Type 0 where
 
 -- The customer's third demand: every list of calls, begun on any tables and counts.
 abbrev pub EveryHistory : Type 0
-EveryHistory = (calls : List Call) (m : Mesh) (bytes : List ℕ) → lastOpened calls m nothing ≡ cage bytes → Kept bytes (after calls m)
+EveryHistory = (calls : List Call) (m : Mesh) (bytes : List ℕ) → lastLoad calls m nothing ≡ cage bytes → Kept bytes (after calls m)

@@ -12,7 +12,7 @@ unfoldable pub numberAt : List ℕ → ℕ → ℕ
 numberAt bytes i =
     getD bytes i 0 + 256 * getD bytes (i + 1) 0 + 65536 * getD bytes (i + 2) 0 + 16777216 * getD bytes (i + 3) 0
 
--- The signed number, in two's complement, of four bytes whose unsigned number is n.
+-- The signed number, in two's complement, of four bytes whose unsigned number is n. (The cage and the lent tables)
 unfoldable pub signed : ℕ → ℤ
 signed n = elim (ltb n 2147483648) [ true ↦ pos n | false ↦ pos n -ℤ pos 4294967296 ]
 
@@ -40,7 +40,7 @@ nearestThird s = floorDiv (s +ℤ pos 1) 3
 unfoldable pub halfUp : ℤ → ℕ → ℤ
 halfUp n d = floorDiv (pos 2 *ℤ n +ℤ pos d) (2 * d)
 
--- The weight, out of 65536, of a vertex with 2 to 12 ring entries. (Whole step, the table)
+-- The weight, out of 65536, of a vertex with 2 to 12 ring entries; 0 and 1 have none. (Whole step, the table)
 unfoldable pub weights : List ℕ
 weights = 0 ∷ 0 ∷ 43691 ∷ 36409 ∷ 29127 ∷ 24627 ∷ 21845 ∷ 20047 ∷ 18829 ∷ 17971 ∷ 17345 ∷ 16875 ∷ 16515 ∷ []
 

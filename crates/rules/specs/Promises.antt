@@ -8,8 +8,8 @@ use lib.Dec.{eqb}
 use lib.IntN.{ℤ, pos, _+ℤ_, _*ℤ_}
 use lib.ListN.{length, getD, drop}
 use lib.Signed.{_≤ℤ_, _<ℤ_}
-use Rattle.rules.specs.Below.{count}
-use Rattle.rules.specs.Calls.{worked}
+use Rattle.rules.specs.Below.{count, total}
+use Rattle.rules.specs.Calls.{splitsOf, worked}
 use Rattle.rules.specs.Cage.{Cage}
 use Rattle.rules.specs.History.{ReportsSplits, edges, cageEdges}
 use Rattle.rules.specs.Ring.{firstSide, fan, ring}
@@ -36,7 +36,8 @@ pub record SamePast (m n : Mesh) : Type 0 where
   pub corners : drop (sides (n .topology)) (n .topology .corners) ≡ drop (sides (n .topology)) (m .topology .corners)
   pub links : drop (sides (n .topology)) (n .topology .links) ≡ drop (sides (n .topology)) (m .topology .links)
   pub generations :
-      drop (n .topology .triangles) (n .topology .generations) ≡ drop (n .topology .triangles) (m .topology .generations)
+      drop (n .topology .triangles) (n .topology .generations)
+      ≡ drop (n .topology .triangles) (m .topology .generations)
   pub positions : drop (3 * n .topology .vertices) (n .positions) ≡ drop (3 * n .topology .vertices) (m .positions)
 
 -- ---- load (Load)
@@ -72,19 +73,39 @@ pub record ChainFalls (m : Topology) (t : ℕ) : Type 0 where
   pub toOdd : generation m (link m (3 * t) / 3) % 2 ≡ 1 → generation m (link m (3 * t) / 3) + 2 ≡ generation m t
   pub toEven : generation m (link m (3 * t) / 3) % 2 ≡ 0 → generation m (link m (3 * t) / 3) + 1 ≡ generation m t
 
+-- A slot is written if it is new or its generation rose.
+abbrev pub Written : Topology → Topology → ℕ → Type 0
+Written m n y = (m .triangles ≤ y) ⊎ (generation n y ≢ generation m y)
+
+-- What splits and flips that lead from m to n leave alone. A triangle that is not written has its corners; its links
+-- stay where they lead to the boundary or to triangles not written, and lead to written ones else.
+pub record Still (m n : Topology) : Type 0 where
+  pub grows : m .triangles ≤ n .triangles
+  pub mono : (x : ℕ) → x < m .triangles → generation m x ≤ generation n x
+  pub corners : (h : ℕ) → h < sides m → generation n (h / 3) ≡ generation m (h / 3) → origin n h ≡ origin m h
+  pub links : (h : ℕ) → h < sides m → generation n (h / 3) ≡ generation m (h / 3)
+      → (link m h ≡ boundary) ⊎ ((link m h < sides m) × (generation n (link m h / 3) ≡ generation m (link m h / 3)))
+      → link n h ≡ link m h
+  pub shift : (h : ℕ) → h < sides m → generation n (h / 3) ≡ generation m (h / 3)
+      → (link n h ≡ link m h) ⊎ Written m n (link n h / 3)
+
+-- The number of odd triangles.
+unfoldable pub odds : Topology → ℕ
+odds m = total (m .triangles) (λ t. generation m t % 2)
+
 -- What a refine of triangle t makes of a mesh; `reports` says how many splits, and that F grows by twice as many.
 pub record RefineMakes (t : ℕ) (m : Mesh) (w : Work) : Type 0 where
   pub sound : Sound (w .mesh)
   pub reports : ReportsSplits m t (worked w)
+  pub needed : w .splits ≡ splitsOf (m .topology) t
+  -- A split makes three odd triangles, and a flip takes two away.
+  pub flips : 2 * w .flips + odds (w .mesh .topology) ≡ odds (m .topology) + 3 * w .splits
   pub vertices : w .mesh .topology .vertices ≡ m .topology .vertices + w .splits
   pub edges : edges (w .mesh .topology) ≡ edges (m .topology) + 3 * w .splits
   pub rises : generation (m .topology) t < generation (w .mesh .topology) t
   pub oddByOne : generation (m .topology) t % 2 ≡ 1
       → generation (w .mesh .topology) t ≡ suc (generation (m .topology) t)
-  -- A triangle whose generation has not risen has its corners, and so have the old vertices their places.
-  pub leaves : (h : ℕ) → h < sides (m .topology)
-      → generation (w .mesh .topology) (h / 3) ≡ generation (m .topology) (h / 3)
-      → origin (w .mesh .topology) h ≡ origin (m .topology) h
+  pub still : Still (m .topology) (w .mesh .topology)
   pub oldVertices : (i : ℕ) → i < 3 * m .topology .vertices
       → getD (w .mesh .positions) i (pos 0) ≡ getD (m .positions) i (pos 0)
   pub past : SamePast m (w .mesh)

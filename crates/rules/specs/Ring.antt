@@ -6,15 +6,16 @@ use lib.Dec.{eqb, ltb}
 use Rattle.rules.specs.Below.{lowest}
 use Rattle.rules.specs.Tables.{Topology, sides, origin, target, previous, link, rotate, boundary}
 
--- The side out of v where its ring starts: the one on the boundary, or else the one in the lowest slot that holds v.
+-- The side out of v where its ring starts: the one on the boundary, or else the one in the lowest slot that holds v;
 -- `sides m` where v has no triangle.
 unfoldable pub firstSide : Topology → ℕ → ℕ
 firstSide m v =
     let h = lowest (sides m) (λ k. eqb (origin m k) v && eqb (link m k) boundary) in
     elim (ltb h (sides m)) [ true ↦ h | false ↦ lowest (sides m) (λ k. eqb (origin m k) v) ]
 
--- The sides with one origin from h on, turning until the boundary or until back at the first; at most n of them.
--- A vertex has one side out of it in each of its triangles, so being back at the first side is being back at the first triangle.
+-- The sides with one origin from h on, turning until the boundary or until back at the first; at most n of them. A
+-- vertex has one side out of it in each of its triangles, so to be back at the first side is to be back at the first
+-- triangle.
 unfoldable pub fanFrom : ℕ → Topology → ℕ → ℕ → List ℕ
 fanFrom zero m first h = []
 fanFrom (suc n) m first h = h ∷ elim (ltb (rotate m h) (sides m) && not (eqb (rotate m h) first)) [

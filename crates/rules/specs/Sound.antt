@@ -14,7 +14,7 @@ use Rattle.rules.specs.Tables.{Topology, Mesh, TablesAgree, tablesAgree,
 
 -- ---- the five kinds of linked pairs
 
--- What a side is, with the generation of its triangle: a side of an even triangle, the base of an odd one, or an odd one's other side.
+-- What a side is, with the generation of its triangle: a side of an even one, the base of an odd one, or another side.
 pub data Role : Type 0 where
   even : ℕ → Role
   base : ℕ → Role
@@ -41,7 +41,8 @@ fiveKinds (base g) (base h) = false
 
 -- ---- the statement
 
--- Side h has a partner: a side in use that links back, runs between the same two vertices the other way, and is of a fitting kind.
+-- Side h has a partner: a side in use that links back, runs between the same two vertices the other way, and is of a
+-- fitting kind.
 pub record Linked (m : Topology) (h : ℕ) : Type 0 where
   pub inUse : link m h < sides m
   pub back : link m (link m h) ≡ h
@@ -61,6 +62,7 @@ pub record OneFan (m : Topology) (v : ℕ) : Type 0 where
   pub out : origin m first ≡ v
   pub all : (h : ℕ) → h < sides m → origin m h ≡ v → Turns m first h
 
+-- Sound, in the order of the paper's list. `tables` is condition 1, so that Sound can stand alone.
 pub record Sound (m : Mesh) : Type 0 where
   pub tables : TablesAgree m
   pub someVertex : 1 ≤ m .topology .vertices
@@ -74,7 +76,7 @@ pub record Sound (m : Mesh) : Type 0 where
   pub range : (i : ℕ) → i < 3 * m .topology .vertices → InRange (getD (m .positions) i (pos 0))
   pub generations : (t : ℕ) → t < m .topology .triangles → generation (m .topology) t ≤ 20
 
--- ---- the test
+-- ---- the test, which says yes exactly for sound tables (proofs/Results, sound-test)
 
 unfoldable pub isLinked : Topology → ℕ → Bool
 isLinked m h =
@@ -88,7 +90,7 @@ isLinked m h =
 unfoldable pub soundSide : Topology → ℕ → Bool
 soundSide m h = ltb (origin m h) (m .vertices) && not (eqb (origin m h) (target m h)) && (eqb (link m h) boundary || isLinked m h)
 
--- The walk round v meets as many triangles as v has, and v has one.
+-- The walk round v meets as many triangles as v has, and at least one.
 unfoldable pub hasOneFan : Topology → ℕ → Bool
 hasOneFan m v =
     let n = length (fan m v) in

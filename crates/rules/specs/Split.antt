@@ -36,7 +36,7 @@ split t m =
     withCounts (suc p) (f + 2) three
 
 -- The flip (edge flip) of s = (A,B,P) and u = (B,A,Q), whose bases meet.
--- B→P moves to the base of u and A→Q to that of s; P→A and Q→B stay.
+-- B→P moves to side 0 of u and A→Q to side 0 of s; P→A and Q→B stay.
 --
 --            P                         P
 --           / \                       /|\
@@ -94,7 +94,8 @@ splitPlaced t m =
     let v = m .topology .vertices in
     meshOf (split t (m .topology)) (putThree v (centre m t 0, centre m t 1, centre m t 2) (m .positions))
 
--- Where the base of s, a triangle just made by a split, meets a base: flip the two.
+-- Where the base of s, a triangle just made by a split, meets a base: flip the two. The boundary is no base: it reads
+-- as a side of a slot past the table, whose generation is 0.
 unfoldable pub settle : ℕ → Work → Work
 settle s w =
     let m = w .mesh .topology in
@@ -105,6 +106,7 @@ abbrev pub settleAll : List ℕ → Work → Work
 settleAll [] w = w
 settleAll (s ∷ rest) w = settleAll rest (settle s w)
 
+-- The paper's face split: the split, and then a flip wherever the base of t, F or F + 1, in this order, meets a base.
 unfoldable pub faceSplit : ℕ → Work → Work
 faceSplit t w =
     let f = w .mesh .topology .triangles in
@@ -128,7 +130,7 @@ chainOddWithin (suc n) m t = elim (odd (generation m t)) [
   | true ↦ elim (eqb (link m (3 * t)) boundary) [ true ↦ 1 | false ↦ suc (chainOddWithin n m (link m (3 * t) / 3)) ]
 ]
 
--- Generations fall along the chain, so it has at most as many steps as t has generations.
+-- In sound tables generations fall along the chain, so that the generation of t bounds its steps.
 abbrev pub chainEnd : Topology → ℕ → ℕ
 chainEnd m t = chainEndWithin (generation m t) m t
 
@@ -145,8 +147,9 @@ raise (suc n) g t w = elim (ltb g (generation (w .mesh .topology) t)) [
   | false ↦ raise n g t (faceSplit (chainEnd (w .mesh .topology) t) w)
 ]
 
--- Face splits from the even end of the base chain of t upwards, until t has risen: by its own split where t is even, by its flip
--- where t is odd. What lies across a base is read from the links each time, as a flip may move it to another slot.
+-- Face splits from the even end of the base chain of t upwards, until t has risen: by its own split where t is even,
+-- by its flip where t is odd. What lies across a base is read from the links each time, as a flip may move it to
+-- another slot.
 unfoldable pub refine : ℕ → Work → Work
 refine t w =
     let g = generation (w .mesh .topology) t in

@@ -7,7 +7,7 @@ use lib.Dec.{eqb, leb}
 use lib.IntN.{ℤ, pos}
 use lib.ListN.{length, getD, set}
 
--- The counts in use and the tables that say how triangles hang together, with all their slots, those past the counts included.
+-- The counts in use, and the tables that say how triangles hang together, with all slots, those past the counts too.
 pub record Topology : Type 0 where
   pub vertices : ℕ
   pub triangles : ℕ
@@ -57,7 +57,7 @@ origin m h = getD (m .corners) h 0
 abbrev pub target : Topology → ℕ → ℕ
 target m h = origin m (next h)
 
--- What a side without a partner links to: the paper's rim. No table has a slot of this number.
+-- What a side without a partner links to: the paper's rim. By the maxima of condition 1 it is past every table.
 abbrev pub boundary : ℕ
 boundary = 4294967295
 
@@ -65,17 +65,19 @@ boundary = 4294967295
 abbrev pub link : Topology → ℕ → ℕ
 link m h = getD (m .links) h 0
 
--- The next side with the same origin, across the side that leads to it; or the boundary.
+-- The next side with the same origin, across the side that leads into the origin; or the boundary.
 abbrev pub rotate : Topology → ℕ → ℕ
 rotate m h = link m (previous h)
 
+-- A cage's triangles are of generation 0. An odd triangle is a third of an even one and waits for its flip, with which it
+-- becomes even.
 abbrev pub generation : Topology → ℕ → ℕ
 generation m t = getD (m .generations) t 0
 
 abbrev pub odd : ℕ → Bool
 odd g = eqb (g % 2) 1
 
--- Side h is the base of an odd triangle: its side 0.
+-- Side h is the base of an odd triangle: its side 0. (The cage and the lent tables)
 abbrev pub isBase : Topology → ℕ → Bool
 isBase m h = eqb (h % 3) 0 && odd (generation m (h / 3))
 
@@ -93,7 +95,7 @@ abbrev pub putTriangle : ℕ → ℕ × ℕ × ℕ → ℕ × ℕ × ℕ → ℕ
 putTriangle t corners links g m =
     topologyOf (m .vertices) (m .triangles) (putThree t corners (m .corners)) (putThree t links (m .links)) (set (m .generations) t g)
 
--- Side h linked to side k. The boundary has no slot, so that nothing changes where h is the boundary.
+-- Side h linked to side k. The boundary is past the table, so that nothing changes where h is the boundary.
 abbrev pub relink : ℕ → ℕ → Topology → Topology
 relink h k m = topologyOf (m .vertices) (m .triangles) (m .corners) (set (m .links) h k) (m .generations)
 
