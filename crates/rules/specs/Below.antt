@@ -26,6 +26,7 @@ unfoldable pub total : ℕ → (ℕ → ℕ) → ℕ
 total zero f = zero
 total (suc n) f = total n f + f n
 
+-- 1 for yes, 0 for no.
 abbrev pub bit : Bool → ℕ
 bit true = 1
 bit false = 0

@@ -1,11 +1,11 @@
 -- A cage (control mesh) as bytes, and the mesh that it is loaded as. (The cage and the lent tables; Load)
 use Prim.Native.Nat.{ℕ, _+_, _*_}
-use mathlib.Core.Bool.{Bool, true, false, not, _&&_, _||_}
+use mathlib.Core.Bool.{Bool, true, false, not, _&&_}
 use mathlib.Core.List.{List}
 use lib.Dec.{eqb, ltb, leb}
 use lib.IntN.{ℤ}
 use lib.ListN.{length}
-use Rattle.rules.specs.Below.{all, any, lowest, fill}
+use Rattle.rules.specs.Below.{all, lowest, fill}
 use Rattle.rules.specs.Numbers.{numberAt, signed, inRange}
 use Rattle.rules.specs.Sound.{hasOneFan}
 use Rattle.rules.specs.Tables.{Mesh, topologyOf, meshOf, next, boundary, vertexSlots, triangleSlots}
@@ -17,6 +17,7 @@ pub record Cage : Type 0 where
   pub coordinate : ℕ → ℤ
   pub corner : ℕ → ℕ
 
+-- The cage that bytes hold: the sizes, then the coordinates, then the corners.
 unfoldable pub cageOf : List ℕ → Cage
 cageOf bytes =
     let v = numberAt bytes 0 in
@@ -66,8 +67,10 @@ sizesFit bytes m =
 
 -- Corners are below V, and no triangle repeats one.
 unfoldable pub cornersFit : Cage → Bool
-cornersFit c = all (3 * c .triangles) (λ h. ltb (c .corner h) (c .vertices) && not (eqb (c .corner h) (c .corner (next h))))
+cornersFit c =
+    all (3 * c .triangles) (λ h. ltb (c .corner h) (c .vertices) && not (eqb (c .corner h) (c .corner (next h))))
 
+-- Coordinates are in range.
 unfoldable pub coordinatesFit : Cage → Bool
 coordinatesFit c = all (3 * c .vertices) (λ i. inRange (c .coordinate i))
 
@@ -75,6 +78,6 @@ coordinatesFit c = all (3 * c .vertices) (λ i. inRange (c .coordinate i))
 unfoldable pub sidesDiffer : Cage → Bool
 sidesDiffer c = all (3 * c .triangles) (λ h. all h (λ k. not (parallel c h k)))
 
--- Each vertex has one fan.
+-- Each vertex has one fan, in the tables that the cage would be loaded as.
 unfoldable pub fansFit : Cage → Mesh → Bool
 fansFit c m = all (c .vertices) (hasOneFan (loaded c m .topology))

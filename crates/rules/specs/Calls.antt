@@ -1,6 +1,6 @@
 -- The five calls: what each refuses, answers and writes. (Refused inputs)
-use Prim.Native.Nat.{ℕ, zero, suc, _+_, _*_, _≤_, max}
-use mathlib.Core.Bool.{Bool, true, false, not, _&&_, _||_}
+use Prim.Native.Nat.{ℕ, zero, suc, _+_, _*_, max}
+use mathlib.Core.Bool.{Bool, true, false, not, _&&_}
 use mathlib.Core.List.{List, [], _∷_}
 use lib.Dec.{eqb, ltb, leb}
 use lib.IntN.{ℤ, pos}
@@ -24,6 +24,7 @@ pub record Outcome : Type 0 where
   pub mesh : Mesh
   pub buffer : List ℕ
 
+-- An outcome from its parts.
 abbrev pub outcomeOf : ℕ → ℕ → ℕ → ℕ → ℤ × ℤ × ℤ → Mesh → List ℕ → Outcome
 outcomeOf refusal splits flips n point m buffer = record {
   refusal = refusal;
@@ -35,6 +36,7 @@ outcomeOf refusal splits flips n point m buffer = record {
   buffer = buffer;
 }
 
+-- What is returned where no position is asked for.
 abbrev pub zeroPoint : ℤ × ℤ × ℤ
 zeroPoint = (pos 0, pos 0, pos 0)
 
@@ -44,6 +46,7 @@ worked w = outcomeOf 0 (w .splits) (w .flips) 0 zeroPoint (w .mesh) []
 
 -- ---- refusals in their order, which is that of the conditions (proofs/Results, the theorems ..-returns)
 
+-- A refusal's number with its test.
 infix 68 _if_
 pub data Test : Type 0 where
   _if_ : ℕ → Bool → Test
@@ -68,6 +71,7 @@ closedEven m =
     && all (m .triangles) (λ t. eqb (generation m t) (generation m 0))
     && not (odd (generation m 0))
 
+-- The number that a load is refused with; below, those of the other calls. (Refused inputs, its second table)
 unfoldable pub loadRefusal : List ℕ → Mesh → ℕ
 loadRefusal bytes m =
     let c = cageOf bytes in
@@ -123,17 +127,21 @@ positionRefusal v m =
 
 -- ---- the calls
 
--- The outcome where nothing is refused. A refusal returns its number with zeros, and leaves all that is lent as it stood.
+-- The outcome where nothing is refused. A refusal returns its number with zeros, and leaves all that is lent as it
+-- stood. (Refused inputs, first lines)
 abbrev pub unless : ℕ → Mesh → List ℕ → Outcome → Outcome
 unless zero m buffer done = done
 unless (suc n) m buffer done = outcomeOf (suc n) 0 0 0 zeroPoint m buffer
 
+-- (Load)
 unfoldable pub loadCall : List ℕ → Mesh → Outcome
 loadCall bytes m = unless (loadRefusal bytes m) m [] (worked (atFirst (loaded (cageOf bytes) m)))
 
+-- (Refine one triangle)
 unfoldable pub refineCall : ℕ → Mesh → Outcome
 refineCall t m = unless (refineRefusal t m) m [] (worked (refine t (atFirst m)))
 
+-- (Whole step)
 unfoldable pub wholeStepCall : Mesh → Outcome
 wholeStepCall m = unless (wholeStepRefusal m) m [] (worked (wholeStep m))
 
@@ -143,11 +151,14 @@ ringRead v buffer m =
     let r = ring (m .topology) v in
     outcomeOf 0 0 0 (length r) zeroPoint m (fill (length r) (λ i. getD r i 0) buffer)
 
+-- (Rings and positions)
 unfoldable pub ringCall : ℕ → List ℕ → Mesh → Outcome
 ringCall v buffer m = unless (ringRefusal v buffer m) m buffer (ringRead v buffer m)
 
+-- The position of v. (Rings and positions)
 abbrev pub positionRead : ℕ → Mesh → Outcome
 positionRead v m = outcomeOf 0 0 0 0 (coordinate m v 0, coordinate m v 1, coordinate m v 2) m []
 
+-- (Rings and positions)
 unfoldable pub positionCall : ℕ → Mesh → Outcome
 positionCall v m = unless (positionRefusal v m) m [] (positionRead v m)

@@ -34,9 +34,11 @@ CoordinatesFit c = (i : ℕ) → i < 3 * c .vertices → InRange (c .coordinate 
 -- Not 5: no directed side occurs twice.
 abbrev pub SidesDiffer : Cage → Type 0
 SidesDiffer c =
-    (h k : ℕ) → h < 3 * c .triangles → k < 3 * c .triangles → c .corner h ≡ c .corner k → c .corner (next h) ≡ c .corner (next k) → h ≡ k
+    (h k : ℕ) → h < 3 * c .triangles → k < 3 * c .triangles
+    → c .corner h ≡ c .corner k → c .corner (next h) ≡ c .corner (next k) → h ≡ k
 
--- Not 6: the triangles of each vertex form one fan, and it has at least one.
+-- Not 6: in the tables that the cage would be loaded as, the triangles of each vertex form one fan, and it has at least
+-- one.
 abbrev pub FansFit : Cage → Mesh → Type 0
 FansFit c m = (v : ℕ) → v < c .vertices → OneFan (loaded c m .topology) v
 
@@ -45,7 +47,8 @@ FansFit c m = (v : ℕ) → v < c .vertices → OneFan (loaded c m .topology) v
 -- 10: the base chain of t ends at the boundary.
 pub data EndsAtBoundary (m : Topology) : ℕ → Type 0 where
   stops : {t : ℕ} → generation m t % 2 ≡ 1 → link m (3 * t) ≡ boundary → EndsAtBoundary m t
-  goesOn : {t : ℕ} → generation m t % 2 ≡ 1 → link m (3 * t) ≢ boundary → EndsAtBoundary m (link m (3 * t) / 3) → EndsAtBoundary m t
+  goesOn : {t : ℕ} → generation m t % 2 ≡ 1 → link m (3 * t) ≢ boundary → EndsAtBoundary m (link m (3 * t) / 3)
+      → EndsAtBoundary m t
 
 -- The base chain of t has k odd triangles.
 pub data OddInChain (m : Topology) : ℕ → ℕ → Type 0 where
@@ -72,6 +75,7 @@ LongRing m = (v : ℕ) × (v < m .vertices) × (12 < length (ring m v))
 
 -- ---- the first that holds
 
+-- A refusal's number with its condition.
 infix 68 _when_
 pub data Condition : Type 1 where
   _when_ : ℕ → Type 0 → Condition
@@ -82,7 +86,7 @@ pub data First : List Condition → ℕ → Type 1 where
   this : {n : ℕ} {P : Type 0} {rest : List Condition} → P → First (n when P ∷ rest) n
   later : {n k : ℕ} {P : Type 0} {rest : List Condition} → ¬ P → First rest k → First (n when P ∷ rest) k
 
--- ---- the conditions of each call, in its order
+-- ---- the conditions of each call, in its order (Refused inputs, its second table)
 
 abbrev pub loadConditions : List ℕ → Mesh → List Condition
 loadConditions bytes m =

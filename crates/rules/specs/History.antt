@@ -1,5 +1,5 @@
 -- Lists of calls on one mesh, and what holds after every one of them. (Every history; the customer's third demand)
-use Prim.Native.Nat.{ℕ, zero, suc, _+_, _*_, _/_, _%_, _≤_, _<_}
+use Prim.Native.Nat.{ℕ, _+_, _*_, _/_, _%_, _≤_, _<_}
 use mathlib.Core.Bool.{Bool, true, false, _&&_, _||_}
 use mathlib.Core.List.{List, [], _∷_}
 use mathlib.Core.Logic.{_≢_, _⊎_}
@@ -7,7 +7,7 @@ use mathlib.Core.Path.{_≡_}
 use lib.Dec.{eqb, ltb}
 use lib.IntN.{ℤ, pos, _+ℤ_, _-ℤ_}
 use Rattle.rules.specs.Below.{any, count, total}
-use Rattle.rules.specs.Cage.{Cage, cageOf, opposite}
+use Rattle.rules.specs.Cage.{Cage, cageOf}
 use Rattle.rules.specs.Calls.{Outcome, loadCall, refineCall, wholeStepCall, ringCall, positionCall}
 use Rattle.rules.specs.Conditions.{OddInChain}
 use Rattle.rules.specs.Tables.{Topology, Mesh, sides, link, boundary, generation, next}
@@ -21,6 +21,7 @@ pub data Call : Type 0 where
   asksRing : ℕ → List ℕ → Call
   asksPosition : ℕ → Call
 
+-- What a call does to a mesh.
 abbrev pub outcome : Call → Mesh → Outcome
 outcome (loads bytes) m = loadCall bytes m
 outcome (refines t) m = refineCall t m
@@ -48,10 +49,12 @@ outcomes (c ∷ cs) m = let o = outcome c m in o ∷ outcomes cs (o .mesh)
 
 -- ---- the cage of the last accepted load
 
+-- No load accepted yet, or the bytes of the last one.
 pub data LastLoad : Type 0 where
   nothing : LastLoad
   cage : List ℕ → LastLoad
 
+-- The last accepted load after a call, from the one before it.
 abbrev pub opens : Call → Mesh → LastLoad → LastLoad
 opens (loads bytes) m before = elim (eqb (loadCall bytes m .refusal) 0) [ true ↦ cage bytes | false ↦ before ]
 opens (refines t) m before = before
@@ -59,6 +62,7 @@ opens steps m before = before
 opens (asksRing v buffer) m before = before
 opens (asksPosition v) m before = before
 
+-- The last accepted load after a list of calls.
 unfoldable pub lastLoad : List Call → Mesh → LastLoad → LastLoad
 lastLoad [] m before = before
 lastLoad (c ∷ cs) m before = lastLoad cs (outcome c m .mesh) (opens c m before)
@@ -70,17 +74,21 @@ lastLoad (c ∷ cs) m before = lastLoad cs (outcome c m .mesh) (opens c m before
 unfoldable pub edges : Topology → ℕ
 edges m = count (sides m) (λ h. ltb h (link m h))
 
+-- Of the tables. (Every history)
 abbrev pub characteristic : Topology → ℤ
 characteristic m = pos (m .vertices) -ℤ pos (edges m) +ℤ pos (m .triangles)
 
 -- Side h of the cage joins a and b, one way or the other.
 abbrev pub joins : Cage → ℕ → ℕ → ℕ → Bool
-joins c a b h = (eqb (c .corner h) a && eqb (c .corner (next h)) b) || (eqb (c .corner h) b && eqb (c .corner (next h)) a)
+joins c a b h =
+    (eqb (c .corner h) a && eqb (c .corner (next h)) b)
+    || (eqb (c .corner h) b && eqb (c .corner (next h)) a)
 
 -- Edges of a cage: the pairs of vertices, b below a, that some triangle has as a side. (Every history)
 unfoldable pub cageEdges : Cage → ℕ
 cageEdges c = total (c .vertices) (λ a. count a (λ b. any (3 * c .triangles) (joins c a b)))
 
+-- Of a cage. (Every history)
 abbrev pub cageCharacteristic : Cage → ℤ
 cageCharacteristic c = pos (c .vertices) -ℤ pos (cageEdges c) +ℤ pos (c .triangles)
 
@@ -111,4 +119,6 @@ pub record Kept (bytes : List ℕ) (m : Mesh) : Type 0 where
 
 -- The customer's third demand: every list of calls, begun on any tables and counts.
 abbrev pub EveryHistory : Type 0
-EveryHistory = (calls : List Call) (m : Mesh) (bytes : List ℕ) → lastLoad calls m nothing ≡ cage bytes → Kept bytes (after calls m)
+EveryHistory =
+    (calls : List Call) (m : Mesh) (bytes : List ℕ)
+    → lastLoad calls m nothing ≡ cage bytes → Kept bytes (after calls m)

@@ -20,10 +20,12 @@ signed n = elim (ltb n 2147483648) [ true ↦ pos n | false ↦ pos n -ℤ pos 4
 abbrev pub maxCoordinate : ℕ
 maxCoordinate = 16777216
 
+-- A coordinate that the paper allows. (The cage and the lent tables, "Sound")
 pub record InRange (z : ℤ) : Type 0 where
   pub low : negℤ (pos maxCoordinate) ≤ℤ z
   pub high : z ≤ℤ pos maxCoordinate
 
+-- The same as a test.
 abbrev pub inRange : ℤ → Bool
 inRange z = leZ (negℤ (pos maxCoordinate)) z && leZ z (pos maxCoordinate)
 
@@ -44,6 +46,7 @@ halfUp n d = floorDiv (pos 2 *ℤ n +ℤ pos d) (2 * d)
 unfoldable pub weights : List ℕ
 weights = 0 ∷ 0 ∷ 43691 ∷ 36409 ∷ 29127 ∷ 24627 ∷ 21845 ∷ 20047 ∷ 18829 ∷ 17971 ∷ 17345 ∷ 16875 ∷ 16515 ∷ []
 
+-- The weight for n ring entries.
 unfoldable pub weight : ℕ → ℕ
 weight n = getD weights n 0
 

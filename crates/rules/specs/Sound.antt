@@ -1,11 +1,10 @@
 -- When tables are sound, stated and as a test. (The cage and the lent tables, "Sound")
 use Prim.Native.Nat.{ℕ, _+_, _*_, _/_, _%_, _≤_, _<_}
 use mathlib.Core.Bool.{Bool, true, false, not, _&&_, _||_}
-use mathlib.Core.List.{List}
 use mathlib.Core.Logic.{_≢_, _⊎_}
 use mathlib.Core.Path.{_≡_}
 use lib.Dec.{T, eqb, leb, ltb}
-use lib.IntN.{ℤ, pos}
+use lib.IntN.{pos}
 use lib.ListN.{length, getD}
 use Rattle.rules.specs.Below.{all, count}
 use Rattle.rules.specs.Numbers.{InRange, inRange}
@@ -24,10 +23,11 @@ pub data Role : Type 0 where
 abbrev pub roleOf : ℕ → ℕ → Role
 roleOf g i = elim (odd g) [ false ↦ even g | true ↦ elim (eqb i 0) [ true ↦ base g | false ↦ other g ] ]
 
+-- What side h of the tables is.
 abbrev pub role : Topology → ℕ → Role
 role m h = roleOf (generation m (h / 3)) (h % 3)
 
--- The paper's five kinds, each in both orders; two bases never meet.
+-- The paper's list of what may be linked, each of its five kinds in both orders; two bases never meet.
 abbrev pub fiveKinds : Role → Role → Bool
 fiveKinds (even g) (even h) = eqb g h
 fiveKinds (even g) (base h) = eqb h (g + 1)
@@ -78,6 +78,7 @@ pub record Sound (m : Mesh) : Type 0 where
 
 -- ---- the test, which says yes exactly for sound tables (proofs/Results, sound-test)
 
+-- Linked, as a test.
 unfoldable pub isLinked : Topology → ℕ → Bool
 isLinked m h =
     let k = link m h in
@@ -87,15 +88,20 @@ isLinked m h =
     && eqb (target m k) (origin m h)
     && fiveKinds (role m h) (role m k)
 
+-- The corner, its difference from the next and the link of one side.
 unfoldable pub soundSide : Topology → ℕ → Bool
-soundSide m h = ltb (origin m h) (m .vertices) && not (eqb (origin m h) (target m h)) && (eqb (link m h) boundary || isLinked m h)
+soundSide m h =
+    ltb (origin m h) (m .vertices)
+    && not (eqb (origin m h) (target m h))
+    && (eqb (link m h) boundary || isLinked m h)
 
--- The walk round v meets as many triangles as v has, and at least one.
+-- OneFan as a test: the walk round v meets as many triangles as v has, and at least one.
 unfoldable pub hasOneFan : Topology → ℕ → Bool
 hasOneFan m v =
     let n = length (fan m v) in
     ltb 0 n && eqb n (count (sides m) (λ h. eqb (origin m h) v))
 
+-- Sound as a test.
 unfoldable pub isSound : Mesh → Bool
 isSound m =
     let t = m .topology in

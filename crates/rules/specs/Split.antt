@@ -1,6 +1,6 @@
 -- Face split, flip, the base chain and the refinement of one triangle. (Face split and flip; Refine one triangle)
 use Prim.Native.Nat.{ℕ, zero, suc, _+_, _*_, _/_}
-use mathlib.Core.Bool.{Bool, true, false}
+use mathlib.Core.Bool.{true, false}
 use mathlib.Core.List.{List, [], _∷_}
 use lib.Dec.{eqb, ltb}
 use lib.IntN.{ℤ, _+ℤ_}
@@ -68,6 +68,7 @@ pub record Work : Type 0 where
   pub splits : ℕ
   pub flips : ℕ
 
+-- Nothing made yet; one more split; one more flip; other positions.
 abbrev pub atFirst : Mesh → Work
 atFirst m = record { mesh = m; splits = 0; flips = 0 }
 
@@ -102,6 +103,7 @@ settle s w =
     let h = link m (3 * s) in
     elim (isBase m h) [ true ↦ withFlip (withTopology (flip s (h / 3) m) (w .mesh)) w | false ↦ w ]
 
+-- These triangles settled in order.
 abbrev pub settleAll : List ℕ → Work → Work
 settleAll [] w = w
 settleAll (s ∷ rest) w = settleAll rest (settle s w)
@@ -130,7 +132,8 @@ chainOddWithin (suc n) m t = elim (odd (generation m t)) [
   | true ↦ elim (eqb (link m (3 * t)) boundary) [ true ↦ 1 | false ↦ suc (chainOddWithin n m (link m (3 * t) / 3)) ]
 ]
 
--- In sound tables generations fall along the chain, so that the generation of t bounds its steps.
+-- The chain's last triangle and its number of odd ones. In sound tables generations fall along the chain, so that the
+-- generation of t bounds its steps.
 abbrev pub chainEnd : Topology → ℕ → ℕ
 chainEnd m t = chainEndWithin (generation m t) m t
 

@@ -1,5 +1,5 @@
 -- The whole smoothing step. (Whole step)
-use Prim.Native.Nat.{ℕ, zero, suc, _+_, _*_}
+use Prim.Native.Nat.{ℕ, zero, suc}
 use mathlib.Core.List.{List, [], _∷_}
 use lib.IntN.{ℤ, pos, _+ℤ_}
 use lib.ListN.{length}
@@ -20,14 +20,16 @@ movedCoordinate m v k = let r = ring (m .topology) v in moved (length r) (coordi
 -- The positions with the first n vertices moved, all of them by the old mesh m.
 unfoldable pub moveVertices : ℕ → Mesh → List ℤ → List ℤ
 moveVertices zero m l = l
-moveVertices (suc v) m l = moveVertices v m (putThree v (movedCoordinate m v 0, movedCoordinate m v 1, movedCoordinate m v 2) l)
+moveVertices (suc v) m l =
+    moveVertices v m (putThree v (movedCoordinate m v 0, movedCoordinate m v 1, movedCoordinate m v 2) l)
 
 -- Slots 0 to n - 1 refined in order.
 unfoldable pub refineFirst : ℕ → Work → Work
 refineFirst zero w = w
 refineFirst (suc n) w = refine n (refineFirst n w)
 
--- The step: all old triangles refined, with their centres at the old positions, and then all old vertices moved at once.
+-- The step: all old triangles refined, with their centres at the old positions, and then all old vertices moved at
+-- once.
 unfoldable pub wholeStep : Mesh → Work
 wholeStep m =
     let w = refineFirst (m .topology .triangles) (atFirst m) in

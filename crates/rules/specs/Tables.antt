@@ -15,6 +15,7 @@ pub record Topology : Type 0 where
   pub links : List ℕ
   pub generations : List ℕ
 
+-- The topology with the lent positions, three coordinates to a vertex.
 pub record Mesh : Type 0 where
   pub topology : Topology
   pub positions : List ℤ
@@ -32,6 +33,7 @@ topologyOf v f corners links generations = record {
 abbrev pub meshOf : Topology → List ℤ → Mesh
 meshOf t positions = record { topology = t; positions = positions }
 
+-- The mesh with another topology, or with other positions.
 abbrev pub withTopology : Topology → Mesh → Mesh
 withTopology t m = meshOf t (m .positions)
 
@@ -44,6 +46,7 @@ withPositions positions m = meshOf (m .topology) positions
 abbrev pub sides : Topology → ℕ
 sides m = 3 * m .triangles
 
+-- The side after h in its triangle, and the side before it.
 abbrev pub next : ℕ → ℕ
 next h = 3 * (h / 3) + (h % 3 + 1) % 3
 
@@ -69,11 +72,12 @@ link m h = getD (m .links) h 0
 abbrev pub rotate : Topology → ℕ → ℕ
 rotate m h = link m (previous h)
 
--- A cage's triangles are of generation 0. An odd triangle is a third of an even one and waits for its flip, with which it
--- becomes even.
+-- The generation of triangle t. A cage's triangles are of generation 0. An odd triangle is a third of an even one and
+-- waits for its flip, with which it becomes even.
 abbrev pub generation : Topology → ℕ → ℕ
 generation m t = getD (m .generations) t 0
 
+-- A generation is odd.
 abbrev pub odd : ℕ → Bool
 odd g = eqb (g % 2) 1
 
@@ -87,22 +91,27 @@ coordinate m v k = getD (m .positions) (3 * v + k) (pos 0)
 
 -- ---- writing one triangle's slot, one link, one vertex's slot
 
+-- A table of three entries to a slot, with these three in slot i.
 abbrev pub putThree : {A : Type 0} → ℕ → A × A × A → List A → List A
 putThree i x l = set (set (set l (3 * i) (x .0)) (3 * i + 1) (x .1)) (3 * i + 2) (x .2)
 
 -- Triangle slot t with these corners, these links and this generation.
 abbrev pub putTriangle : ℕ → ℕ × ℕ × ℕ → ℕ × ℕ × ℕ → ℕ → Topology → Topology
 putTriangle t corners links g m =
-    topologyOf (m .vertices) (m .triangles) (putThree t corners (m .corners)) (putThree t links (m .links)) (set (m .generations) t g)
+    topologyOf (m .vertices) (m .triangles)
+    (putThree t corners (m .corners))
+    (putThree t links (m .links))
+    (set (m .generations) t g)
 
 -- Side h linked to side k. The boundary is past the table, so that nothing changes where h is the boundary.
 abbrev pub relink : ℕ → ℕ → Topology → Topology
 relink h k m = topologyOf (m .vertices) (m .triangles) (m .corners) (set (m .links) h k) (m .generations)
 
+-- The same tables with other counts.
 abbrev pub withCounts : ℕ → ℕ → Topology → Topology
 withCounts v f m = topologyOf v f (m .corners) (m .links) (m .generations)
 
--- ---- slots
+-- ---- slots, which the lengths of the tables give
 
 abbrev pub vertexSlots : Mesh → ℕ
 vertexSlots m = length (m .positions) / 3
@@ -118,6 +127,7 @@ pub record TablesAgree (m : Mesh) : Type 0 where
   pub fewVertices : vertexSlots m ≤ 32768
   pub fewTriangles : triangleSlots m ≤ 65536
 
+-- The same as a test.
 unfoldable pub tablesAgree : Mesh → Bool
 tablesAgree m =
     eqb (length (m .positions)) (3 * vertexSlots m)
