@@ -7,7 +7,7 @@ use Rattle.rules.specs.Below.{all, any, lowest, total, fill}
 use Rattle.rules.specs.Cage.{cageOf, partner, loaded, sizesFit, cornersFit, coordinatesFit, sidesDiffer, fansFit}
 use Rattle.rules.specs.Calls.{closedEven, loadRefusal, refineRefusal, wholeStepRefusal, ringRefusal, positionRefusal}
 use Rattle.rules.specs.Calls.{loadCall, refineCall, wholeStepCall, ringCall, positionCall}
-use Rattle.rules.specs.History.{after, outcomes, edges, cageEdges}
+use Rattle.rules.specs.History.{after, outcomes, lastLoad, edges, cageEdges}
 use Rattle.rules.specs.Numbers.{numberAt, signed, floorDiv, nearestThird, halfUp, weights, weight, moved}
 use Rattle.rules.specs.Ring.{firstSide, fanFrom, fan, neighbours, ring}
 use Rattle.rules.specs.Sound.{isLinked, soundSide, hasOneFan, isSound}
@@ -20,8 +20,8 @@ use Rattle.rules.specs.Tables.{Mesh, topologyOf, meshOf, tablesAgree}
 unfoldable pub computing : Unit {0}
 unfolding all any lowest total fill cageOf partner loaded sizesFit cornersFit coordinatesFit sidesDiffer fansFit
     closedEven loadRefusal refineRefusal wholeStepRefusal ringRefusal positionRefusal loadCall refineCall
-    wholeStepCall ringCall positionCall after outcomes edges cageEdges numberAt signed floorDiv nearestThird halfUp
-    weights weight moved firstSide fanFrom fan neighbours ring isLinked soundSide hasOneFan isSound split flip
+    wholeStepCall ringCall positionCall after outcomes lastLoad edges cageEdges numberAt signed floorDiv nearestThird
+    halfUp weights weight moved firstSide fanFrom fan neighbours ring isLinked soundSide hasOneFan isSound split flip
     centre splitPlaced settle faceSplit chainEndWithin chainOddWithin raise refine sumOver movedCoordinate
     moveVertices refineFirst wholeStep tablesAgree
 computing = tt

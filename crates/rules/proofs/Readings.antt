@@ -1,16 +1,15 @@
 -- Places where a plausible other reading of the paper would give another result, computed from the rules.
 use Prim.Native.Nat.{ℕ}
-use mathlib.Core.List.{List, [], _∷_, map}
+use mathlib.Core.List.{List, [], _∷_, _++_, map}
 use mathlib.Core.Path.{_≡_, refl}
-use lib.IntN.{ℤ, pos, negsuc}
-use lib.ListN.{replicate}
+use lib.IntN.{pos, negsuc}
+use lib.ListN.{replicate, drop}
 use Rattle.rules.proofs.Computing.{computing, fresh, bytes, tetrahedron}
 use Rattle.rules.proofs.Examples.{lineOf, triangleOf, pointOf}
 use Rattle.rules.proofs.Refusals.{refusalAfter, flat, triangle}
-use Rattle.rules.specs.Calls.{ringCall}
-use Rattle.rules.specs.History.{Call, loads, refines, steps, asksRing, after, outcomes, outcome, edges}
+use Rattle.rules.specs.History.{Call, loads, refines, steps, asksRing, asksPosition, after, outcomes, outcome, nothing, cage, lastLoad, edges}
 use Rattle.rules.specs.Numbers.{nearestThird, halfUp}
-use Rattle.rules.specs.Tables.{Mesh, topologyOf, meshOf, generation}
+use Rattle.rules.specs.Tables.{Mesh, topologyOf, meshOf, link, generation}
 
 unfoldable pub store : Mesh
 unfolding fresh
@@ -27,14 +26,38 @@ octahedron =
     0 ∷ 1 ∷ 4 ∷ 1 ∷ 2 ∷ 4 ∷ 2 ∷ 3 ∷ 4 ∷ 3 ∷ 0 ∷ 4 ∷ 1 ∷ 0 ∷ 5 ∷ 2 ∷ 1 ∷ 5 ∷ 3 ∷ 2 ∷ 5 ∷ 0 ∷ 3 ∷ 5 ∷ []
     )) ∷ refines 0 ∷ refines 4 ∷ []
 
+unfoldable pub longChain : List Call
+unfolding tetrahedron
+longChain =
+    loads tetrahedron ∷ refines 0 ∷ refines 0 ∷ refines 0 ∷ refines 7 ∷ refines 8 ∷ refines 8 ∷ []
+
+-- Two triangles that share one side.
+unfoldable pub hinge : List ℕ
+unfolding flat
+hinge = flat 4 2 (0 ∷ 1 ∷ 2 ∷ 1 ∷ 0 ∷ 3 ∷ [])
+
+-- A triangle whose first coordinate has these four bytes.
+unfoldable pub withFirst : List ℕ → List ℕ
+unfolding bytes
+withFirst first = bytes (3 ∷ 1 ∷ []) ++ first ++ replicate 32 0 ++ bytes (0 ∷ 1 ∷ 2 ∷ [])
+
+-- A triangle with the first vertex at (-16777216, 66051, 16777216).
+unfoldable pub signedBytes : List ℕ
+unfolding bytes
+signedBytes =
+    bytes (3 ∷ 1 ∷ [])
+    ++ (0 ∷ 0 ∷ 0 ∷ 255 ∷ 3 ∷ 2 ∷ 1 ∷ 0 ∷ 0 ∷ 0 ∷ 0 ∷ 1 ∷ [])
+    ++ replicate 24 0
+    ++ bytes (0 ∷ 1 ∷ 2 ∷ [])
+
 -- Two triangles that share all three sides.
 unfoldable pub foil : List Call
 unfolding flat
 foil = loads (flat 3 2 (0 ∷ 1 ∷ 2 ∷ 0 ∷ 2 ∷ 1 ∷ [])) ∷ refines 0 ∷ refines 1 ∷ []
 
 -- The same two at generation 18, in 6 triangle slots.
-unfoldable pub old : Mesh
-old =
+unfoldable pub atEighteen : Mesh
+atEighteen =
     meshOf (topologyOf 3 2
     (0 ∷ 1 ∷ 2 ∷ 0 ∷ 2 ∷ 1 ∷ replicate 12 0)
     (5 ∷ 4 ∷ 3 ∷ 2 ∷ 1 ∷ 0 ∷ replicate 12 0)
@@ -52,12 +75,15 @@ pub record Table : Type 0 where
   pub throughSideOne₉ : triangleOf (after sideOne store) 9 ≡ 5 ∷ 8 ∷ 6 ∷ 4 ∷ []
   pub throughSideOne₆ : triangleOf (after sideOne store) 6 ≡ 3 ∷ 7 ∷ 5 ∷ 2 ∷ []
   pub throughSideOne₁ : triangleOf (after sideOne store) 1 ≡ 0 ∷ 6 ∷ 8 ∷ 4 ∷ []
+  -- A request that splits three times.
+  pub chainOfThree : map lineOf (drop 6 (outcomes longChain store)) ≡ (0 ∷ 3 ∷ 4 ∷ 12 ∷ 20 ∷ []) ∷ []
+  pub chainOfThree₈ : triangleOf (after longChain store) 8 ≡ 5 ∷ 11 ∷ 8 ∷ 6 ∷ []
   -- An even triangle rises by two where its own slot is flipped.
   pub ownSlotFlipped : triangleOf (after octahedron store) 4 ≡ 1 ∷ 6 ∷ 7 ∷ 2 ∷ []
   -- Links are no function of the corners: the nine edges here join only seven pairs of vertices.
   pub foilEdges : edges (after foil store .topology) ≡ 9
   -- Generation 19 with an even triangle across its base is refined to 20.
-  pub toTwenty : generation (after (refines 0 ∷ refines 0 ∷ []) old .topology) 0 ≡ 20
+  pub toTwenty : generation (after (refines 0 ∷ refines 0 ∷ []) atEighteen .topology) 0 ≡ 20
   -- The room that the first refine of the tetrahedron takes, and one slot less of either kind.
   pub enoughRoom : refusalAfter (loads tetrahedron ∷ []) (refines 0) (fresh 5 6) ≡ 0
   pub fewTriangleSlots : refusalAfter (loads tetrahedron ∷ []) (refines 0) (fresh 5 5) ≡ 11
@@ -65,10 +91,24 @@ pub record Table : Type 0 where
   -- A ring leaves the rest of its buffer; at the boundary it starts there, and ends with the last neighbour.
   pub closedRing : outcome (asksRing 0 (replicate 5 77)) (after (loads tetrahedron ∷ []) store) .buffer ≡ 1 ∷ 2 ∷ 3
       ∷ 77 ∷ 77 ∷ []
+  pub hingeRing : outcome (asksRing 0 (replicate 4 77)) (after (loads hinge ∷ []) store) .buffer ≡ 3 ∷ 1 ∷ 2 ∷ 77 ∷ []
   pub openRing : outcome (asksRing 0 (replicate 3 77)) (after (loads triangle ∷ []) store) .buffer ≡ 1 ∷ 2 ∷ 77 ∷ []
   -- All vertices move at once.
   pub movedTwo : pointOf (after (loads tetrahedron ∷ steps ∷ []) store) 2 ≡ pos 2 ∷ pos 4 ∷ pos 2 ∷ []
   pub movedThree : pointOf (after (loads tetrahedron ∷ steps ∷ []) store) 3 ≡ pos 2 ∷ pos 2 ∷ pos 4 ∷ []
+  -- New vertices are placed by the old positions.
+  pub placedFour : pointOf (after (loads tetrahedron ∷ steps ∷ []) store) 4 ≡ pos 3 ∷ pos 3 ∷ pos 0 ∷ []
+  -- A side alone links to 2^32 - 1.
+  pub unlinked : link (after (loads triangle ∷ []) store .topology) 0 ≡ 4294967295
+  -- Coordinates are signed, low byte first, and both limits are allowed.
+  pub signedPoint : outcome (asksPosition 0) (after (loads signedBytes ∷ []) store) .point
+      ≡ (negsuc 16777215, pos 66051, pos 16777216)
+  pub greatest : refusalAfter [] (loads (withFirst (0 ∷ 0 ∷ 0 ∷ 1 ∷ []))) store ≡ 0
+  pub least : refusalAfter [] (loads (withFirst (0 ∷ 0 ∷ 0 ∷ 255 ∷ []))) store ≡ 0
+  pub belowLeast : refusalAfter [] (loads (withFirst (255 ∷ 255 ∷ 255 ∷ 254 ∷ []))) store ≡ 4
+  -- The cage that demand 3 speaks of is that of the last accepted load.
+  pub lastAccepted : lastLoad (loads triangle ∷ loads tetrahedron ∷ loads [] ∷ steps ∷ []) store nothing
+      ≡ cage tetrahedron
   -- The nearest third, on both sides of zero.
   pub thirds : map nearestThird (pos 4 ∷ pos 5 ∷ negsuc 0 ∷ negsuc 3 ∷ negsuc 4 ∷ []) ≡ pos 1 ∷ pos 2 ∷ pos 0
       ∷ negsuc 0 ∷ negsuc 1 ∷ []
@@ -76,12 +116,15 @@ pub record Table : Type 0 where
   pub halves : halfUp (pos 5) 2 ∷ halfUp (negsuc 4) 2 ∷ [] ≡ pos 3 ∷ negsuc 1 ∷ []
 
 pub readings : Table
-unfolding computing fresh tetrahedron triangle store sideOne octahedron foil old
+unfolding computing fresh tetrahedron triangle store sideOne octahedron longChain hinge withFirst signedBytes foil
+    atEighteen
 readings = record {
   throughSideOne = refl;
   throughSideOne₉ = refl;
   throughSideOne₆ = refl;
   throughSideOne₁ = refl;
+  chainOfThree = refl;
+  chainOfThree₈ = refl;
   ownSlotFlipped = refl;
   foilEdges = refl;
   toTwenty = refl;
@@ -89,9 +132,17 @@ readings = record {
   fewTriangleSlots = refl;
   fewVertexSlots = refl;
   closedRing = refl;
+  hingeRing = refl;
   openRing = refl;
   movedTwo = refl;
   movedThree = refl;
+  placedFour = refl;
+  unlinked = refl;
+  signedPoint = refl;
+  greatest = refl;
+  least = refl;
+  belowLeast = refl;
+  lastAccepted = refl;
   thirds = refl;
   halves = refl;
 }

@@ -5,8 +5,7 @@ use mathlib.Core.Path.{_≡_, refl}
 use lib.IntN.{pos}
 use lib.ListN.{replicate, take}
 use Rattle.rules.proofs.Computing.{computing, fresh, bytes, tetrahedron}
-use Rattle.rules.specs.Calls.{Outcome}
-use Rattle.rules.specs.History.{Call, loads, refines, steps, asksRing, asksPosition, after, outcome}
+use Rattle.rules.specs.History.{Call, loads, refines, steps, asksRing, after, outcome}
 use Rattle.rules.specs.Tables.{Mesh, topologyOf, meshOf}
 
 -- The refusal of the last call, on a mesh, after the others.
@@ -41,14 +40,14 @@ grown =
     meshOf (topologyOf 3 2 (0 ∷ 1 ∷ 2 ∷ 0 ∷ 2 ∷ 1 ∷ []) (5 ∷ 4 ∷ 3 ∷ 2 ∷ 1 ∷ 0 ∷ []) (20 ∷ 20 ∷ []))
     (replicate 9 (pos 0))
 
--- The triangles of a double pyramid on 13 sides, from side k on: its apexes are 13 and 14.
-unfoldable pub pyramids : ℕ → List ℕ
-pyramids zero = []
-pyramids (suc k) = k ∷ (suc k % 13) ∷ 13 ∷ (suc k % 13) ∷ k ∷ 14 ∷ pyramids k
+-- The first k pairs of triangles of a double pyramid on n sides: its apexes are n and n + 1.
+unfoldable pub pyramids : ℕ → ℕ → List ℕ
+pyramids n zero = []
+pyramids n (suc k) = k ∷ (suc k % n) ∷ n ∷ (suc k % n) ∷ k ∷ (n + 1) ∷ pyramids n k
 
-unfoldable pub doublePyramid : List ℕ
+unfoldable pub doublePyramid : ℕ → List ℕ
 unfolding flat pyramids
-doublePyramid = flat 15 26 (pyramids 13)
+doublePyramid n = flat (n + 2) (2 * n) (pyramids n n)
 
 pub record Table : Type 0 where
   pub n1 : refusalAfter [] (loads tetrahedron) uneven ≡ 1
@@ -63,7 +62,8 @@ pub record Table : Type 0 where
   pub n10 : refusalAfter (loads triangle ∷ refines 0 ∷ []) (refines 0) small ≡ 10
   pub n11 : refusalAfter (loads tetrahedron ∷ []) (refines 0) (fresh 6 5) ≡ 11
   pub n12 : refusalAfter (loads tetrahedron ∷ refines 0 ∷ []) steps small ≡ 12
-  pub n13 : refusalAfter (loads doublePyramid ∷ []) steps (fresh 15 26) ≡ 13
+  pub n13 : refusalAfter (loads (doublePyramid 13) ∷ []) steps (fresh 15 26) ≡ 13
+  pub twelveIsAllowed : refusalAfter (loads (doublePyramid 12) ∷ []) steps (fresh 38 72) ≡ 0
   pub n14 : refusalAfter (loads tetrahedron ∷ []) (asksRing 0 (7 ∷ 7 ∷ [])) small ≡ 14
 
 pub refusals : Table
@@ -82,5 +82,6 @@ refusals = record {
   n11 = refl;
   n12 = refl;
   n13 = refl;
+  twelveIsAllowed = refl;
   n14 = refl;
 }
