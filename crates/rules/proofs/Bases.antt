@@ -63,8 +63,6 @@ pub record Child (p g c : ℕ) (m : Topology) : Type 0 where
   pub odd : g % 2 ≡ 1
   pub fresh : p ≤ origin m (3 * c + 2)
   pub other : Base m (link m (3 * c)) → origin m (3 * (link m (3 * c) / 3) + 2) < p
-  pub clear₁ : ¬ Base m (link m (3 * c + 1))
-  pub clear₂ : ¬ Base m (link m (3 * c + 2))
 
 bases : (p g c : ℕ) (m : Topology) → Manifold m → Child p g c m → Base m (link m (3 * c))
     → BasesMeet c (link m (3 * c) / 3) m

@@ -111,8 +111,8 @@ pub path-use : {m : Topology} {t v k : ℕ} → Manifold m → BasesMeetIn nowhe
 path-use F K l (ends f) = l
 path-use {m} F K l (across {t = t} o r p) = path-use F K (falls m F K t l o r .0) p
 
-trans≤ : (a b c d : ℕ) → b + (1 + d) ≡ c → a ≤ b → a ≤ c
-trans≤ a b c d e i = omega arith
+below-sum : (a b c d : ℕ) → b + (1 + d) ≡ c → a ≤ b → a ≤ c
+below-sum a b c d e i = omega arith
 
 pub path-top : {m : Topology} {u t v k : ℕ} → Manifold m → BasesMeetIn nowhere m → t < m .triangles
     → generation m t % 2 ≡ 1 → link m (3 * t) ≢ boundary → link m (3 * t) / 3 ≡ u → Path m u v k
@@ -121,7 +121,7 @@ path-top {m} {t = t} F K l o r e (ends {t = u} f) x =
     top-one m t u x
     (subst (λ (y : ℕ). generation m y + (1 + generation m y % 2) ≡ generation m t) e (falls m F K t l o r .1))
 path-top {m} {t = t} F K l o r e (across {t = u} {v = v} o′ r′ p) x =
-    trans≤ (topOf m v x) (generation m u) (generation m t) (generation m u % 2)
+    below-sum (topOf m v x) (generation m u) (generation m t) (generation m u % 2)
     (subst (λ (y : ℕ). generation m y + (1 + generation m y % 2) ≡ generation m t) e (falls m F K t l o r .1))
     (path-top F K (subst (λ (y : ℕ). y < m .triangles) e (falls m F K t l o r .0)) o′ r′ refl p x)
 

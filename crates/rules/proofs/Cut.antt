@@ -84,7 +84,6 @@ pub record CutResult (v g p r : ℕ) (m n : Topology) : Type 0 where
   pub links : length (n .links) ≡ length (m .links)
   pub generations : length (n .generations) ≡ length (m .generations)
   pub boundaryCount : boundarySides n ≡ boundarySides m + r
-  pub high : generation m v < g
   pub odd : g % 2 ≡ 1
   pub own : generation m v < generation n v
   pub follow : (x t : ℕ) → x < m .triangles → g < generation m x → Follow x t m → Follow x t n
@@ -103,8 +102,8 @@ pub record CutResult (v g p r : ℕ) (m n : Topology) : Type 0 where
 
 module _ (v g : ℕ) (cs : List ℕ) (p r : ℕ) (m one n : Topology) (F : Manifold m) (b : v < m .triangles)
     (C : Cut v g cs p r m one) (S : Settled cs one n) where
-  calm₁ : BasesMeetIn nowhere m → BasesMeetIn (Among cs) one
-  calm₁ K h l x y = go (C .bases h l x)
+  bases-of-cut : BasesMeetIn nowhere m → BasesMeetIn (Among cs) one
+  bases-of-cut K h l x y = go (C .bases h l x)
     where
       O : Manifold one
       O = C .manifold
@@ -123,14 +122,14 @@ module _ (v g : ℕ) (cs : List ℕ) (p r : ℕ) (m one n : Topology) (F : Manif
           elim (K h i (old h i j x) (subst (λ (a : ℕ). Base m a) e (old (link one h) i′ j′ y)))
           [ inl a ↦ absurd a | inr a ↦ absurd a ]
 
-      og : h < sides m → h / 3 ≢ v → ((link one h < sides m) × (link one h / 3 ≢ v)) ⊎ Among cs (link one h / 3)
+      by-kind : h < sides m → h / 3 ≢ v → ((link one h < sides m) × (link one h / 3 ≢ v)) ⊎ Among cs (link one h / 3)
           → Among cs (h / 3) ⊎ Among cs (link one h / 3)
-      og i j (inr a) = inr a
-      og i j (inl a) = both i j (a .0) (a .1) (ℕ-discrete (link m h / 3) v)
+      by-kind i j (inr a) = inr a
+      by-kind i j (inl a) = both i j (a .0) (a .1) (ℕ-discrete (link m h / 3) v)
 
       go : ((h < sides m) × (h / 3 ≢ v)) ⊎ Among cs (h / 3) → Among cs (h / 3) ⊎ Among cs (link one h / 3)
       go (inr a) = inl a
-      go (inl a) = og (a .0) (a .1) (C .bases (link one h) (M .inUse) y)
+      go (inl a) = by-kind (a .0) (a .1) (C .bases (link one h) (M .inUse) y)
 
   -- The triangles whose base meets v are of generation g or below.
   near : (x : ℕ) → x < m .triangles → link m (3 * x) ≢ boundary → link m (3 * x) / 3 ≡ v → generation m x ≤ g
@@ -243,9 +242,9 @@ module _ (v g : ℕ) (cs : List ℕ) (p r : ℕ) (m one n : Topology) (F : Manif
       e : generation one x ≡ generation m x
       e = C .generations x l ne
 
-      og : Among cs x ⊎ Met x one cs → (link m (3 * x) ≢ boundary) × (link m (3 * x) / 3 ≡ v)
-      og (inl a) = absurd (ne (C .mine x l a))
-      og (inr a) = back x l ne a
+      by-kind : Among cs x ⊎ Met x one cs → (link m (3 * x) ≢ boundary) × (link m (3 * x) / 3 ≡ v)
+      by-kind (inl a) = absurd (ne (C .mine x l a))
+      by-kind (inr a) = back x l ne a
 
       up : (generation n x ≡ generation one x) ⊎ (generation n x ≡ suc g) → generation n x ≡ suc g
       up (inl a) = absurd (d (a ∙ e))
@@ -256,7 +255,7 @@ module _ (v g : ℕ) (cs : List ℕ) (p r : ℕ) (m one n : Topology) (F : Manif
       go (no q) = absurd (d (rest x (λ w. q (sym e ∙ w)) ∙ e))
       go (yes q) =
           let a =
-          og
+          by-kind
           (settled-moved (m .vertices) g x S (C .children) (C .distinct) (λ w. d (w ∙ e))
           (ap (λ (y : ℕ). y % 2) (e ∙ q) ∙ C .odd)) in
           (a .0, a .1, q, up (settled-spread (m .vertices) g x S (C .children) (C .distinct)))
@@ -304,14 +303,13 @@ module _ (v g : ℕ) (cs : List ℕ) (p r : ℕ) (m one n : Topology) (F : Manif
       let T : Still one n = settled-still S (C .manifold) in
       record {
         manifold = settled-manifold S (C .manifold);
-        basesMeet = λ K. settled-bases (m .vertices) g S (C .manifold) (C .children) (C .distinct) (calm₁ K);
+        basesMeet = λ K. settled-bases (m .vertices) g S (C .manifold) (C .children) (C .distinct) (bases-of-cut K);
         vertices = E .vertices ∙ C .vertices;
         triangles = E .triangles ∙ C .triangles;
         corners = E .corners ∙ C .cornerRoom;
         links = E .links ∙ C .linkRoom;
         generations = E .generations ∙ C .generationRoom;
         boundaryCount = settled-boundary S (C .manifold) ∙ C .boundaryCount;
-        high = C .high;
         odd = C .odd;
         own = omega (arith, C .own, T .mono v (omega (arith, C .triangles)));
         follow = follow;

@@ -7,7 +7,7 @@ use native.Mathlib.Omega.{arith}
 use native.Mathlib.Decide.{ℕ-discrete}
 use lib.Dec.{T, eqb, ltb, lt→ltb, ltb→lt}
 use Rattle.rules.proofs.Bases.{Settling, kept, flipped}
-use Rattle.rules.proofs.FlipKeeps.{BasesMeet, meet′}
+use Rattle.rules.proofs.FlipKeeps.{BasesMeet, meet-back}
 use Rattle.rules.proofs.FlipRead.{Flips}
 use Rattle.rules.proofs.Manifold.{Manifold, Joined}
 use Rattle.rules.proofs.Sides.{renameTwo, eqb-yes, eqb-no, rename-a, rename-b, rename-else}
@@ -95,11 +95,11 @@ module _ (m : Topology) (F : Manifold m) where
   down-is j l = go (F .linked j l)
     where
       back : (h : ℕ) → h < sides m → link m h ≡ j → link m j ≡ h
-      back h i e = og (F .linked h i)
+      back h i e = at-pair (F .linked h i)
         where
-          og : Joined m h → link m j ≡ h
-          og (inl q) = let w = few in absurd (omega arith)
-          og (inr M) = rw e at (M .back)
+          at-pair : Joined m h → link m j ≡ h
+          at-pair (inl q) = let w = few in absurd (omega arith)
+          at-pair (inr M) = rw e at (M .back)
 
       go : Joined m j → bit (ltb (link m j) j) ≡ total (3 * m .triangles) (λ h. A h j)
       go (inl e) =
@@ -119,11 +119,11 @@ module _ (m : Topology) (F : Manifold m) where
       ne (inr M) q = no-self m h F l M (ap (λ (x : ℕ). x / 3) q)
 
       go : Joined m h → Dec (bit (ltb h (link m h)) ≡ 1) → bit (ltb h (link m h)) + bit (ltb (link m h) h) ≡ 1
-      go L (yes e) = og (ltb h (link m h)) (ltb→lt h (link m h)) e
+      go L (yes e) = at-pair (ltb h (link m h)) (ltb→lt h (link m h)) e
         where
-          og : (c : Bool) → (T c → h < link m h) → bit c ≡ 1 → bit c + bit (ltb (link m h) h) ≡ 1
-          og true t x = let y = t tt in let z = bit-ge (link m h) h (omega arith) in omega arith
-          og false t x = absurd (omega arith)
+          at-pair : (c : Bool) → (T c → h < link m h) → bit c ≡ 1 → bit c + bit (ltb (link m h) h) ≡ 1
+          at-pair true t x = let y = t tt in let z = bit-ge (link m h) h (omega arith) in omega arith
+          at-pair false t x = absurd (omega arith)
       go L (no e) =
           let n = ne L in
           let i : link m h ≤ h = lnk≤ (λ q. e (bit-lt h (link m h) q)) in
@@ -238,7 +238,7 @@ flip-boundary s u m n F B S =
     let u₁ = w-new n (3 * u + 1) (3 * s + 1) (S .linksU .1) (omega arith) in
     let u₂ : w n (3 * u + 2) ≡ w m (3 * u + 2) = same (3 * u + 2) (3 * u + 2) (S .linksU .2) in
     let a₀ = w-new m (3 * s) (3 * u) (B .meet) (omega arith) in
-    let b₀ = w-new m (3 * u) (3 * s) (meet′ s u m n F B S) (omega arith) in
+    let b₀ = w-new m (3 * u) (3 * s) (meet-back s u m n F B S) (omega arith) in
     let c : total f (row (w n)) + row (w m) s + row (w m) u ≡ total f (row (w m)) + row (w n) s + row (w n) u =
     total-change₂ f s u (row (w m)) (row (w n)) bs bu (B .differ) (λ x l i j. far x l i j) in
     let d : total (n .triangles) (row (w n)) ≡ total f (row (w n)) =

@@ -45,10 +45,6 @@ other v m n F N corners h k l i e c =
     let o : origin m (3 * u + 2) < m .vertices = F .corner (3 * u + 2) (omega arith) in
     omega arith
 
--- A side that meets no base.
-off : (n : Topology) (h k : ℕ) → link n h ≡ k → k % 3 ≢ 0 → ¬ Base n (link n h)
-off n h k e q b = q (ap (λ (x : ℕ). x % 3) (sym e) ∙ b .0)
-
 -- ---- the face split
 
 module _ (v : ℕ) (m n : Topology) (F : Manifold m) (b : v < m .triangles) (flat : generation m v % 2 ≡ 0)
@@ -77,8 +73,6 @@ module _ (v : ℕ) (m n : Topology) (F : Manifold m) (b : v < m .triangles) (fla
             odd = o;
             fresh = omega (arith, S .cornersT .2);
             other = other v m n F N (S .corners) (3 * v) (3 * v) (omega arith) (omega arith) (S .linksT .0);
-            clear₁ = off n (3 * v + 1) (3 * f + 2) (S .linksT .1) (omega arith);
-            clear₂ = off n (3 * v + 2) (3 * e + 1) (S .linksT .2) (omega arith);
           },
           (
             record {
@@ -87,8 +81,6 @@ module _ (v : ℕ) (m n : Topology) (F : Manifold m) (b : v < m .triangles) (fla
               odd = o;
               fresh = omega (arith, S .cornersF .2);
               other = other v m n F N (S .corners) (3 * v + 1) (3 * f) (omega arith) (omega arith) (S .linksF .0);
-              clear₁ = off n (3 * f + 1) (3 * e + 2) (S .linksF .1) (omega arith);
-              clear₂ = off n (3 * f + 2) (3 * v + 1) (S .linksF .2) (omega arith);
             },
             (
               record {
@@ -97,8 +89,6 @@ module _ (v : ℕ) (m n : Topology) (F : Manifold m) (b : v < m .triangles) (fla
                 odd = o;
                 fresh = omega (arith, S .cornersE .2);
                 other = other v m n F N (S .corners) (3 * v + 2) (3 * e) (omega arith) (omega arith) (S .linksE .0);
-                clear₁ = off n (3 * e + 1) (3 * v + 2) (S .linksE .1) (omega arith);
-                clear₂ = off n (3 * e + 2) (3 * f + 1) (S .linksE .2) (omega arith);
               },
               tt,
             ),

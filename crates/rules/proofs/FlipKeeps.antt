@@ -70,8 +70,8 @@ module _ (s u : ℕ) (m n : Topology) (F : Manifold m) (B : BasesMeet s u m) (S 
       go (inl e) = absurd (omega (arith, B .meet, B .useU, F .slots, F .generationRoom))
       go (inr M) = M
 
-  pub meet′ : link m (3 * u) ≡ 3 * s
-  meet′ = rw (B .meet) at (partneredS .back)
+  pub meet-back : link m (3 * u) ≡ 3 * s
+  meet-back = rw (B .meet) at (partneredS .back)
 
   sameB : origin m (3 * u) ≡ origin m (3 * s + 1)
   sameB = (rw (B .meet) at (partneredS .from)) ∙ target₀ m s
@@ -214,7 +214,7 @@ module _ (s u : ℕ) (m n : Topology) (F : Manifold m) (B : BasesMeet s u m) (S 
         links = link′;
         stays = λ h l k M. (
           (λ e. k .1 (sym (M .back) ∙ ap (λ (x : ℕ). link m x) e ∙ B .meet)),
-          (λ e. k .0 (sym (M .back) ∙ ap (λ (x : ℕ). link m x) e ∙ meet′)),
+          (λ e. k .0 (sym (M .back) ∙ ap (λ (x : ℕ). link m x) e ∙ meet-back)),
         );
       }
 
@@ -261,8 +261,8 @@ module _ (s u : ℕ) (m n : Topology) (F : Manifold m) (B : BasesMeet s u m) (S 
       (omega (arith, S .cornersU .0), omega (arith, S .cornersU .1), omega (arith, S .cornersU .2))
       (λ h l i j. omega (arith, S .corners h i j, F .corner h l))
 
-  apart′ : (k : ℕ) → k < sides n → origin n k ≢ target n k
-  apart′ =
+  apart : (k : ℕ) → k < sides n → origin n k ≢ target n k
+  apart =
       let c = corners in
       by-new (λ k. origin n k ≢ target n k) (
         (λ e. c .aq (sameA ∙ sym (S .cornersS .0) ∙ e ∙ target₀ n s ∙ S .cornersS .1)),
@@ -295,7 +295,7 @@ module _ (s u : ℕ) (m n : Topology) (F : Manifold m) (B : BasesMeet s u m) (S 
             (rotate₁ n u ∙ S .linksU .0) (omega (arith, rotate₂ m s)))),
       ) (
         (λ l. rw (rotate₀ m u, own-u₂) (go-on here (rotate₀ n u ∙ S .linksU .2) (omega (arith, rotate₀ m u)))),
-        (λ l. rw (rotate₁ m u, meet′, r-else (3 * s) (omega arith) (omega arith)) here),
+        (λ l. rw (rotate₁ m u, meet-back, r-else (3 * s) (omega arith) (omega arith)) here),
         (λ l. rw (rotate₂ m u, own-u₁) (go-on (go-on here (rotate₂ n u ∙ S .linksU .1) (omega arith))
             (rotate₁ n s ∙ S .linksS .0) (omega (arith, rotate₂ m u)))),
       )
@@ -347,7 +347,7 @@ module _ (s u : ℕ) (m n : Topology) (F : Manifold m) (B : BasesMeet s u m) (S 
             (sym (r-else h (omega arith) (omega arith))) here,
       ))
 
-  -- A flip keeps a firm mesh firm.
+  -- A flip keeps a manifold one.
   pub flip-manifold : Manifold n
   flip-manifold = record {
     slots = omega (arith, S .generationRoom, F .slots);
@@ -356,7 +356,7 @@ module _ (s u : ℕ) (m n : Topology) (F : Manifold m) (B : BasesMeet s u m) (S 
     linkRoom = omega (arith, S .triangles, S .linkRoom, F .linkRoom);
     generationRoom = omega (arith, S .triangles, S .generationRoom, F .generationRoom);
     corner = corner′;
-    distinct = apart′;
+    distinct = apart;
     linked = linked′;
     fan = λ v l.
         fan-map m n r step v (λ h i. (renames .into h i, origin′ h i)) (every v)

@@ -15,7 +15,7 @@ use Rattle.rules.proofs.FaceSplit.{Room}
 use Rattle.rules.proofs.Manifold.{Manifold, BasesMeetIn}
 use Rattle.rules.proofs.Past.{Past, past-on}
 use Rattle.rules.proofs.Places.{Places, places-on}
-use Rattle.rules.proofs.Runs.{Splittable, isEven, Run, finish, first, cut, cut-face}
+use Rattle.rules.proofs.Runs.{Splittable, isEven, cut, cut-face}
 use Rattle.rules.proofs.Settled.{nowhere, still-on}
 use Rattle.rules.specs.Promises.{Still, odds}
 use Rattle.rules.specs.Split.{Work, faceSplit, chainEndWithin, raise}
@@ -125,7 +125,6 @@ pub record Raised (t top s q : ℕ) (d e : Work) : Type 0 where
   pub past : (b : ℕ) → reached e .triangles ≤ b → Past b (reached d) (reached e)
   pub odd : 2 * e .flips + odds (reached e) ≡ 2 * d .flips + odds (reached d) + 3 * s
   pub places : Places (d .mesh) (e .mesh)
-  pub run : Run s d e
 
 module _ (t top v : ℕ) (d : Work) (x : Splittable (reached d) v) (F : Manifold (reached d))
     (K : BasesMeetIn nowhere (reached d)) (b : v < reached d .triangles) (high : topOf (reached d) v x ≤ top) where
@@ -152,7 +151,6 @@ module _ (t top v : ℕ) (d : Work) (x : Splittable (reached d) v) (F : Manifold
         past = S .past;
         odd = X .odd;
         places = X .places;
-        run = first v b R x finish;
       }
 
   split-first : (s : ℕ) (e : Work) → Room 1 (reached d)
@@ -178,7 +176,6 @@ module _ (t top v : ℕ) (d : Work) (x : Splittable (reached d) v) (F : Manifold
         past = λ b i. past-on (S .past b (omega (arith, I .triangles))) (I .past b i);
         odd = omega (arith, X .odd, I .odd);
         places = places-on (X .places) (I .places);
-        run = first v b R x (I .run);
       }
 
 pub room-first : (s : ℕ) (m : Topology) → Room (suc s) m → Room 1 m

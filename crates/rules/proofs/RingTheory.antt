@@ -82,14 +82,14 @@ module _ (m : Topology) (G : Glued m) (v s : ℕ) (l : List ℕ) (S : Starts m v
   last-side : suc (length l - 1) ≡ length l
   last-side = omega (arith, W .some)
 
-  inner′ : ¬ OnBoundary m v → length (neighbours m l) ≡ triangleCount m v
-  inner′ n =
+  inner-length : ¬ OnBoundary m v → length (neighbours m l) ≡ triangleCount m v
+  inner-length n =
       let a = neighbours-count (length l - 1) last-side in
       let b = bit-ne (rotate m (sideAt l (length l - 1))) boundary (λ q. n (to-boundary (length l - 1) last-side q)) in
       omega arith
 
-  outer′ : OnBoundary m v → length (neighbours m l) ≡ triangleCount m v + 1
-  outer′ x =
+  outer-length : OnBoundary m v → length (neighbours m l) ≡ triangleCount m v + 1
+  outer-length x =
       let a = neighbours-count (length l - 1) last-side in
       let b = bit-eq (rotate m (sideAt l (length l - 1))) boundary (of-boundary (length l - 1) last-side x) in
       omega arith
@@ -116,8 +116,8 @@ ring-of m G v f =
       meets = M .all;
       once = W .once;
       entries = neighbours-at m (fan m v);
-      inner = inner′ m G v s (fan m v) S W (M .all);
-      outer = outer′ m G v s (fan m v) S W (M .all);
+      inner = inner-length m G v s (fan m v) S W (M .all);
+      outer = outer-length m G v s (fan m v) S W (M .all);
       lastEntry = λ b i e. neighbours-last m (fan m v) i e (of-boundary m G v s (fan m v) S W (M .all) i e b);
     }
 

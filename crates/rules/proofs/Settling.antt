@@ -65,12 +65,10 @@ module _ (s u : ℕ) (m n : Topology) (B : BasesMeet s u m) (S : Flips s u m n) 
               S .corners (3 * k + 2)
                   (omega arith) (omega arith),
             );
-        clear₁ = λ b. D .clear₁ (meets-base (3 * c + 1) (omega arith) (omega arith) (omega arith) b .1);
-        clear₂ = λ b. D .clear₂ (meets-base (3 * c + 2) (omega arith) (omega arith) (omega arith) b .1);
       }
 
-  calmer : (X : ℕ → Type 0) → BasesMeetIn (λ x. (x ≡ s) ⊎ X x) m → BasesMeetIn X n
-  calmer X K h l b c =
+  fewer-meet : (X : ℕ → Type 0) → BasesMeetIn (λ x. (x ≡ s) ⊎ X x) m → BasesMeetIn X n
+  fewer-meet X K h l b c =
       let x = still-base h b in
       let y = still-base (link n h) c in
       let w = S .triangles in
@@ -94,7 +92,7 @@ settling-child p g c d m n (flipped u B S) C D e = third c u m n B S p g d C D e
 
 pub settling-bases : (p g c : ℕ) (X : ℕ → Type 0) (m n : Topology) → Manifold m → Child p g c m → Settling c m n
     → BasesMeetIn (λ x. (x ≡ c) ⊎ X x) m → BasesMeetIn X n
-settling-bases p g c X m n F C (flipped u B S) K = calmer c u m n B S X K
+settling-bases p g c X m n F C (flipped u B S) K = fewer-meet c u m n B S X K
 settling-bases p g c X m n F C (kept no-base) K = λ h l b d. go h l b d (K h l b d)
   where
     go : (h : ℕ) → h < sides m → Base m h → Base m (link m h)

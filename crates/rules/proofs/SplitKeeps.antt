@@ -208,8 +208,8 @@ module _ (t : ℕ) (m n : Topology) (F : Manifold m) (b : t < m .triangles) (fla
       (omega (arith, S .cornersE .0), omega (arith, S .cornersE .1), omega (arith, S .cornersE .2))
       (λ h l i. omega (arith, S .corners h l i, F .corner h l))
 
-  apart′ : (k : ℕ) → k < sides n → origin n k ≢ target n k
-  apart′ =
+  apart : (k : ℕ) → k < sides n → origin n k ≢ target n k
+  apart =
       let a = inA in
       let b′ = inB in
       let c = inC in
@@ -350,7 +350,7 @@ module _ (t : ℕ) (m n : Topology) (F : Manifold m) (b : t < m .triangles) (fla
       go (yes e) = rw e fan-new
       go (no e) = fan-old v (omega (arith, S .vertices))
 
-  -- A face split keeps a firm mesh firm.
+  -- A face split keeps a manifold one.
   pub split-manifold : 3 * m .triangles + 6 ≤ length (m .corners) → 3 * m .triangles + 6 ≤ length (m .links)
       → m .triangles + 2 ≤ length (m .generations) → Manifold n
   split-manifold x y z = record {
@@ -360,7 +360,7 @@ module _ (t : ℕ) (m n : Topology) (F : Manifold m) (b : t < m .triangles) (fla
     linkRoom = omega (arith, S .triangles, S .linkRoom);
     generationRoom = omega (arith, S .triangles, S .generationRoom);
     corner = corner′;
-    distinct = apart′;
+    distinct = apart;
     linked = linked′;
     fan = fan′;
   }
