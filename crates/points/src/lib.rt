@@ -8,6 +8,7 @@ ghost use Rattle.rules.specs.Numbers.{inRange, nearestThird, halfUp, weight, mo
 ghost use Rattle.points.specs.Axes.{at, eachTotal, thirds, movedPoint, plus, SumOf, SumOfPoints};
 
 // A point, in units of 1/1024 mm.
+#[repr(C)]
 pub struct Point {
     pub x: i32,
     pub y: i32,

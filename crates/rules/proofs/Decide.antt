@@ -2,7 +2,8 @@
 use mathlib.Core.Path.{_≡_, refl, sym, subst}
 use mathlib.Core.Logic.{_⊎_, inl, inr}
 use mathlib.Core.Bool.{Bool, true, false, not, _&&_, _||_}
-use Prim.Native.Nat.{ℕ, zero, suc, _≤_, _<_}
+use Prim.Native.Nat.{ℕ, zero, suc, _+_, _≤_, _<_}
+use native.Mathlib.Numerals.{add-one}
 use native.Mathlib.Omega.{arith}
 use native.Mathlib.Decide.{ℕ-discrete}
 use lib.Dec.{T, eqb, leb, ltb, lt→ltb, ltb→lt, le→leb, leb→le, eqb-refl, eqb→eq}
@@ -31,6 +32,22 @@ is-not {b = false} d = record { holds = λ x p. d .passes p; passes = λ n. tt }
 
 pub is-iff : {b : Bool} {P Q : Type 0} → (P → Q) → (Q → P) → Decides b P → Decides b Q
 is-iff f g d = record { holds = λ x. f (d .holds x); passes = λ q. d .passes (g q) }
+
+pub is-true : {P : Type 0} → P → Decides true P
+is-true p = record { holds = λ x. p; passes = λ x. tt }
+
+pub is-false : {P : Type 0} → ¬ P → Decides false P
+is-false n = record { holds = λ x. absurd x; passes = n }
+
+pub when-true : {b : Bool} {P : Type 0} → Decides b P → b ≡ true → P
+when-true d e = d .holds (subst T (sym e) tt)
+
+-- Tests of one thing are equal.
+pub is-same : {a b : Bool} {P : Type 0} → Decides a P → Decides b P → a ≡ b
+is-same {a = true} {b = true} d e = refl
+is-same {a = true} {b = false} d e = absurd (e .passes (d .holds tt))
+is-same {a = false} {b = true} d e = absurd (d .passes (e .holds tt))
+is-same {a = false} {b = false} d e = refl
 
 -- A second test that says what it should only where the first holds.
 pub is-then : {a b : Bool} {P Q : Type 0} → Decides a P → (P → Decides b Q) → Decides (a && b) (P × Q)
@@ -61,6 +78,16 @@ is-all (suc n) p P d =
     go : ((h : ℕ) → h < n → P h) × P n → (h : ℕ) → h < suc n → Dec (h ≡ n) → P h
     go x h l (yes e) = rw e (x .1)
     go x h l (no e) = x .0 h (omega arith)
+
+-- Every number below n + 1 passes where every one below n does, and n.
+pub all-more : (n : ℕ) (p : ℕ → Bool) → all n p ≡ true → p n ≡ true → all (n + 1) p ≡ true
+unfolding all
+all-more n p e f = rw (add-one, all, e, f)
+
+-- Not every number below n passes where i does not.
+pub all-fails : (n i : ℕ) (p : ℕ → Bool) → i < n → p i ≡ false → all n p ≡ false
+all-fails n i p l e =
+    is-same (is-all n p (λ h. T (p h)) (λ h k. is-self (p h))) (is-false (λ f. subst T e (f i l)))
 
 -- ---- the lowest number that passes
 

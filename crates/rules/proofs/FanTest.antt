@@ -9,7 +9,7 @@ use lib.ListN.{length}
 use lib.Dec.{T, eqb}
 use Rattle.rules.proofs.Decide.{Decides, is-eq, is-lt, is-iff, is-and}
 use Rattle.rules.proofs.Fans.{Walked, Starts, sideAt, Meets, walk-walked, first-side, first-in-use, fan-walked, fan-some}
-use Rattle.rules.proofs.Pigeonhole.{each-reached, as-many}
+use Rattle.rules.proofs.Pigeonhole.{no-more, each-reached, as-many}
 use Rattle.rules.proofs.Renaming.{turns-trans}
 use Rattle.rules.proofs.Turning.{Glued, rotate-inner, before}
 use Rattle.rules.specs.Promises.{triangleCount}
@@ -73,10 +73,24 @@ module _ (m : Topology) (s : ℕ) (l : List ℕ) (W : Walked m s l) where
     passes : (i : ℕ) → i < length l → T (eqb (origin m (sideAt l i)) v)
     passes i k = is-eq (origin m (sideAt l i)) v .passes (W .out i k ∙ o)
 
+    -- A walk meets no more sides than go out of v.
+    pub no-more-met : length l ≤ triangleCount m v
+    no-more-met = no-more (sides m) (length l) (sideAt l) (λ h. eqb (origin m h) v) (W .inUse) passes differ
+
+    -- A walk that meets as many meets each.
     pub all-met : length l ≡ triangleCount m v → (h : ℕ) → h < sides m → origin m h ≡ v → Meets l h
     all-met e h b q =
         each-reached (sides m) (length l) (sideAt l) (λ h. eqb (origin m h) v) (W .inUse) passes differ e h b
         (is-eq (origin m h) v .passes q)
+
+    -- The sides that a walk meets are one fan where it meets each.
+    pub met-fan : ((h : ℕ) → h < sides m → origin m h ≡ v → Meets l h) → OneFan m v
+    met-fan r = record { first = s; inUse = rw (W .first) at (W .inUse 0 (W .some)); out = o; all = reach }
+      where
+        reach : (h : ℕ) → h < sides m → origin m h ≡ v → Turns m s h
+        reach h b q =
+            let x = r h b q in
+            subst (λ (k : ℕ). Turns m k h) (W .first) (rw (x .2) at (ahead 0 (x .0) (omega arith) (x .1)))
 
     pub all-counted : ((h : ℕ) → h < sides m → origin m h ≡ v → Meets l h) → length l ≡ triangleCount m v
     all-counted r = as-many (sides m) (length l) (sideAt l) (λ h. eqb (origin m h) v) (W .inUse) passes differ
@@ -90,18 +104,6 @@ pub record MeetsAll (m : Topology) (v : ℕ) : Type 0 where
   pub all : (h : ℕ) → h < sides m → origin m h ≡ v → Meets (fan m v) h
 
 module _ (m : Topology) (G : Glued m) (v : ℕ) where
-  met-fan : MeetsAll m v → OneFan m v
-  met-fan M = record { first = firstSide m v; inUse = M .start; out = first-side m v (M .start) .out; all = reach }
-    where
-      W : Walked m (firstSide m v) (fan m v)
-      W = fan-walked m v G (M .start)
-
-      reach : (h : ℕ) → h < sides m → origin m h ≡ v → Turns m (firstSide m v) h
-      reach h b o =
-          let x = M .all h b o in
-          subst (λ (s : ℕ). Turns m s h) (W .first)
-          (rw (x .2) at (ahead m (firstSide m v) (fan m v) W 0 (x .0) (omega arith) (x .1)))
-
   -- In one fan turning leads to all from a side on the boundary, and from any side out of v where none is.
   module _ (f : OneFan m v) (s : ℕ) (S : Starts m v s) where
     l : List ℕ
@@ -114,7 +116,7 @@ module _ (m : Topology) (G : Glued m) (v : ℕ) where
     at : (h : ℕ) → h < sides m → origin m h ≡ v → Meets l h
     at h b o = W .met (f .all h b o)
 
-    reach : (h : ℕ) → h < sides m → origin m h ≡ v → Turns m s h
+    pub reach : (h : ℕ) → h < sides m → origin m h ≡ v → Turns m s h
     reach h b o = go (S .best)
       where
         x : Meets l s
@@ -144,7 +146,9 @@ module _ (m : Topology) (G : Glued m) (v : ℕ) where
       to-fan : (0 < length (fan m v)) × (length (fan m v) ≡ triangleCount m v) → OneFan m v
       to-fan x =
           let i : firstSide m v < sides m = fan-some m v (x .0) in
-          met-fan (record { start = i; all = all-met m (firstSide m v) (fan m v) (fan-walked m v G i) v (first-side m v i .out) (x .1) })
+          let W = fan-walked m v G i in
+          let o = first-side m v i .out in
+          met-fan m (firstSide m v) (fan m v) W v o (all-met m (firstSide m v) (fan m v) W v o (x .1))
 
       of-fan : OneFan m v → (0 < length (fan m v)) × (length (fan m v) ≡ triangleCount m v)
       of-fan f =

@@ -74,3 +74,8 @@ module _ (g i h j : ℕ) where
   pub level-kind : (g + min 1 i) / 2 ≡ (h + min 1 j) / 2 → (BaseOf g i → BaseOf h j → ⊥)
       → T (fiveKinds (roleOf g i) (roleOf h j))
   level-kind = of-level g i h j (role-is g i) (role-is h j)
+
+-- The order of the two sides does not matter.
+pub kind-other-way : (g i h j : ℕ) → T (fiveKinds (roleOf g i) (roleOf h j)) → T (fiveKinds (roleOf h j) (roleOf g i))
+kind-other-way g i h j t =
+    level-kind h j g i (sym (kind-level g i h j t)) (λ a b. kind-bases g i h j t b a)

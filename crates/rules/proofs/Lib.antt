@@ -28,6 +28,7 @@ pub mod Pigeonhole
 pub mod Turning
 pub mod Fans
 pub mod FanTest
+pub mod FanTotal
 pub mod SoundTest
 pub mod RingTheory
 pub mod Fill
@@ -44,6 +45,10 @@ pub mod RingVertices
 pub mod WholeStep
 pub mod CallRefusals
 pub mod Carried
+pub mod RefineLoop
+pub mod StepLoop
+pub mod ClosedRings
+pub mod StepRefusals
 pub mod Histories
 pub mod Outcomes
 pub mod Results

@@ -16,7 +16,7 @@ total-le zero f g e = omega arith
 total-le (suc n) f g e = let a = total-le n f g (λ h l. e h (omega arith)) in let b = e n (omega arith) in omega arith
 
 -- Terms that are at most others and add up to as much are those.
-total-tight : (n : ℕ) (f g : ℕ → ℕ) → ((h : ℕ) → h < n → f h ≤ g h) → total n f ≡ total n g → (h : ℕ) → h < n
+pub total-tight : (n : ℕ) (f g : ℕ → ℕ) → ((h : ℕ) → h < n → f h ≤ g h) → total n f ≡ total n g → (h : ℕ) → h < n
     → f h ≡ g h
 unfolding total
 total-tight zero f g e s h l = absurd (omega arith)

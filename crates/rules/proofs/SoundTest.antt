@@ -38,7 +38,7 @@ tables-agree-is m =
 -- ---- one side
 
 module _ (m : Topology) (h : ℕ) where
-  linked-is : Decides (isLinked m h) (Linked m h)
+  pub linked-is : Decides (isLinked m h) (Linked m h)
   unfolding isLinked
   linked-is =
       let k : ℕ = link m h in
@@ -52,12 +52,12 @@ module _ (m : Topology) (h : ℕ) where
       (is-eq (target m k) (origin m h)))
       (is-self (fiveKinds (role m h) (role m k))))
 
-  record SoundSide : Type 0 where
-    corner : origin m h < m .vertices
-    distinct : origin m h ≢ target m h
-    linked : (link m h ≡ boundary) ⊎ Linked m h
+  pub record SoundSide : Type 0 where
+    pub corner : origin m h < m .vertices
+    pub distinct : origin m h ≢ target m h
+    pub linked : (link m h ≡ boundary) ⊎ Linked m h
 
-  sound-side-is : Decides (soundSide m h) SoundSide
+  pub sound-side-is : Decides (soundSide m h) SoundSide
   unfolding soundSide
   sound-side-is =
       is-iff (λ ((c, d), l). record { corner = c; distinct = d; linked = l }) (λ S. ((S .corner, S .distinct), S .linked))
@@ -67,7 +67,7 @@ module _ (m : Topology) (h : ℕ) where
 -- ---- the whole
 
 -- What is tested before the fans is what the walks need.
-glued : (m : Mesh) → TablesAgree m → m .topology .triangles ≤ triangleSlots m
+pub glued : (m : Mesh) → TablesAgree m → m .topology .triangles ≤ triangleSlots m
     → ((h : ℕ) → h < sides (m .topology) → SoundSide (m .topology) h) → Glued (m .topology)
 glued m A f s = record {
   few = omega (arith, A .fewTriangles);

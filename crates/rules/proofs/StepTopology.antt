@@ -82,7 +82,7 @@ module _ (g : ℕ) (flat : g % 2 ≡ 0) (d : Work) (F : Manifold (reached d)) (K
     ready = λ x l w. elim w [ inl q ↦ absurd (omega arith) | inr q ↦ absurd (omega arith) ];
   }
 
-  room-at : (i : ℕ) (e : Work) → i < reached d .triangles → Midway g i d e → Room 1 (reached e)
+  pub room-at : (i : ℕ) (e : Work) → i < reached d .triangles → Midway g i d e → Room 1 (reached e)
   room-at i e l M =
       let t = M .triangles in
       record {
@@ -147,7 +147,7 @@ module _ (g : ℕ) (flat : g % 2 ≡ 0) (d : Work) (F : Manifold (reached d)) (K
             ready-on g i (reached d) (reached e) (reached (faceSplit i e)) x (M .ready x) gi w (S .spread x j);
       }
 
-  refine-even : (i : ℕ) (e : Work) → i < reached d .triangles → Midway g i d e → refine i e ≡ faceSplit i e
+  pub refine-even : (i : ℕ) (e : Work) → i < reached d .triangles → Midway g i d e → refine i e ≡ faceSplit i e
   unfolding refine
   refine-even i e l M =
       let t = M .triangles in

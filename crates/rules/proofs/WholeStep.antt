@@ -25,7 +25,7 @@ use Rattle.rules.specs.Split.{Work, atFirst}
 use Rattle.rules.specs.Step.{movedCoordinate, moveVertices, refineFirst, wholeStep}
 use Rattle.rules.specs.Tables.{Topology, Mesh, TablesAgree, generation}
 
-none-odd : (m : Topology) → ((t : ℕ) → t < m .triangles → generation m t % 2 ≡ 0) → odds m ≡ 0
+pub none-odd : (m : Topology) → ((t : ℕ) → t < m .triangles → generation m t % 2 ≡ 0) → odds m ≡ 0
 unfolding odds
 none-odd m e = total-zero (m .triangles) (λ t. generation m t % 2) e
 

@@ -1,0 +1,187 @@
+-- The first refusal of a call, found test by test.
+use borrow.Author.Tests.{not-true, not-false, le-leb, lt-leb}
+use mathlib.Core.Bool.{Bool, true, false, not}
+use mathlib.Core.List.{List, [], _∷_}
+use mathlib.Core.Logic.{_≢_}
+use mathlib.Core.Path.{_≡_, refl, sym, ap, _∙_}
+use Prim.Native.Nat.{ℕ, zero, suc, _+_, _*_, _≤_, _<_}
+use native.Mathlib.Omega.{arith}
+use lib.Dec.{eqb, leb, ltb}
+use lib.ListN.{length}
+use Rattle.rules.proofs.Decide.{Decides}
+use Rattle.rules.proofs.SoundTest.{tables-agree-is, sound-is}
+use Rattle.rules.specs.Below.{any}
+use Rattle.rules.specs.Calls.{Test, _if_, firstOf, Outcome, unless, outcomeOf, zeroPoint, splitsOf, roomFor, worked, refineRefusal, refineCall, closedEven, wholeStepRefusal, positionRefusal, positionRead, positionCall}
+use Rattle.rules.specs.Ring.{ring}
+use Rattle.rules.specs.Sound.{Sound, isSound}
+use Rattle.rules.specs.Split.{chainEnd, atFirst, refine}
+use Rattle.rules.specs.Tables.{Mesh, TablesAgree, tablesAgree, vertexSlots, triangleSlots, generation, odd}
+
+-- Where one of the first two tests refuses, the later ones do not matter; where none does, they decide.
+two-kept : (a b : Bool) (rest : List Test) (r : ℕ) → r ≡ firstOf (1 if a ∷ 7 if b ∷ []) → r ≢ 0
+    → r ≡ firstOf (1 if a ∷ 7 if b ∷ rest)
+two-kept true b rest r e x = e
+two-kept false true rest r e x = e
+two-kept false false rest r e x = absurd (x e)
+
+two-passed : (a b : Bool) (rest : List Test) (r : ℕ) → r ≡ firstOf (1 if a ∷ 7 if b ∷ []) → r ≡ 0
+    → firstOf (1 if a ∷ 7 if b ∷ rest) ≡ firstOf rest
+two-passed true b rest r e z = absurd (omega arith)
+two-passed false true rest r e z = absurd (omega arith)
+two-passed false false rest r e z = refl
+
+-- The tests of a mesh that come before those of the arguments.
+abbrev pub standing : Mesh → ℕ
+standing m = firstOf (1 if not (tablesAgree m) ∷ 7 if not (isSound m) ∷ [])
+
+-- Each answer to the two tests, by a call's own answers r and q.
+module _ (m : Mesh) (r : Bool) (a : r ≡ tablesAgree m) where
+  pub standing-one : not r ≡ true → 1 ≡ standing m
+  standing-one x = let e : tablesAgree m ≡ false = sym a ∙ not-true r x in rw e refl
+
+  module _ (q : Bool) (b : q ≡ isSound m) (x : not r ≡ false) where
+    pub standing-seven : not q ≡ true → 7 ≡ standing m
+    standing-seven y =
+        let e : tablesAgree m ≡ true = sym a ∙ not-false r x in
+        let f : isSound m ≡ false = sym b ∙ not-true q y in
+        rw (e, f) refl
+
+    pub standing-none : not q ≡ false → 0 ≡ standing m
+    standing-none y =
+        let e : tablesAgree m ≡ true = sym a ∙ not-false r x in
+        let f : isSound m ≡ true = sym b ∙ not-false q y in
+        rw (e, f) refl
+
+-- ---- refine
+
+module _ (t : ℕ) (m : Mesh) where
+  rest : List Test
+  rest =
+      8 if leb (m .topology .triangles) t
+      ∷ 9 if eqb (generation (m .topology) t) 20
+      ∷ 10 if odd (generation (m .topology) (chainEnd (m .topology) t))
+      ∷ 11 if not (roomFor (splitsOf (m .topology) t) m)
+      ∷ []
+
+  pub refine-standing : (r : ℕ) → r ≡ standing m → r ≢ 0 → r ≡ refineRefusal t m
+  unfolding refineRefusal rest
+  refine-standing r = two-kept (not (tablesAgree m)) (not (isSound m)) rest r
+
+  module _ (r : ℕ) (s : r ≡ standing m) (z : r ≡ 0) where
+    passed : refineRefusal t m ≡ firstOf rest
+    unfolding refineRefusal rest
+    passed = two-passed (not (tablesAgree m)) (not (isSound m)) rest r s z
+
+    pub refine-eight : leb (m .topology .triangles) t ≡ true → 8 ≡ refineRefusal t m
+    unfolding rest
+    refine-eight a = sym (passed ∙ rw a refl)
+
+    module _ (a : leb (m .topology .triangles) t ≡ false) where
+      pub refine-nine : eqb (generation (m .topology) t) 20 ≡ true → 9 ≡ refineRefusal t m
+      unfolding rest
+      refine-nine b = sym (passed ∙ rw (a, b) refl)
+
+      module _ (b : eqb (generation (m .topology) t) 20 ≡ false) where
+        pub refine-ten : odd (generation (m .topology) (chainEnd (m .topology) t)) ≡ true → 10 ≡ refineRefusal t m
+        unfolding rest
+        refine-ten d = sym (passed ∙ rw (a, b, d) refl)
+
+        module _ (d : odd (generation (m .topology) (chainEnd (m .topology) t)) ≡ false) where
+          pub refine-eleven : roomFor (splitsOf (m .topology) t) m ≡ false → 11 ≡ refineRefusal t m
+          unfolding rest
+          refine-eleven e = sym (passed ∙ rw (a, b, d, e) refl)
+
+          pub refine-none : roomFor (splitsOf (m .topology) t) m ≡ true → 0 ≡ refineRefusal t m
+          unfolding rest
+          refine-none e = sym (passed ∙ rw (a, b, d, e) refl)
+
+-- ---- whole step
+
+pub step-standing : (m : Mesh) (r : ℕ) → r ≡ standing m → r ≢ 0 → r ≡ wholeStepRefusal m
+unfolding wholeStepRefusal
+step-standing m r =
+    two-kept (not (tablesAgree m)) (not (isSound m)) (
+    12 if not (closedEven (m .topology))
+    ∷ 9 if eqb (generation (m .topology) 0) 20
+    ∷ 13 if any (m .topology .vertices) (λ v. ltb 12 (length (ring (m .topology) v)))
+    ∷ 11 if not (roomFor (m .topology .triangles) m)
+    ∷ []
+    ) r
+
+pub standing-sound : (m : Mesh) (r : ℕ) → r ≡ standing m → r ≡ 0 → Sound m
+standing-sound m r e z = go (tablesAgree m) (isSound m) (sound-is m) (sym e ∙ z)
+  where
+    go : (a b : Bool) → Decides b (Sound m) → firstOf (1 if not a ∷ 7 if not b ∷ []) ≡ 0 → Sound m
+    go true true d q = d .holds tt
+    go true false d q = absurd (omega arith)
+    go false b d q = absurd (omega arith)
+
+-- ---- position
+
+module _ (v : ℕ) (m : Mesh) where
+  pub position-standing : (r : ℕ) → r ≡ standing m → r ≢ 0 → r ≡ positionRefusal v m
+  unfolding positionRefusal
+  position-standing r = two-kept (not (tablesAgree m)) (not (isSound m)) (8 if leb (m .topology .vertices) v ∷ []) r
+
+  module _ (r : ℕ) (s : r ≡ standing m) (z : r ≡ 0) where
+    position-passed : positionRefusal v m ≡ firstOf (8 if leb (m .topology .vertices) v ∷ [])
+    unfolding positionRefusal
+    position-passed = two-passed (not (tablesAgree m)) (not (isSound m)) (8 if leb (m .topology .vertices) v ∷ []) r s z
+
+    pub position-eight : leb (m .topology .vertices) v ≡ true → 8 ≡ positionRefusal v m
+    position-eight a = sym (position-passed ∙ rw a refl)
+
+    pub position-none : leb (m .topology .vertices) v ≡ false → 0 ≡ positionRefusal v m
+    position-none a = sym (position-passed ∙ rw a refl)
+
+-- ---- room
+
+module _ (s : ℕ) (m : Mesh) (v : m .topology .vertices + s ≤ vertexSlots m) where
+  pub room-by-triangles : leb (m .topology .triangles + 2 * s) (triangleSlots m) ≡ roomFor s m
+  room-by-triangles = let e : leb (m .topology .vertices + s) (vertexSlots m) ≡ true = le-leb _ _ v in rw e refl
+
+pub no-room : (s : ℕ) (m : Mesh) → vertexSlots m < m .topology .vertices + s
+    → leb (m .topology .vertices + s) (vertexSlots m) ≡ roomFor s m
+no-room s m v = let e : leb (m .topology .vertices + s) (vertexSlots m) ≡ false = lt-leb _ _ v in rw e refl
+
+-- ---- outcomes
+
+-- What a refusal leaves, and what no refusal does.
+module _ (m : Mesh) (buffer : List ℕ) (done : Outcome) (n : ℕ) (r : ℕ) (e : r ≡ n) where
+  pub refuses : r ≢ 0 → outcomeOf r 0 0 0 zeroPoint m buffer ≡ unless n m buffer done
+  refuses x = ap (λ k. outcomeOf k 0 0 0 zeroPoint m buffer) e ∙ go n (λ z. x (e ∙ z))
+    where
+      go : (k : ℕ) → k ≢ 0 → outcomeOf k 0 0 0 zeroPoint m buffer ≡ unless k m buffer done
+      go zero y = absurd (y refl)
+      go (suc k) y = refl
+
+  pub carries : r ≡ 0 → done ≡ unless n m buffer done
+  carries z = let q : n ≡ 0 = sym e ∙ z in rw q refl
+
+module _ (t : ℕ) (m : Mesh) (r : ℕ) (e : r ≡ refineRefusal t m) where
+  pub refine-refused : r ≢ 0 → outcomeOf r 0 0 0 zeroPoint m [] ≡ refineCall t m
+  unfolding refineCall
+  refine-refused = refuses m [] (worked (refine t (atFirst m))) (refineRefusal t m) r e
+
+  pub refine-carried : r ≡ 0 → worked (refine t (atFirst m)) ≡ refineCall t m
+  unfolding refineCall
+  refine-carried = carries m [] (worked (refine t (atFirst m))) (refineRefusal t m) r e
+
+module _ (v : ℕ) (m : Mesh) (r : ℕ) (e : r ≡ positionRefusal v m) where
+  pub position-refused : r ≢ 0 → outcomeOf r 0 0 0 zeroPoint m [] ≡ positionCall v m
+  unfolding positionCall
+  position-refused = refuses m [] (positionRead v m) (positionRefusal v m) r e
+
+  module _ (z : r ≡ 0) where
+    pub position-carried : positionRead v m ≡ positionCall v m
+    unfolding positionCall
+    position-carried = carries m [] (positionRead v m) (positionRefusal v m) r e z
+
+    pub position-agrees : TablesAgree m
+    unfolding positionRefusal
+    position-agrees = go (tablesAgree m) (tables-agree-is m) (sym e ∙ z)
+      where
+        go : (b : Bool) → Decides b (TablesAgree m)
+            → firstOf (1 if not b ∷ 7 if not (isSound m) ∷ 8 if leb (m .topology .vertices) v ∷ []) ≡ 0 → TablesAgree m
+        go true d q = d .holds tt
+        go false d q = absurd (omega arith)

@@ -1,0 +1,223 @@
+// The public calls. None asks anything of its caller: what cannot be done is refused, and then nothing lent is written.
+use points::Point;
+use tables::Counts;
+ghost use mathlib.Core.Path.{_≡_};
+ghost use mathlib.Core.List.{List, [], _∷_};
+ghost use mathlib.Core.Bool.{not};
+ghost use Prim.Native.Nat.{ℕ, _+_, _*_, max};
+ghost use lib.ListN.{length};
+ghost use Rattle.rules.specs.Calls.{firstOf, _if_, roomFor, refineRefusal, refineCall, wholeStepCall, positionCall, positionRefusal};
+ghost use Rattle.rules.specs.Sound.{isSound};
+ghost use Rattle.rules.specs.Tables.{tablesAgree};
+ghost use Rattle.tables.specs.Lent.{meshNow};
+ghost use Rattle.mesh.specs.Answers.{workedOutcome, positionOutcome};
+
+// The answer of load, refine and the whole step: on a refusal all but its number and the counts is 0.
+#[repr(C)]
+pub struct Worked {
+    pub refusal: u32,
+    pub splits: u32,
+    pub flips: u32,
+    pub counts: Counts,
+}
+
+// The answer of position.
+#[repr(C)]
+pub struct PositionRead {
+    pub refusal: u32,
+    pub point: Point,
+    pub counts: Counts,
+}
+
+// The first refusal of every call but load: 1, 7 or none.
+fn not_sound(
+    positions: &[i32],
+    corners: &[u32],
+    links: &[u32],
+    generations: &[u8],
+    counts: Counts,
+) -> u32
+    ensures { λ r. ⌜ (let m = meshNow counts (now (positions .entry)) (now (corners .entry)) (now (links .entry)) (now (generations .entry)) in
+        r ≡ firstOf (1 if not (tablesAgree m) ∷ 7 if not (isSound m) ∷ [])) ⌝ }
+{
+    if !soundness::tables_agree(positions, corners, links, generations) {
+        return 1;
+    }
+    if !soundness::is_sound(
+        positions,
+        corners,
+        links,
+        generations,
+        counts.vertices,
+        counts.triangles,
+    ) {
+        return 7;
+    }
+    0
+}
+
+// Whether there are slots for so many face splits.
+fn has_room(positions: &[i32], generations: &[u8], counts: Counts, splits: u32) -> bool
+    ensures { λ r. ⌜ ((corners links : List ℕ) →
+        r ≡ roomFor splits (meshNow counts (now (positions .entry)) corners links (now (generations .entry)))) ⌝ }
+{
+    let vertices = counts.vertices as u64 + splits as u64;
+    let triangles = counts.triangles as u64 + 2 * (splits as u64);
+    vertices <= positions.len() as u64 / 3 && triangles <= generations.len() as u64
+}
+
+// The refusal of a refine, or 0.
+fn refine_refusal(
+    positions: &[i32],
+    corners: &[u32],
+    links: &[u32],
+    generations: &[u8],
+    counts: Counts,
+    t: u32,
+) -> u32
+    ensures { λ r. ⌜ r ≡ refineRefusal t (meshNow counts (now (positions .entry)) (now (corners .entry)) (now (links .entry)) (now (generations .entry))) ⌝ }
+{
+    let bad = not_sound(positions, corners, links, generations, counts);
+    if bad != 0 {
+        return bad;
+    }
+    if counts.triangles <= t {
+        return 8;
+    }
+    if tables::generation_at(generations, t) == 20 {
+        return 9;
+    }
+    let chain = split::base_chain(links, generations, t);
+    if tables::generation_at(generations, chain.end) % 2 == 1 {
+        return 10;
+    }
+    if !has_room(positions, generations, counts, chain.splits()) {
+        return 11;
+    }
+    0
+}
+
+// Refines triangle t.
+pub fn refine(
+    positions: &mut [i32],
+    corners: &mut [u32],
+    links: &mut [u32],
+    generations: &mut [u8],
+    counts: Counts,
+    t: u32,
+) -> Worked
+    ensures { λ r. ⌜
+        workedOutcome r (now (positions .exit)) (now (corners .exit)) (now (links .exit)) (now (generations .exit))
+        ≡ refineCall t (meshNow counts (now (positions .entry)) (now (corners .entry)) (now (links .entry)) (now (generations .entry))) ⌝ }
+{
+    let refusal = refine_refusal(positions, corners, links, generations, counts, t);
+    if refusal != 0 {
+        return Worked {
+            refusal,
+            splits: 0,
+            flips: 0,
+            counts,
+        };
+    }
+    let chain = split::base_chain(links, generations, t);
+    let done = split::refine(
+        positions,
+        corners,
+        links,
+        generations,
+        counts,
+        t,
+        chain.splits(),
+    );
+    Worked {
+        refusal: 0,
+        splits: done.splits,
+        flips: done.flips,
+        counts: Counts {
+            vertices: done.vertices,
+            triangles: done.triangles,
+        },
+    }
+}
+
+// The whole smoothing step.
+pub fn whole_step(
+    positions: &mut [i32],
+    corners: &mut [u32],
+    links: &mut [u32],
+    generations: &mut [u8],
+    counts: Counts,
+) -> Worked
+    ensures { λ r. ⌜
+        workedOutcome r (now (positions .exit)) (now (corners .exit)) (now (links .exit)) (now (generations .exit))
+        ≡ wholeStepCall (meshNow counts (now (positions .entry)) (now (corners .entry)) (now (links .entry)) (now (generations .entry))) ⌝ }
+{
+    let bad = not_sound(positions, corners, links, generations, counts);
+    if bad != 0 {
+        return Worked {
+            refusal: bad,
+            splits: 0,
+            flips: 0,
+            counts,
+        };
+    }
+    let done = step::smoothing_step(positions, corners, links, generations, counts);
+    Worked {
+        refusal: done.refusal,
+        splits: done.splits,
+        flips: done.flips,
+        counts: Counts {
+            vertices: done.vertices,
+            triangles: done.triangles,
+        },
+    }
+}
+
+// The refusal of a position, or 0.
+fn position_refusal(
+    positions: &[i32],
+    corners: &[u32],
+    links: &[u32],
+    generations: &[u8],
+    counts: Counts,
+    v: u32,
+) -> u32
+    ensures { λ r. ⌜ r ≡ positionRefusal v (meshNow counts (now (positions .entry)) (now (corners .entry)) (now (links .entry)) (now (generations .entry))) ⌝ }
+{
+    let bad = not_sound(positions, corners, links, generations, counts);
+    if bad != 0 {
+        return bad;
+    }
+    if counts.vertices <= v {
+        return 8;
+    }
+    0
+}
+
+// Reads the position of vertex v.
+pub fn position(
+    positions: &[i32],
+    corners: &[u32],
+    links: &[u32],
+    generations: &[u8],
+    counts: Counts,
+    v: u32,
+) -> PositionRead
+    ensures { λ r. ⌜
+        positionOutcome r (now (positions .entry)) (now (corners .entry)) (now (links .entry)) (now (generations .entry))
+        ≡ positionCall v (meshNow counts (now (positions .entry)) (now (corners .entry)) (now (links .entry)) (now (generations .entry))) ⌝ }
+{
+    let refusal = position_refusal(positions, corners, links, generations, counts, v);
+    if refusal != 0 {
+        return PositionRead {
+            refusal,
+            point: Point { x: 0, y: 0, z: 0 },
+            counts,
+        };
+    }
+    PositionRead {
+        refusal: 0,
+        point: tables::point_at(positions, v),
+        counts,
+    }
+}

@@ -1,0 +1,2 @@
+-- What the contracts of rings cite beside the rules.
+pub mod Rings

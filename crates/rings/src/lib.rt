@@ -1,0 +1,144 @@
+// The ring round a vertex, from the side where it starts: its length, its entries, and the sum of their positions.
+ghost use mathlib.Core.Path.{_≡_};
+ghost use mathlib.Core.List.{List};
+ghost use Prim.Native.Nat.{ℕ, _+_, _*_, _/_, _≤_, _<_};
+ghost use lib.ListN.{length, getD};
+ghost use Rattle.rules.specs.Below.{fill};
+ghost use Rattle.rules.specs.Tables.{next, previous, topologyOf, meshOf};
+ghost use Rattle.points.specs.Axes.{SumOfPoints};
+ghost use Rattle.rings.specs.Rings.{ringFrom, goesOn, Walkable, pointIn, Placed, ringSum};
+use points::Point;
+use points::Sum;
+
+// What a side without a partner links to.
+const BOUNDARY: u32 = 4294967295;
+
+// How many entries a ring has, and the sum of their positions.
+pub struct RingSum {
+    pub entries: u32,
+    pub sum: Sum,
+}
+
+// The side after h in its triangle.
+fn next(h: u32) -> u32
+    requires { ⌜ h < 4294967295 ⌝ }
+    ensures { λ r. ⌜ r ≡ next h ⌝ }
+{
+    if h % 3 == 2 { h - 2 } else { h + 1 }
+}
+
+// The side before h in its triangle.
+fn previous(h: u32) -> u32
+    requires { ⌜ h < 4294967295 ⌝ }
+    ensures { λ r. ⌜ r ≡ previous h ⌝ }
+{
+    if h % 3 == 0 { h + 2 } else { h - 1 }
+}
+
+// Whether the walk from `first` goes on to side k after n sides.
+fn goes_on(triangles: u32, first: u32, n: u32, k: u32) -> bool
+    requires { ⌜ triangles ≤ 65536 ⌝ }
+    ensures { λ r. ⌜ r ≡ goesOn triangles first n k ⌝ }
+{
+    n < triangles && (k < 3 * triangles && k != first)
+}
+
+// The length of the ring from side `first`. It needs no corners.
+pub fn ring_length(links: &[u32], triangles: u32, first: u32) -> u32
+    requires { ⌜ Walkable triangles first (now links) ⌝ }
+    ensures { λ r. ⌜ (r ≤ triangles + 1)
+        × ((v : ℕ) (c g : List ℕ) → r ≡ length (ringFrom (topologyOf v triangles c (now (links .entry)) g) first)) ⌝ }
+{
+    let mut n: u32 = 0;
+    let mut h = first;
+    let entries = loop {
+        let p = previous(h);
+        let k = links[p as usize];
+        n += 1;
+        if k == BOUNDARY {
+            break n + 1;
+        }
+        if !goes_on(triangles, first, n, k) {
+            break n;
+        }
+        h = k;
+    };
+    entries
+}
+
+// The ring from side `first`, written to the front of the buffer, which has room for it.
+pub fn write_ring(corners: &[u32], links: &[u32], triangles: u32, first: u32, buffer: &mut [u32])
+    requires { ⌜ Walkable triangles first (now links) × (3 * triangles ≤ length (now corners)) ⌝ }
+    requires { ⌜ ((v : ℕ) × (g : List ℕ)
+        × (length (ringFrom (topologyOf v triangles (now corners) (now links) g) first) ≤ length (now buffer))) ⌝ }
+    ensures { λ r. ⌜ ((v : ℕ) (g : List ℕ) →
+        let ring = ringFrom (topologyOf v triangles (now (corners .entry)) (now (links .entry)) g) first in
+        now (buffer .exit) ≡ fill (length ring) (λ i. getD ring i 0) (now (buffer .entry))) ⌝ }
+{
+    let mut n: u32 = 0;
+    let mut h = first;
+    loop {
+        let e = next(h);
+        buffer[n as usize] = corners[e as usize];
+        let p = previous(h);
+        let k = links[p as usize];
+        n += 1;
+        if k == BOUNDARY {
+            buffer[n as usize] = corners[p as usize];
+            break;
+        }
+        if !goes_on(triangles, first, n, k) {
+            break;
+        }
+        h = k;
+    }
+}
+
+// The point in slot v of the positions.
+fn point_at(positions: &[i32], v: u32) -> Point
+    requires { ⌜ v < length (now positions) / 3 ⌝ }
+    ensures { λ r. ⌜ r ≡ pointIn (now (positions .entry)) v ⌝ }
+{
+    let i = 3 * (v as usize);
+    Point::new(positions[i], positions[i + 1], positions[i + 2])
+}
+
+// How many entries the ring from side `first` has, and the sum of their positions.
+pub fn ring_sum(
+    positions: &[i32],
+    corners: &[u32],
+    links: &[u32],
+    triangles: u32,
+    first: u32,
+) -> RingSum
+    requires { ⌜ Walkable triangles first (now links) × (3 * triangles ≤ length (now corners)) ⌝ }
+    requires { ⌜ Placed triangles (now corners) (now positions) ⌝ }
+    ensures { λ r. ⌜ SumOfPoints (r .entries) (r .sum)
+        × ((v : ℕ) (g : List ℕ) →
+        let m = topologyOf v triangles (now (corners .entry)) (now (links .entry)) g in
+        r ≡ ringSum (meshOf m (now (positions .entry))) (ringFrom m first)) ⌝ }
+{
+    let mut sum = Sum::empty();
+    let mut n: u32 = 0;
+    let mut h = first;
+    let total = loop {
+        let e = next(h);
+        sum = sum.plus(point_at(positions, corners[e as usize]));
+        let p = previous(h);
+        let k = links[p as usize];
+        n += 1;
+        if k == BOUNDARY {
+            n += 1;
+            let all = sum.plus(point_at(positions, corners[p as usize]));
+            break RingSum {
+                entries: n,
+                sum: all,
+            };
+        }
+        if !goes_on(triangles, first, n, k) {
+            break RingSum { entries: n, sum };
+        }
+        h = k;
+    };
+    total
+}

@@ -1,0 +1,266 @@
+-- Refine as a counted loop: as many face splits as t takes, each at the end that its base chain has then.
+use mathlib.Core.Path.{_≡_, refl, sym, _∙_, subst}
+use mathlib.Core.Bool.{Bool, true, false}
+use Prim.Native.Nat.{ℕ, zero, suc, _+_, _*_, _/_, _%_, _≤_, _<_, max}
+use native.Mathlib.Omega.{arith}
+use lib.ListN.{length}
+use Rattle.rules.proofs.Bases.{reached}
+use Rattle.rules.proofs.Carried.{RefineFound}
+use Rattle.rules.proofs.Chain.{Path, ends, across, path-end, path-use, topOf, path-top, path-short, path-fit, way}
+use Rattle.rules.proofs.FaceSplit.{Room, Splitting, face-splitting}
+use Rattle.rules.proofs.Manifold.{Manifold, BasesMeetIn}
+use Rattle.rules.proofs.Raise.{Shorter, shortens, raise-stops, raise-splits, room-first, room-rest}
+use Rattle.rules.proofs.Refine.{sound-room}
+use Rattle.rules.proofs.Relaxed.{sound-manifold, sound-bases, agree-on}
+use Rattle.rules.proofs.Runs.{Splittable, isEven}
+use Rattle.rules.proofs.Settled.{nowhere}
+use Rattle.rules.specs.Calls.{splitsOf}
+use Rattle.rules.specs.Conditions.{RoomFor}
+use Rattle.rules.specs.Split.{Work, atFirst, flip, withFlip, settle, splitPlaced, withSplit, faceSplit, chainEnd, chainOdd, raise, refine}
+use Rattle.rules.specs.Tables.{Topology, Mesh, TablesAgree, withTopology, link, generation, isBase, vertexSlots}
+
+-- k face splits, each at the end of the base chain of t.
+unfoldable pub splitEnds : ℕ → ℕ → Work → Work
+splitEnds zero t w = w
+splitEnds (suc k) t w = splitEnds k t (faceSplit (chainEnd (reached w) t) w)
+
+-- ---- what is ahead
+
+-- The base chain of t leads to an even triangle, and raising t takes k splits.
+pub record Leads (k t : ℕ) (m : Topology) : Type 0 where
+  pub odd : ℕ
+  pub path : Path m t (chainEnd m t) odd
+  pub splits : max 1 odd ≡ k
+
+-- With no split left t has risen above g; before that it is at g.
+abbrev pub Rising : ℕ → ℕ → ℕ → Topology → Type 0
+Rising zero g t m = g < generation m t
+Rising (suc k) g t m = (generation m t ≡ g) × Leads (suc k) t m
+
+-- Work that raises t above g by k splits more.
+pub record Ahead (k g t : ℕ) (w : Work) : Type 0 where
+  pub manifold : Manifold (reached w)
+  pub basesMeet : BasesMeetIn nowhere (reached w)
+  pub inUse : t < reached w .triangles
+  pub room : Room k (reached w)
+  pub rising : Rising k g t (reached w)
+
+even-of : {m : Topology} {v : ℕ} → Splittable m v → generation m v % 2 ≡ 0
+even-of (isEven e) = e
+
+-- The end of the chain of t: what is split next.
+pub record End (g v : ℕ) (m : Topology) : Type 0 where
+  pub inUse : v < m .triangles
+  pub even : generation m v % 2 ≡ 0
+  pub young : generation m v ≤ g
+
+path-young : {m : Topology} {t v k : ℕ} → Manifold m → BasesMeetIn nowhere m → t < m .triangles → Path m t v k
+    → generation m v ≤ generation m t
+path-young F K l (ends e) = omega arith
+path-young {m} {v = v} F K l (across {t = t} o r p) = below (path-fit p) (path-top {t = t} F K l o r refl p)
+  where
+    below : (x : Splittable m v) → ((x : Splittable m v) → topOf m v x ≤ generation m t) → generation m v ≤ generation m t
+    below (isEven e) f = let h = f (isEven e) in omega arith
+
+pub ahead-end : {k g t : ℕ} {w : Work} → Ahead (suc k) g t w → End g (chainEnd (reached w) t) (reached w)
+ahead-end {t = t} {w = w} A =
+    let p = A .rising .1 .path in
+    let y = path-young (A .manifold) (A .basesMeet) (A .inUse) p in
+    record {
+      inUse = path-use (A .manifold) (A .basesMeet) (A .inUse) p;
+      even = even-of (path-fit p);
+      young = omega (arith, A .rising .0);
+    }
+
+-- ---- one split
+
+pub ahead-splitting : {k g t : ℕ} {w : Work} → Ahead (suc k) g t w →
+    let v = chainEnd (reached w) t in
+    Splitting v (suc (generation (reached w) v)) 1 0 w (faceSplit v w)
+ahead-splitting {k} {t = t} {w = w} A =
+    let E = ahead-end A in
+    face-splitting (chainEnd (reached w) t) w (A .manifold) (E .inUse) (room-first k (reached w) (A .room)) (E .even)
+
+rising-on : (k n g t : ℕ) (m x : Topology) → Manifold x → BasesMeetIn nowhere x → t < x .triangles
+    → generation m t ≡ g → max 1 n ≡ suc k → Shorter m x t n → Rising k g t x
+rising-on zero zero g t m x F K l q e s = omega arith
+rising-on zero (suc zero) g t m x F K l q e s = omega arith
+rising-on zero (suc (suc n)) g t m x F K l q e s = absurd (omega arith)
+rising-on (suc k) zero g t m x F K l q e s = absurd (omega arith)
+rising-on (suc k) (suc zero) g t m x F K l q e s = absurd (omega arith)
+rising-on (suc k) (suc (suc n)) g t m x F K l q e s =
+    let p = s .1 .2 in
+    let z = path-end (generation x t) F K l (omega arith) p in
+    (s .0 ∙ q, record { odd = suc n; path = subst (λ (v : ℕ). Path x t v (suc n)) (sym z) p; splits = omega arith })
+
+pub ahead-on : {k g t : ℕ} {w : Work} → Ahead (suc k) g t w → Ahead k g t (faceSplit (chainEnd (reached w) t) w)
+ahead-on {k} {g} {t} {w} A =
+    let m : Topology = reached w in
+    let v : ℕ = chainEnd m t in
+    let x : Topology = reached (faceSplit v w) in
+    let E = ahead-end A in
+    let S = ahead-splitting A .result in
+    let L = A .rising .1 in
+    let s = shortens v _ _ _ m x (A .manifold) (A .basesMeet) (E .inUse) (isEven (E .even)) S (A .inUse) refl (L .path) in
+    let l : t < x .triangles = omega (arith, S .triangles, A .inUse) in
+    record {
+      manifold = S .manifold;
+      basesMeet = S .basesMeet (A .basesMeet);
+      inUse = l;
+      room = room-rest k v _ _ _ m x S (A .room);
+      rising = rising-on k (L .odd) g t m x (S .manifold) (S .basesMeet (A .basesMeet)) l (A .rising .0) (L .splits) s;
+    }
+
+-- ---- refine is that loop
+
+raise-is-split-ends : {g t : ℕ} (k n : ℕ) (w : Work) → k ≤ n → Ahead k g t w → raise n g t w ≡ splitEnds k t w
+unfolding splitEnds
+raise-is-split-ends {g} {t} zero n w i A = raise-stops n g t w (A .rising)
+raise-is-split-ends (suc k) zero w i A = absurd (omega arith)
+raise-is-split-ends {g} {t} (suc k) (suc n) w i A =
+    raise-splits n g t (chainEnd (reached w) t) w (isEven (ahead-end A .even)) (omega (arith, A .rising .0)) refl
+    ∙ raise-is-split-ends k n _ (omega arith) (ahead-on A)
+
+-- What the loop of refine keeps: the tables keep their slots.
+pub record SameSlots (m n : Mesh) : Type 0 where
+  pub positions : length (n .positions) ≡ length (m .positions)
+  pub corners : length (n .topology .corners) ≡ length (m .topology .corners)
+  pub links : length (n .topology .links) ≡ length (m .topology .links)
+  pub generations : length (n .topology .generations) ≡ length (m .topology .generations)
+
+-- A flip is counted once, so that a face split counts three flips at most.
+pub settle-counts : (s : ℕ) (w : Work) → settle s w .flips ≤ w .flips + 1
+unfolding settle
+settle-counts s w = go (isBase (reached w) (link (reached w) (3 * s)))
+  where
+    go : (b : Bool) →
+        let flipped = withFlip (withTopology (flip s (link (reached w) (3 * s) / 3) (reached w)) (w .mesh)) w in
+        let x : Work = elim b [ true ↦ flipped | false ↦ w ] in
+        x .flips ≤ w .flips + 1
+    go true = omega arith
+    go false = omega arith
+
+face-split-counts : (t : ℕ) (w : Work) → faceSplit t w .flips ≤ w .flips + 3
+unfolding faceSplit
+face-split-counts t w =
+    let f : ℕ = reached w .triangles in
+    let a : Work = withSplit (splitPlaced t (w .mesh)) w in
+    let b : Work = settle t a in
+    omega (arith, settle-counts t a, settle-counts f b, settle-counts (f + 1) (settle f b))
+
+-- Refining t in m, at work w, with some splits left.
+pub record Refining (t : ℕ) (m : Mesh) (w : Work) : Type 0 where
+  pub left : ℕ
+  pub ahead : Ahead left (generation (m .topology) t) t w
+  pub result : splitEnds left t w ≡ refine t (atFirst m)
+  pub splits : w .splits + left ≡ splitsOf (m .topology) t
+  pub flips : w .flips ≤ 3 * w .splits
+  pub vertices : reached w .vertices + left ≤ vertexSlots m
+  pub slots : SameSlots m (w .mesh)
+
+-- What the next split of v finds.
+pub record NextSplit (v : ℕ) (w : Work) : Type 0 where
+  pub tables : TablesAgree (w .mesh)
+  pub inUse : v < reached w .triangles
+  pub young : generation (reached w) v < 20
+  pub room : RoomFor 1 (w .mesh)
+
+module _ {t : ℕ} {m : Mesh} (R : RefineFound t m) where
+  chain : Path (m .topology) t (chainEnd (m .topology) t) (chainOdd (m .topology) t)
+  chain =
+      way _ (m .topology) (sound-manifold (R .sound)) (sound-bases (R .sound)) t (R .inUse) (omega arith) (R .evenEnd)
+
+  short : 2 * chainOdd (m .topology) t ≤ generation (m .topology) t + 1
+  short = path-short (sound-manifold (R .sound)) (sound-bases (R .sound)) (R .inUse) chain
+
+  ahead : Ahead (splitsOf (m .topology) t) (generation (m .topology) t) t (atFirst m)
+  ahead = record {
+    manifold = sound-manifold (R .sound);
+    basesMeet = sound-bases (R .sound);
+    inUse = R .inUse;
+    room = sound-room (splitsOf (m .topology) t) (R .sound .tables) (R .room);
+    rising = go (splitsOf (m .topology) t) refl;
+  }
+    where
+      go : (k : ℕ) → splitsOf (m .topology) t ≡ k → Rising k (generation (m .topology) t) t (m .topology)
+      go zero e = absurd (omega arith)
+      go (suc k) e = (refl, record { odd = chainOdd (m .topology) t; path = chain; splits = e })
+
+  -- Where nothing is refused, refine is as many face splits as t takes.
+  pub refine-is-split-ends : refine t (atFirst m) ≡ splitEnds (splitsOf (m .topology) t) t (atFirst m)
+  unfolding refine
+  refine-is-split-ends =
+      raise-is-split-ends (splitsOf (m .topology) t) _ (atFirst m) (omega (arith, short)) ahead
+
+  pub few-splits : splitsOf (m .topology) t ≤ 10
+  few-splits = omega (arith, short, R .young)
+
+  pub refining-begins : Refining t m (atFirst m)
+  refining-begins = record {
+    left = splitsOf (m .topology) t;
+    ahead = ahead;
+    result = sym refine-is-split-ends;
+    splits = omega arith;
+    flips = omega arith;
+    vertices = R .room .vertices;
+    slots = record { positions = refl; corners = refl; links = refl; generations = refl };
+  }
+
+  module _ {w : Work} (N : Refining t m w) where
+    -- No split is left where the count is full.
+    pub refining-ends : splitsOf (m .topology) t ≤ w .splits → w ≡ refine t (atFirst m)
+    unfolding splitEnds
+    refining-ends i = subst (λ (k : ℕ). splitEnds k t w ≡ refine t (atFirst m)) none (N .result)
+      where
+        none : N .left ≡ 0
+        none = omega (arith, N .splits)
+
+    module _ (i : w .splits < splitsOf (m .topology) t) where
+      more : (k : ℕ) × (N .left ≡ suc k)
+      more = go (N .left) refl
+        where
+          go : (l : ℕ) → N .left ≡ l → (k : ℕ) × (N .left ≡ suc k)
+          go zero e = absurd (omega (arith, N .splits))
+          go (suc k) e = (k, e)
+
+      ahead-now : Ahead (suc (more .0)) (generation (m .topology) t) t w
+      ahead-now = subst (λ (k : ℕ). Ahead k (generation (m .topology) t) t w) (more .1) (N .ahead)
+
+      pub refining-next : NextSplit (chainEnd (reached w) t) w
+      refining-next =
+          let E = ahead-end ahead-now in
+          let L = N .slots in
+          record {
+            tables = agree-on (R .sound .tables) (L .positions) (L .corners) (L .links) (L .generations);
+            inUse = E .inUse;
+            young = omega (arith, E .young, R .young);
+            room = record {
+              vertices = omega (arith, N .vertices, more .1);
+              triangles = omega (arith, ahead-now .room .generations);
+            };
+          }
+
+      pub refining-counts : faceSplit (chainEnd (reached w) t) w .splits ≡ suc (w .splits)
+      refining-counts = ahead-splitting ahead-now .splits
+
+      pub refining-on : Refining t m (faceSplit (chainEnd (reached w) t) w)
+      unfolding splitEnds
+      refining-on =
+          let v : ℕ = chainEnd (reached w) t in
+          let X = ahead-splitting ahead-now in
+          let S = X .result in
+          let L = N .slots in
+          record {
+            left = more .0;
+            ahead = ahead-on ahead-now;
+            result = subst (λ (k : ℕ). splitEnds k t w ≡ refine t (atFirst m)) (more .1) (N .result);
+            splits = omega (arith, X .splits, N .splits, more .1);
+            flips = omega (arith, X .splits, N .flips, face-split-counts v w);
+            vertices = omega (arith, S .vertices, N .vertices, more .1);
+            slots = record {
+              positions = X .places .size ∙ L .positions;
+              corners = S .corners ∙ L .corners;
+              links = S .links ∙ L .links;
+              generations = S .generations ∙ L .generations;
+            };
+          }

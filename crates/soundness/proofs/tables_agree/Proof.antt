@@ -1,0 +1,45 @@
+-- `soundness::tables_agree` meets its contract: the test of the rules decides the same statement.
+use borrow.Author.Needs.{needs}
+use native.Mathlib.Omega.{arith}
+use Rattle.rules.proofs.Decide.{is-eq, is-iff, is-false, is-same}
+use Rattle.rules.proofs.SoundTest.{tables-agree-is}
+use Rattle.soundness.proofs.tables_agree.Statement.{statement}
+use Rattle.soundness.proofs.tables_agree.Tie as tie
+
+returns : tie.Need-returns
+returns c v f = is-same (is-false (λ A. omega (arith, A .fewTriangles))) (tables-agree-is _)
+
+returns-2 : tie.Need-returns-2
+returns-2 c v f = is-same (is-false (λ A. omega (arith, A .fewVertices))) (tables-agree-is _)
+
+mul-if3 : tie.Need-mul-if3
+mul-if3 c = search needs
+
+returns-3 : tie.Need-returns-3
+returns-3 c v f = is-same (is-false (λ A. c .if3 .taken (A .positions))) (tables-agree-is _)
+
+mul-if4 : tie.Need-mul-if4
+mul-if4 c = search needs
+
+returns-4 : tie.Need-returns-4
+returns-4 c v f = is-same (is-false (λ A. c .if4 .taken (A .corners))) (tables-agree-is _)
+
+mul-result : tie.Need-mul-result
+mul-result c = search needs
+
+returns-5 : tie.Need-returns-5
+returns-5 c v f = is-same
+    (is-iff
+    (λ e. record {
+      positions = c .before .if3 .left;
+      corners = c .if4 .left;
+      links = e;
+      fewVertices = omega arith;
+      fewTriangles = omega arith;
+    })
+    (λ A. A .links) (is-eq _ _))
+    (tables-agree-is _)
+
+pub tables-agree-spec : {M : Type 1} → statement M
+tables-agree-spec =
+    tie.close (tie.spec returns returns-2 mul-if3 returns-3 mul-if4 returns-4 mul-result returns-5)

@@ -1,0 +1,100 @@
+// The test of soundness, equal to that of the rules on every content of the tables, in linear time.
+ghost use mathlib.Core.Path.{_≡_};
+ghost use mathlib.Core.List.{List};
+ghost use Prim.Native.Nat.{ℕ, _≤_};
+ghost use lib.IntN.{pos};
+ghost use lib.ListN.{length, getD};
+ghost use Rattle.rules.specs.Below.{all};
+ghost use Rattle.rules.specs.Numbers.{inRange};
+ghost use Rattle.rules.specs.Sound.{isSound};
+ghost use Rattle.rules.specs.Tables.{topologyOf, meshOf, tablesAgree};
+ghost use Rattle.soundness.specs.Parts.{countsFit};
+
+pub mod sides;
+pub mod walks;
+
+// What a side without a partner links to.
+pub const BOUNDARY: u32 = 4294967295;
+
+// Whether the tables agree in their slots and keep to the maxima. The counts do not matter.
+pub fn tables_agree(positions: &[i32], corners: &[u32], links: &[u32], generations: &[u8]) -> bool
+    ensures { λ r. ⌜ ((v f : ℕ) → r ≡ tablesAgree (meshOf
+        (topologyOf v f (now (corners .entry)) (now (links .entry)) (now (generations .entry)))
+        (now (positions .entry)))) ⌝ }
+{
+    let vertex_slots = positions.len() / 3;
+    let triangle_slots = generations.len();
+    if 65536 < triangle_slots {
+        return false;
+    }
+    if 32768 < vertex_slots {
+        return false;
+    }
+    if positions.len() != 3 * vertex_slots {
+        return false;
+    }
+    if corners.len() != 3 * triangle_slots {
+        return false;
+    }
+    links.len() == 3 * triangle_slots
+}
+
+// Whether the counts are at least 1 and within the slots.
+fn counts_fit(positions: &[i32], generations: &[u8], vertices: u32, triangles: u32) -> bool
+    ensures { λ r. ⌜ ((c l : List ℕ) → r ≡ countsFit
+        (meshOf (topologyOf vertices triangles c l (now (generations .entry))) (now (positions .entry)))) ⌝ }
+{
+    if vertices < 1 {
+        return false;
+    }
+    if triangles < 1 {
+        return false;
+    }
+    if positions.len() / 3 < vertices as usize {
+        return false;
+    }
+    triangles as usize <= generations.len()
+}
+
+// Whether the first n coordinates are in range.
+fn coordinates_fit(positions: &[i32], n: usize) -> bool
+    requires { ⌜ n ≤ length (now positions) ⌝ }
+    ensures { λ r. ⌜ r ≡ all n (λ i. inRange (getD (now (positions .entry)) i (pos 0))) ⌝ }
+{
+    let mut i: usize = 0;
+    while i < n {
+        if !points::in_range(positions[i]) {
+            return false;
+        }
+        i += 1;
+    }
+    true
+}
+
+// Whether the tables are sound.
+pub fn is_sound(
+    positions: &[i32],
+    corners: &[u32],
+    links: &[u32],
+    generations: &[u8],
+    vertices: u32,
+    triangles: u32,
+) -> bool
+    ensures { λ r. ⌜ r ≡ isSound (meshOf
+        (topologyOf vertices triangles (now (corners .entry)) (now (links .entry)) (now (generations .entry)))
+        (now (positions .entry))) ⌝ }
+{
+    if !tables_agree(positions, corners, links, generations) {
+        return false;
+    }
+    if !counts_fit(positions, generations, vertices, triangles) {
+        return false;
+    }
+    if !sides::triangles_fit(corners, links, generations, vertices, triangles) {
+        return false;
+    }
+    if !coordinates_fit(positions, 3 * (vertices as usize)) {
+        return false;
+    }
+    walks::fans(corners, links, triangles, vertices)
+}

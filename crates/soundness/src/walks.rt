@@ -1,0 +1,146 @@
+// The test of fans: a walk round each vertex.
+use super::BOUNDARY;
+ghost use mathlib.Core.Path.{_≡_};
+ghost use mathlib.Core.List.{List};
+ghost use Prim.Native.Nat.{ℕ, _+_, _*_, _≤_, _<_};
+ghost use lib.ListN.{length, getD};
+ghost use Rattle.rules.proofs.FanTotal.{walkLength};
+ghost use Rattle.rules.specs.Tables.{previous, topologyOf};
+ghost use Rattle.soundness.specs.Walks.{CornersInUse, Zeroed, Kept, AllKept, StartsInUse};
+ghost use Rattle.soundness.specs.Walks.{walksMeetAll, TellsFans};
+
+// The side before h in its triangle.
+fn previous(h: usize) -> usize
+    requires { ⌜ h < 4294967295 ⌝ }
+    ensures { λ r. ⌜ r ≡ previous h ⌝ }
+{
+    if h % 3 == 0 { h + 2 } else { h - 1 }
+}
+
+// The start of a vertex that had this start among the sides before h, once side h out of it, of this link, is seen.
+fn picked(start: u32, link: u32, h: u32) -> u32
+    requires { ⌜ h < 4294967295 ⌝ }
+    ensures { λ r. ⌜ ((c l : List ℕ) → getD l h 0 ≡ link → Kept c l h (getD c h 0) start
+        → Kept c l (h + 1) (getD c h 0) r) ⌝ }
+{
+    if link == BOUNDARY {
+        return h + 1;
+    }
+    if start == 0 {
+        return h + 1;
+    }
+    start
+}
+
+// Picks a start for each vertex.
+fn pick_starts(corners: &[u32], links: &[u32], triangles: u32, vertices: u32, starts: &mut [u32])
+    requires { ⌜ CornersInUse vertices triangles (now corners) (now links) × Zeroed vertices (now starts) ⌝ }
+    ensures { λ _. ⌜ AllKept vertices (now (corners .entry)) (now (links .entry)) (3 * triangles)
+        (now (starts .exit)) ⌝ }
+{
+    let sides = 3 * (triangles as usize);
+    let mut h: usize = 0;
+    while h < sides {
+        let v = corners[h] as usize;
+        starts[v] = picked(starts[v], links[h], h as u32);
+        h += 1;
+    }
+}
+
+// How many sides a walk from `first` meets. It reads neither corners nor generations.
+fn walk_length(links: &[u32], triangles: u32, first: usize) -> usize
+    requires { ⌜ (triangles ≤ 65536) × (3 * triangles ≤ length (now links)) × (first < 3 * triangles) ⌝ }
+    ensures { λ r. ⌜ (r ≤ triangles)
+        × ((v : ℕ) (c g : List ℕ) → r ≡ walkLength (topologyOf v triangles c (now (links .entry)) g) first) ⌝ }
+{
+    let most = triangles as usize;
+    let mut n: usize = 0;
+    let mut h = first;
+    while n < most {
+        n += 1;
+        let p = previous(h);
+        h = links[p] as usize;
+        if 3 * most <= h {
+            return n;
+        }
+        if h == first {
+            return n;
+        }
+    }
+    n
+}
+
+// Whether each vertex has a start and the walks from them meet as many sides as there are.
+fn walks_meet_all(links: &[u32], triangles: u32, vertices: u32, starts: &[u32]) -> bool
+    requires { ⌜ StartsInUse vertices triangles (now links) (now starts) ⌝ }
+    ensures { λ r. ⌜ ((c g : List ℕ) → r ≡ walksMeetAll
+        (topologyOf vertices triangles c (now (links .entry)) g) (now (starts .entry))) ⌝ }
+{
+    let mut met: usize = 0;
+    let mut v: usize = 0;
+    while v < vertices as usize {
+        let s = starts[v] as usize;
+        if s == 0 {
+            return false;
+        }
+        met += walk_length(links, triangles, s - 1);
+        v += 1;
+    }
+    met == 3 * (triangles as usize)
+}
+
+// The test of fans, with a zero for each vertex lent to keep its start.
+fn fans_by(
+    corners: &[u32],
+    links: &[u32],
+    triangles: u32,
+    vertices: u32,
+    starts: &mut [u32],
+) -> bool
+    requires { ⌜ CornersInUse vertices triangles (now corners) (now links) × Zeroed vertices (now starts) ⌝ }
+    ensures { λ r. ⌜ TellsFans vertices triangles (now (corners .entry)) (now (links .entry)) r ⌝ }
+{
+    pick_starts(corners, links, triangles, vertices, starts);
+    walks_meet_all(links, triangles, vertices, starts)
+}
+
+// The test of fans for up to 256 vertices.
+fn fans_within_256(corners: &[u32], links: &[u32], triangles: u32, vertices: u32) -> bool
+    requires { ⌜ CornersInUse vertices triangles (now corners) (now links) × (vertices ≤ 256) ⌝ }
+    ensures { λ r. ⌜ TellsFans vertices triangles (now (corners .entry)) (now (links .entry)) r ⌝ }
+{
+    let mut starts = [0u32; 256];
+    fans_by(corners, links, triangles, vertices, &mut starts)
+}
+
+// The test of fans for up to 2048 vertices.
+fn fans_within_2048(corners: &[u32], links: &[u32], triangles: u32, vertices: u32) -> bool
+    requires { ⌜ CornersInUse vertices triangles (now corners) (now links) × (vertices ≤ 2048) ⌝ }
+    ensures { λ r. ⌜ TellsFans vertices triangles (now (corners .entry)) (now (links .entry)) r ⌝ }
+{
+    let mut starts = [0u32; 2048];
+    fans_by(corners, links, triangles, vertices, &mut starts)
+}
+
+// The test of fans for up to 32768 vertices.
+fn fans_within_32768(corners: &[u32], links: &[u32], triangles: u32, vertices: u32) -> bool
+    requires { ⌜ CornersInUse vertices triangles (now corners) (now links) × (vertices ≤ 32768) ⌝ }
+    ensures { λ r. ⌜ TellsFans vertices triangles (now (corners .entry)) (now (links .entry)) r ⌝ }
+{
+    let mut starts = [0u32; 32768];
+    fans_by(corners, links, triangles, vertices, &mut starts)
+}
+
+// Whether each vertex has one fan. A small mesh has little to clear.
+pub fn fans(corners: &[u32], links: &[u32], triangles: u32, vertices: u32) -> bool
+    requires { ⌜ CornersInUse vertices triangles (now corners) (now links) ⌝ }
+    ensures { λ r. ⌜ TellsFans vertices triangles (now (corners .entry)) (now (links .entry)) r ⌝ }
+{
+    if vertices <= 256 {
+        return fans_within_256(corners, links, triangles, vertices);
+    }
+    if vertices <= 2048 {
+        return fans_within_2048(corners, links, triangles, vertices);
+    }
+    fans_within_32768(corners, links, triangles, vertices)
+}

@@ -1,0 +1,114 @@
+-- Bounds that keep a face split within the tables, a byte and its counts.
+use Prim.Native.Nat.{ℕ, suc, _+_, _*_, _/_, _≤_, _<_}
+use native.Mathlib.Decide.{ℕ-discrete, decLt}
+use native.Mathlib.Omega.{arith}
+use mathlib.Core.Bool.{Bool, true, false}
+use mathlib.Core.List.{List}
+use mathlib.Core.Path.{_≡_}
+use lib.ListN.{length, getD, set, List·getD-eq-default}
+use lib.Seq.{getD-set-same, getD-set-other, set-out}
+use Rattle.rules.proofs.Bases.{base-yes}
+use Rattle.rules.proofs.Carried.{RefineFound}
+use Rattle.rules.proofs.RefineLoop.{settle-counts, Refining, few-splits, refining-next}
+use Rattle.rules.specs.Calls.{splitsOf}
+use Rattle.rules.specs.Split.{Work, split, flip, withFlip, splitPlaced, settle, chainEnd}
+use Rattle.rules.specs.Tables.{Topology, Mesh, withTopology, link, generation, isBase}
+use Rattle.split.specs.Made.{splitCounted, MaySplit}
+
+-- A base is a side of a triangle within the table.
+pub base-within : (m : Topology) (h : ℕ) → isBase m h ≡ true → h / 3 < length (m .generations)
+base-within m h e = go (decLt (h / 3) (length (m .generations)))
+  where
+    go : Dec (h / 3 < length (m .generations)) → h / 3 < length (m .generations)
+    go (yes l) = l
+    go (no l) =
+        let z : getD (m .generations) (h / 3) 0 ≡ 0 = List·getD-eq-default (m .generations) 0 (omega arith) in
+        absurd (omega (arith, base-yes m h e .1))
+
+-- A slot that is written, and one that is not written above k.
+written-at-most : (l : List ℕ) (i v : ℕ) → getD (set l i v) i 0 ≤ v
+written-at-most l i v = go (decLt i (length l))
+  where
+    go : Dec (i < length l) → getD (set l i v) i 0 ≤ v
+    go (yes b) = rw (getD-set-same l i v 0 b) (omega arith)
+    go (no b) = let q : length l ≤ i = omega arith in rw (set-out l i v q, List·getD-eq-default l 0 q) (omega arith)
+
+kept-at-most : (l : List ℕ) (i v x k : ℕ) → getD l x 0 ≤ k → v ≤ k → getD (set l i v) x 0 ≤ k
+kept-at-most l i v x k b j = go (ℕ-discrete x i)
+  where
+    go : Dec (x ≡ i) → getD (set l i v) x 0 ≤ k
+    go (no n) = rw (getD-set-other l i x v 0 n) b
+    go (yes e) = let w = written-at-most l i v in rw e (omega arith)
+
+-- ---- the settlings of a face split
+
+-- The children in the slots t, f and e are of generation k at most, with n flips counted at most.
+pub record Low (t f e k n : ℕ) (w : Work) : Type 0 where
+  pub at-t : generation (w .mesh .topology) t ≤ k
+  pub at-f : generation (w .mesh .topology) f ≤ k
+  pub at-e : generation (w .mesh .topology) e ≤ k
+  pub flips : w .flips ≤ n
+
+-- A split makes children one above t.
+pub low-split : (t : ℕ) (w a : Work) → a ≡ splitCounted t w →
+    let m = w .mesh .topology in
+    Low t (m .triangles) (m .triangles + 1) (suc (generation m t)) (w .flips) a
+unfolding splitPlaced split
+low-split t w a ea =
+    let m : Topology = w .mesh .topology in
+    let f : ℕ = m .triangles in
+    let g : ℕ = suc (generation m t) in
+    let one : List ℕ = set (m .generations) t g in
+    let two : List ℕ = set one f g in
+    let at-t = kept-at-most one f g t g (written-at-most (m .generations) t g) (omega arith) in
+    rw ea (record {
+      at-t = kept-at-most two (f + 1) g t g at-t (omega arith);
+      at-f = kept-at-most two (f + 1) g f g (written-at-most one f g) (omega arith);
+      at-e = written-at-most two (f + 1) g;
+      flips = omega arith;
+    })
+
+-- Settling s raises it by one, and brings another to the same generation.
+settle-young : (s x k : ℕ) (w : Work) → generation (w .mesh .topology) s ≤ k → generation (w .mesh .topology) x ≤ k
+    → generation (settle s w .mesh .topology) x ≤ suc k
+unfolding settle flip
+settle-young s x k w i j = go (isBase m h)
+  where
+    m : Topology
+    m = w .mesh .topology
+
+    h : ℕ
+    h = link m (3 * s)
+
+    go : (b : Bool) →
+        let r : Work = elim b [ true ↦ withFlip (withTopology (flip s (h / 3) m) (w .mesh)) w | false ↦ w ] in
+        generation (r .mesh .topology) x ≤ suc k
+    go true =
+        let g : ℕ = suc (generation m s) in
+        let b = kept-at-most (m .generations) s g x (suc k) (omega arith) (omega arith) in
+        kept-at-most (set (m .generations) s g) (h / 3) g x (suc k) b (omega arith)
+    go false = omega arith
+
+pub low-settle : (s : ℕ) {t f e k n : ℕ} {w : Work} (a : Work) → Low t f e k n w → generation (w .mesh .topology) s ≤ k
+    → a ≡ settle s w → Low t f e (suc k) (suc n) a
+low-settle s {t} {f} {e} {k} {n} {w} a L i ea = rw ea (record {
+  at-t = settle-young s t k w i (L .at-t);
+  at-f = settle-young s f k w i (L .at-f);
+  at-e = settle-young s e k w i (L .at-e);
+  flips = omega (arith, settle-counts s w, L .flips);
+})
+
+-- ---- what the next split of a refine asks
+
+pub next-may-split : {t : ℕ} {m : Mesh} {w : Work} → RefineFound t m → Refining t m w
+    → w .splits < splitsOf (m .topology) t → (v : ℕ) → v ≡ chainEnd (w .mesh .topology) t → MaySplit v w
+next-may-split R N i v e =
+    let S = refining-next R N i in
+    rw e (record {
+      tables = S .tables;
+      slot = omega (arith, S .inUse, S .room .triangles);
+      room = S .room;
+      young = omega (arith, S .young);
+      splits = omega (arith, few-splits R);
+      flips = omega (arith, few-splits R, N .flips);
+    })

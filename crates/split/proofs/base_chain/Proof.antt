@@ -1,0 +1,100 @@
+-- `split::base_chain` meets its contract: at each turn what is counted and what is ahead make the whole chain.
+use borrow.Author.Needs.{needs}
+use Prim.Native.Nat.{ℕ, suc, _+_, _-_, _%_, _≤_}
+use native.Mathlib.Omega.{arith}
+use mathlib.Core.List.{List}
+use mathlib.Core.Path.{_≡_, sym, _∙_}
+use lib.ListN.{getD}
+use Rattle.rules.specs.Tables.{Topology}
+use Rattle.tables.specs.declared.Counts.{Counts}
+use Rattle.tables.specs.Lent.{topologyNow}
+use Rattle.split.proofs.Walk.{Walking, walk-begins, walk-ends, walk-more, walk-even, walk-boundary, walk-on}
+use Rattle.split.proofs.base_chain.Statement.{statement}
+use Rattle.split.proofs.base_chain.Tie as tie
+
+abbrev Inv-loop : tie.InvT-loop
+Inv-loop links generations t odd₀ end₀ left₀ odd end left =
+    ((n : Counts) (corners : List ℕ) → Walking (topologyNow n corners links generations) t odd end left)
+    × (odd + left ≤ 255)
+
+abbrev μ-loop : tie.MeasureT-loop
+μ-loop links generations t odd₀ end₀ left₀ odd end left = left
+
+-- In the loop, at a triangle whose generation was read.
+module _ (c : tie.After-generation-at2 Inv-loop μ-loop) (n : Counts) (corners : List ℕ) where
+  abbrev loop-head : tie.At-loop Inv-loop μ-loop
+  loop-head = c .before .before
+
+  abbrev topology : Topology
+  topology =
+      let args = loop-head .before .before .before .before .args in
+      topologyNow n corners (args .links .now) (args .generations .now)
+
+  walking : Walking topology (loop-head .before .before .before .before .args .t) (loop-head .loop .odd) (loop-head .loop .end) (suc (loop-head .loop .left - 1))
+  walking = walk-more (loop-head .loop .left) (c .before .loop-test .taken) (loop-head .loop .inv .0 n corners)
+
+is-odd : (c : tie.Else1 Inv-loop μ-loop) →
+    let args = c .before .before .before .before .before .before .before .args in
+    getD (args .generations .now) (c .before .before .before .loop .end) 0 % 2 ≡ 1
+is-odd c = rw (← c .before .generation-at2 .ensures) (omega (arith, c .if1 .left))
+
+generation-at-requires : tie.Need-generation-at-requires Inv-loop μ-loop
+generation-at-requires c κs = search needs
+
+loop-holds : tie.Need-loop-holds Inv-loop μ-loop
+loop-holds c = (λ n corners. rw (c .generation-at .ensures) walk-begins, search needs)
+
+generation-at-requires-2 : tie.Need-generation-at-requires-2 Inv-loop μ-loop
+generation-at-requires-2 c κs = search needs
+
+add-odd : tie.Need-add-odd Inv-loop μ-loop
+add-odd c = search needs
+
+base-link-requires : tie.Need-base-link-requires Inv-loop μ-loop
+base-link-requires c κs = search needs
+
+sub-left : tie.Need-sub-left Inv-loop μ-loop
+sub-left c = search needs
+
+loop-less : tie.Need-loop-less Inv-loop μ-loop
+loop-less c = search needs
+
+loop-again : tie.Need-loop-again Inv-loop μ-loop
+loop-again c = (
+  λ n corners.
+      rw (c .before .base-link .ensures)
+      (walk-on _ (walking (c .before .before .before) n corners) (is-odd (c .before .before))
+      (λ e. c .if2 .left (c .before .base-link .ensures ∙ e))),
+  search needs,
+)
+
+returns : tie.Need-returns Inv-loop μ-loop
+returns c n corners =
+    let none : c .before .loop .left ≡ 0 = omega (arith, c .loop-test .left) in
+    walk-ends (rw none at (c .before .loop .inv .0 n corners))
+
+returns-2 : tie.Need-returns-2 Inv-loop μ-loop
+returns-2 c n corners = walk-even _ (walking (c .before) n corners) (rw (← c .before .generation-at2 .ensures) (c .if1 .taken))
+
+returns-3 : tie.Need-returns-3 Inv-loop μ-loop
+returns-3 c n corners =
+    walk-boundary _ (walking (c .before .before .before) n corners) (is-odd (c .before .before))
+    (sym (c .before .base-link .ensures) ∙ c .if2 .taken)
+
+pub base-chain-spec : {M : Type 1} → statement M
+base-chain-spec =
+    tie.close
+    (tie.spec
+    Inv-loop
+    μ-loop
+    generation-at-requires
+    loop-holds
+    generation-at-requires-2
+    add-odd
+    base-link-requires
+    sub-left
+    loop-less
+    loop-again
+    returns
+    returns-2
+    returns-3)

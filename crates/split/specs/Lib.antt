@@ -1,0 +1,2 @@
+-- What the contracts of split cite beside the rules.
+pub mod Made

@@ -1,0 +1,76 @@
+-- What face splits, flips and chains make, as records of the code.
+use Prim.Native.Nat.{ℕ, suc, _+_, _*_, _≤_, _<_}
+use mathlib.Core.List.{List, [], _∷_}
+use lib.IntN.{ℤ}
+use Rattle.rules.specs.Conditions.{RoomFor}
+use Rattle.rules.specs.Split as rules
+use Rattle.rules.specs.Split.{withSplit, splitPlaced, chainEnd, chainOdd}
+use Rattle.rules.specs.Tables.{Topology, TablesAgree, generation, triangleSlots}
+use Rattle.tables.specs.declared.Counts.{Counts}
+use Rattle.tables.specs.declared.Triangle.{Triangle}
+use Rattle.tables.specs.Lent.{meshNow, entries}
+use Rattle.split.specs.declared.Chain.{Chain}
+use Rattle.split.specs.declared.Work.{Work}
+
+-- ---- work
+
+abbrev pub countsOf : Work → Counts
+countsOf w = record { vertices = w .vertices; triangles = w .triangles }
+
+-- The work done, with what the slices hold.
+abbrev pub workNow : Work → List ℤ → List ℕ → List ℕ → List ℕ → rules.Work
+workNow w positions corners links generations = record {
+  mesh = meshNow (countsOf w) positions corners links generations;
+  splits = w .splits;
+  flips = w .flips;
+}
+
+-- The split of t placed and counted, with no flip yet.
+abbrev pub splitCounted : ℕ → rules.Work → rules.Work
+splitCounted t w = withSplit (splitPlaced t (w .mesh)) w
+
+-- What a face split of t asks: tables that agree, a slot for t, room, and generations and counts that do not overflow.
+pub record MaySplit (t : ℕ) (w : rules.Work) : Type 0 where
+  pub tables : TablesAgree (w .mesh)
+  pub slot : t < triangleSlots (w .mesh)
+  pub room : RoomFor 1 (w .mesh)
+  pub young : generation (w .mesh .topology) t ≤ 251
+  pub splits : w .splits < 4294967295
+  pub flips : w .flips + 3 ≤ 4294967295
+
+-- ---- triangles
+
+abbrev pub triangle : ℕ × ℕ × ℕ → ℕ × ℕ × ℕ → ℕ → Triangle
+triangle c l g = record {
+  corners = c .0 ∷ c .1 ∷ c .2 ∷ [];
+  links = l .0 ∷ l .1 ∷ l .2 ∷ [];
+  generation = g;
+}
+
+-- The children (A,B,P), (B,C,P) and (C,A,P) of x = (A,B,C), for the slots t, f and e = f + 1.
+abbrev pub childrenOf : Triangle → ℕ → ℕ → ℕ → List Triangle
+childrenOf x t f p =
+    let c = entries (x .corners) in
+    let l = entries (x .links) in
+    let e = f + 1 in
+    let g = suc (x .generation) in
+    triangle (c .0, c .1, p) (l .0, 3 * f + 2, 3 * e + 1) g
+    ∷ triangle (c .1, c .2, p) (l .1, 3 * e + 2, 3 * t + 1) g
+    ∷ triangle (c .2, c .0, p) (l .2, 3 * t + 2, 3 * f + 1) g
+    ∷ []
+
+-- The flipped (A,Q,P) and (B,P,Q) of x = (A,B,P) and y = (B,A,Q), for the slots s and u.
+abbrev pub flippedOf : Triangle → Triangle → ℕ → ℕ → List Triangle
+flippedOf x y s u =
+    let a = entries (x .corners) in
+    let b = entries (y .corners) in
+    let k = entries (x .links) in
+    let l = entries (y .links) in
+    let g = suc (x .generation) in
+    triangle (a .0, b .2, a .2) (l .1, 3 * u + 1, k .2) g ∷ triangle (b .0, a .2, b .2) (k .1, 3 * s + 1, l .2) g ∷ []
+
+-- ---- chains
+
+-- The base chain of t.
+abbrev pub chainOf : Topology → ℕ → Chain
+chainOf m t = record { odd = chainOdd m t; end = chainEnd m t }

@@ -1,0 +1,318 @@
+// Face split, flip, the base chain and the refinement of one triangle, on the lent tables.
+use points::Point;
+use tables::Counts;
+use tables::Triangle;
+ghost use mathlib.Core.List.{List};
+ghost use mathlib.Core.Path.{_≡_};
+ghost use Prim.Native.Nat.{ℕ, _+_, _*_, _≤_, _<_, max};
+ghost use lib.IntN.{ℤ};
+ghost use lib.ListN.{length, getD};
+ghost use Rattle.points.specs.Axes.{eachAxis};
+ghost use Rattle.rules.proofs.Carried.{RefineFound};
+ghost use Rattle.rules.specs.Calls.{splitsOf};
+ghost use Rattle.rules.specs.Split.{split, flip, centre, settle, faceSplit, atFirst, refine};
+ghost use Rattle.rules.specs.Tables.{isBase};
+ghost use Rattle.tables.specs.declared.Counts.{Counts};
+ghost use Rattle.tables.specs.Lent.{topologyNow, meshNow, TrianglesAgree, VerticesAgree};
+ghost use Rattle.split.specs.Made.{workNow, splitCounted, MaySplit, childrenOf, flippedOf, chainOf};
+
+// The slots in use, and the face splits and flips made so far.
+pub struct Work {
+    pub vertices: u32,
+    pub triangles: u32,
+    pub splits: u32,
+    pub flips: u32,
+}
+
+// A base chain: its odd triangles and the slot of its last triangle.
+pub struct Chain {
+    pub odd: u32,
+    pub end: u32,
+}
+
+impl Chain {
+    // The face splits that refining the chain's first triangle takes.
+    pub fn splits(self) -> u32
+        ensures { λ r. ⌜ r ≡ max 1 (self .odd) ⌝ }
+    {
+        if self.odd == 0 { 1 } else { self.odd }
+    }
+}
+
+// The triangles that take the place of x, of slot t: p is the new vertex, f the first free slot and e the next.
+//
+//            C                         C
+//           / \                       /|\
+//          /   \                     / | \
+//         /  t  \                   / e|f \
+//        /       \                 /  .p.  \
+//       /         \               / .  t  . \
+//      A-----------B             A-----------B
+fn children(x: Triangle, t: u32, f: u32, p: u32) -> [Triangle; 3]
+    requires { ⌜ (t < 65536) × (f < 65536) × (x .generation < 255) ⌝ }
+    ensures { λ r. ⌜ r ≡ childrenOf x t f p ⌝ }
+{
+    let g = x.generation + 1;
+    let e = f + 1;
+    [
+        Triangle {
+            corners: [x.corners[0], x.corners[1], p],
+            links: [x.links[0], 3 * f + 2, 3 * e + 1],
+            generation: g,
+        },
+        Triangle {
+            corners: [x.corners[1], x.corners[2], p],
+            links: [x.links[1], 3 * e + 2, 3 * t + 1],
+            generation: g,
+        },
+        Triangle {
+            corners: [x.corners[2], x.corners[0], p],
+            links: [x.links[2], 3 * t + 2, 3 * f + 1],
+            generation: g,
+        },
+    ]
+}
+
+// The triangles that take the place of x, of slot s, and y, of slot u, whose bases meet.
+//
+//            P                         P
+//           / \                       /|\
+//          / s \                     / | \
+//         A-----B                   A s|u B
+//          \ u /                     \ | /
+//           \ /                       \|/
+//            Q                         Q
+fn flipped(x: Triangle, y: Triangle, s: u32, u: u32) -> [Triangle; 2]
+    requires { ⌜ (s < 65536) × (u < 65536) × (x .generation < 255) ⌝ }
+    ensures { λ r. ⌜ r ≡ flippedOf x y s u ⌝ }
+{
+    let g = x.generation + 1;
+    [
+        Triangle {
+            corners: [x.corners[0], y.corners[2], x.corners[2]],
+            links: [y.links[1], 3 * u + 1, x.links[2]],
+            generation: g,
+        },
+        Triangle {
+            corners: [y.corners[0], x.corners[2], y.corners[2]],
+            links: [x.links[1], 3 * s + 1, y.links[2]],
+            generation: g,
+        },
+    ]
+}
+
+// The base that the triangles in slots s and u share is flipped.
+fn flip(corners: &mut [u32], links: &mut [u32], generations: &mut [u8], s: u32, u: u32)
+    requires { ⌜ TrianglesAgree (now corners) (now links) (now generations) × (s < length (now generations))
+        × (u < length (now generations)) × (getD (now generations) s 0 < 255) ⌝ }
+    ensures { λ r. ⌜ ((n : Counts) →
+        topologyNow n (now (corners .exit)) (now (links .exit)) (now (generations .exit))
+        ≡ flip s u (topologyNow n (now (corners .entry)) (now (links .entry)) (now (generations .entry)))) ⌝ }
+{
+    let to_s = 3 * s;
+    let to_u = 3 * u;
+    let x = tables::triangle_at(corners, links, generations, s);
+    let y = tables::triangle_at(corners, links, generations, u);
+    let pair = flipped(x, y, s, u);
+    let at_s = pair[0];
+    let at_u = pair[1];
+    tables::relink(links, x.links[1], to_u);
+    tables::relink(links, y.links[1], to_s);
+    tables::store(corners, links, generations, s, at_s);
+    tables::store(corners, links, generations, u, at_u);
+}
+
+// Whether side h is the base of an odd triangle.
+fn is_base(generations: &[u8], h: u32) -> bool
+    ensures { λ r. ⌜ ((n : Counts) (corners links : List ℕ) →
+        r ≡ isBase (topologyNow n corners links (now (generations .entry))) h) ⌝ }
+{
+    h % 3 == 0 && tables::generation_at(generations, h / 3) % 2 == 1
+}
+
+// Where the base of s meets a base, the two triangles are flipped.
+fn settle(
+    corners: &mut [u32],
+    links: &mut [u32],
+    generations: &mut [u8],
+    work: Work,
+    s: u32,
+) -> Work
+    requires { ⌜ TrianglesAgree (now corners) (now links) (now generations) × (s < length (now generations))
+        × (getD (now generations) s 0 < 255) × (work .flips < 4294967295) ⌝ }
+    ensures { λ r. ⌜ ((positions : List ℤ) →
+        workNow r positions (now (corners .exit)) (now (links .exit)) (now (generations .exit))
+        ≡ settle s (workNow work positions (now (corners .entry)) (now (links .entry)) (now (generations .entry)))) ⌝ }
+{
+    let i = 3 * (s as usize);
+    let h = links[i];
+    if is_base(generations, h) {
+        let after = Work {
+            vertices: work.vertices,
+            triangles: work.triangles,
+            splits: work.splits,
+            flips: work.flips + 1,
+        };
+        flip(corners, links, generations, s, h / 3);
+        after
+    } else {
+        work
+    }
+}
+
+// The split of t with no flip yet.
+fn split(
+    corners: &mut [u32],
+    links: &mut [u32],
+    generations: &mut [u8],
+    n: Counts,
+    t: u32,
+) -> Counts
+    requires { ⌜ TrianglesAgree (now corners) (now links) (now generations) × (t < length (now generations))
+        × (n .triangles + 2 ≤ length (now generations)) × (n .vertices < 32768) × (getD (now generations) t 0 < 255) ⌝ }
+    ensures { λ r. ⌜ topologyNow r (now (corners .exit)) (now (links .exit)) (now (generations .exit))
+        ≡ split t (topologyNow n (now (corners .entry)) (now (links .entry)) (now (generations .entry))) ⌝ }
+{
+    let p = n.vertices;
+    let f = n.triangles;
+    let e = f + 1;
+    let to_f = 3 * f;
+    let to_e = 3 * e;
+    let after = Counts {
+        vertices: p + 1,
+        triangles: f + 2,
+    };
+    let x = tables::triangle_at(corners, links, generations, t);
+    let three = children(x, t, f, p);
+    let at_t = three[0];
+    let at_f = three[1];
+    let at_e = three[2];
+    tables::relink(links, x.links[1], to_f);
+    tables::relink(links, x.links[2], to_e);
+    tables::store(corners, links, generations, t, at_t);
+    tables::store(corners, links, generations, f, at_f);
+    tables::store(corners, links, generations, e, at_e);
+    after
+}
+
+// The centre of t.
+fn centre(positions: &[i32], corners: &[u32], t: u32) -> Point
+    requires { ⌜ VerticesAgree (now positions) × (3 * t + 2 < length (now corners)) ⌝ }
+    ensures { λ r. ⌜ ((n : Counts) (links generations : List ℕ) →
+        r ≡ eachAxis (centre (meshNow n (now (positions .entry)) (now (corners .entry)) links generations) t)) ⌝ }
+{
+    let i = 3 * (t as usize);
+    let a = tables::point_at(positions, corners[i]);
+    let b = tables::point_at(positions, corners[i + 1]);
+    let c = tables::point_at(positions, corners[i + 2]);
+    Point::thirds(a, b, c)
+}
+
+// The split of t with the new vertex placed at the centre.
+fn split_placed(
+    positions: &mut [i32],
+    corners: &mut [u32],
+    links: &mut [u32],
+    generations: &mut [u8],
+    work: Work,
+    t: u32,
+) -> Work
+    requires { ⌜ MaySplit t (workNow work (now positions) (now corners) (now links) (now generations)) ⌝ }
+    ensures { λ r. ⌜
+        workNow r (now (positions .exit)) (now (corners .exit)) (now (links .exit)) (now (generations .exit))
+        ≡ splitCounted t (workNow work
+        (now (positions .entry)) (now (corners .entry)) (now (links .entry)) (now (generations .entry))) ⌝ }
+{
+    let v = work.vertices;
+    let before = Counts {
+        vertices: v,
+        triangles: work.triangles,
+    };
+    let splits = work.splits + 1;
+    let p = centre(positions, corners, t);
+    tables::store_point(positions, v, p);
+    let after = split(corners, links, generations, before, t);
+    Work {
+        vertices: after.vertices,
+        triangles: after.triangles,
+        splits,
+        flips: work.flips,
+    }
+}
+
+// The face split of t, with its flips.
+pub fn face_split(
+    positions: &mut [i32],
+    corners: &mut [u32],
+    links: &mut [u32],
+    generations: &mut [u8],
+    work: Work,
+    t: u32,
+) -> Work
+    requires { ⌜ MaySplit t (workNow work (now positions) (now corners) (now links) (now generations)) ⌝ }
+    ensures { λ r. ⌜
+        workNow r (now (positions .exit)) (now (corners .exit)) (now (links .exit)) (now (generations .exit))
+        ≡ faceSplit t (workNow work
+        (now (positions .entry)) (now (corners .entry)) (now (links .entry)) (now (generations .entry))) ⌝ }
+{
+    let f = work.triangles;
+    let e = f + 1;
+    let cut = split_placed(positions, corners, links, generations, work, t);
+    let one = settle(corners, links, generations, cut, t);
+    let two = settle(corners, links, generations, one, f);
+    settle(corners, links, generations, two, e)
+}
+
+// The base chain of t: from an odd triangle on to the one across its base, until an even one or the boundary.
+pub fn base_chain(links: &[u32], generations: &[u8], t: u32) -> Chain
+    ensures { λ r. ⌜ ((n : Counts) (corners : List ℕ) →
+        r ≡ chainOf (topologyNow n corners (now (links .entry)) (now (generations .entry))) t) ⌝ }
+{
+    let mut odd: u32 = 0;
+    let mut end = t;
+    let mut left = tables::generation_at(generations, t);
+    while 0 < left {
+        if tables::generation_at(generations, end) % 2 == 0 {
+            break;
+        }
+        odd += 1;
+        let across = tables::base_link(links, end);
+        if across == tables::BOUNDARY {
+            break;
+        }
+        end = across / 3;
+        left -= 1;
+    }
+    Chain { odd, end }
+}
+
+// The refinement of t, by as many face splits as it takes. The end of the base chain is found anew for each, as a flip may
+// move what lies across a base to another slot.
+pub fn refine(
+    positions: &mut [i32],
+    corners: &mut [u32],
+    links: &mut [u32],
+    generations: &mut [u8],
+    counts: Counts,
+    t: u32,
+    splits: u32,
+) -> Work
+    requires { ⌜ RefineFound t (meshNow counts (now positions) (now corners) (now links) (now generations))
+        × (splits ≡ splitsOf (topologyNow counts (now corners) (now links) (now generations)) t) ⌝ }
+    ensures { λ r. ⌜
+        workNow r (now (positions .exit)) (now (corners .exit)) (now (links .exit)) (now (generations .exit))
+        ≡ refine t (atFirst (meshNow counts
+        (now (positions .entry)) (now (corners .entry)) (now (links .entry)) (now (generations .entry)))) ⌝ }
+{
+    let mut work = Work {
+        vertices: counts.vertices,
+        triangles: counts.triangles,
+        splits: 0,
+        flips: 0,
+    };
+    while work.splits < splits {
+        let chain = base_chain(links, generations, t);
+        work = face_split(positions, corners, links, generations, work, chain.end);
+    }
+    work
+}

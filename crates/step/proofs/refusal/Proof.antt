@@ -1,0 +1,140 @@
+-- `step::refusal` meets its contract.
+use borrow.Author.Needs.{needs}
+use borrow.Author.Tests.{eq-eqb, ne-eqb, not-true, not-false}
+use native.Mathlib.Omega.{arith}
+use mathlib.Core.Bool.{true, false}
+use mathlib.Core.Path.{_≡_, sym, _∙_}
+use lib.Dec.{eqb}
+use Rattle.rules.proofs.StepRefusals.{longRing, refused-12, refused-9, refused-13, refused-11, not-refused}
+use Rattle.rules.specs.Calls.{closedEven, roomFor}
+use Rattle.rules.specs.Sound.{Sound}
+use Rattle.rules.specs.Tables.{Mesh, generation}
+use Rattle.tables.specs.Lent.{meshNow}
+use Rattle.step.specs.Moves.{Closed}
+use Rattle.step.proofs.Deciding.{closed-of}
+use Rattle.step.proofs.refusal.Statement.{statement}
+use Rattle.step.proofs.refusal.Tie as tie
+
+abbrev mesh : tie.Start → Mesh
+mesh c =
+    let args = c .args in
+    meshNow (args .counts) (args .positions .now) (args .corners .now) (args .links .now) (args .generations .now)
+
+-- The mesh is closed and of one even generation.
+module _ (c : tie.Else1) where
+  abbrev start : tie.Start
+  start = c .before .before .before .before .before
+
+  sound : Sound (mesh start)
+  sound = start .pre .0
+
+  even : closedEven (mesh start .topology) ≡ true
+  even = sym (c .before .closed-even .ensures _ _) ∙ not-false _ (c .if1 .left)
+
+  closed : Closed (mesh start)
+  closed = closed-of sound even
+
+-- Its generation is below 20.
+young : (c : tie.Else2) → eqb (generation (mesh (start (c .before .before)) .topology) 0) 20 ≡ false
+young c = ne-eqb _ _ (c .if2 .left)
+
+-- Its rings are short.
+short : (c : tie.Else3) → longRing (mesh (start (c .before .before .before .before .before .before))) ≡ false
+short c =
+    let at-moves = c .before .before in
+    let inner = at-moves .before .before .before .before in
+    not-true _ (sym (at-moves .moves .ensures _ (closed inner) .0) ∙ not-false _ (c .if3 .left))
+
+-- What is told of the room for it.
+room-told : (c : tie.After-has-room) →
+    let m = mesh (start (c .before .before .before .before .before .before .before)) in
+    c .has-room .result ≡ roomFor (m .topology .triangles) m
+room-told c =
+    let m = mesh (start (c .before .before .before .before .before .before .before)) in
+    c .has-room .ensures (m .topology .corners) (m .topology .links)
+
+closed-even-requires : tie.Need-closed-even-requires
+closed-even-requires c κs =
+    let S = c .before .before .before .pre .0 in
+    omega (arith, S .tables .links, S .tables .fewTriangles, S .triangleRoom)
+
+returns : tie.Need-returns
+returns c = (
+  refused-12 (c .before .before .before .before .before .pre .0)
+      (sym (c .before .closed-even .ensures _ _) ∙ not-true _ (c .if1 .taken)),
+  λ e. absurd (omega arith),
+)
+
+shared-slice-read-if2 : tie.Need-shared-slice-read-if2
+shared-slice-read-if2 c = let S = sound (c .before) in omega (arith, S .someTriangle, S .triangleRoom)
+
+returns-2 : tie.Need-returns-2
+returns-2 c =
+    let inner = c .before .before in
+    (refused-9 (sound inner) (even inner) (eq-eqb _ _ (c .if2 .taken)), λ e. absurd (omega arith))
+
+moves-requires : tie.Need-moves-requires
+moves-requires c κs =
+    let inner = c .before .before .before in
+    let S = sound inner in
+    ((_, closed inner), omega (arith, start inner .pre .1 .is, S .tables .fewVertices, S .vertexRoom))
+
+same-length : tie.Need-same-length
+same-length c = search needs
+
+returns-3 : tie.Need-returns-3
+returns-3 c =
+    let at-moves = c .before .before in
+    let second = at-moves .before .before in
+    let inner = second .before .before in (
+      refused-13 (sound inner) (even inner) (young second)
+          (not-false _ (sym (at-moves .moves .ensures _ (closed inner) .0) ∙ not-true _ (c .if3 .taken))),
+      λ e. absurd (omega arith),
+    )
+
+has-room-requires : tie.Need-has-room-requires
+has-room-requires c κs = search needs
+
+same-length-2 : tie.Need-same-length-2
+same-length-2 c = search needs
+
+returns-4 : tie.Need-returns-4
+returns-4 c =
+    let third = c .before .before in
+    let second = third .before .before .before .before in
+    let inner = second .before .before in (
+      refused-11 (sound inner) (even inner) (young second) (short third)
+          (sym (room-told (c .before)) ∙ not-true _ (c .if4 .taken)),
+      λ e. absurd (omega arith),
+    )
+
+same-length-3 : tie.Need-same-length-3
+same-length-3 c = search needs
+
+returns-5 : tie.Need-returns-5
+returns-5 c =
+    let third = c .before .before in
+    let at-moves = third .before .before in
+    let second = at-moves .before .before in
+    let inner = second .before .before in (
+      not-refused (sound inner) (even inner) (young second) (short third)
+          (sym (room-told (c .before)) ∙ not-false _ (c .if4 .left)),
+      λ e. at-moves .moves .ensures _ (closed inner) .1 (not-false _ (third .if3 .left)),
+    )
+
+pub refusal-spec : {M : Type 1} → statement M
+refusal-spec =
+    tie.close
+    (tie.spec
+    closed-even-requires
+    returns
+    shared-slice-read-if2
+    returns-2
+    moves-requires
+    same-length
+    returns-3
+    has-room-requires
+    same-length-2
+    returns-4
+    same-length-3
+    returns-5)

@@ -1,0 +1,92 @@
+-- `step::split_all` meets its contract: the loop of the whole step.
+use borrow.Author.Needs.{needs}
+use Prim.Native.Nat.{_-_, _≤_}
+use native.Mathlib.Omega.{arith}
+use mathlib.Core.Path.{_≡_, refl, _∙_}
+use Rattle.rules.proofs.RefineLoop.{SameSlots}
+use Rattle.rules.proofs.StepLoop.{step-slots, step-on}
+use Rattle.rules.specs.Split.{atFirst}
+use Rattle.rules.specs.Step.{refineFirst}
+use Rattle.tables.specs.Lent.{meshNow}
+use Rattle.split.specs.Made.{workNow}
+use Rattle.step.proofs.Splitting.{next-may-split}
+use Rattle.step.proofs.split_all.Statement.{statement}
+use Rattle.step.proofs.split_all.Tie as tie
+
+abbrev Inv-loop : tie.InvT-loop
+Inv-loop positions₀ corners₀ links₀ generations₀ f t₀ work₀ positions corners links generations t work =
+    (t ≤ f) × (workNow work positions corners links generations
+    ≡ refineFirst t (atFirst (workNow work₀ positions₀ corners₀ links₀ generations₀ .mesh)))
+
+abbrev μ-loop : tie.MeasureT-loop
+μ-loop positions₀ corners₀ links₀ generations₀ f t₀ work₀ positions corners links generations t work = f - t
+
+loop-holds : tie.Need-loop-holds Inv-loop μ-loop
+unfolding refineFirst
+loop-holds c = (omega arith, refl)
+
+face-split-requires : tie.Need-face-split-requires Inv-loop μ-loop
+face-split-requires c κs =
+    let head = c .before .before .before .before .before in
+    next-may-split (head .before .before .before .before .pre) (head .loop .inv .1)
+    (c .before .before .before .before .loop-test .taken)
+
+add-t : tie.Need-add-t Inv-loop μ-loop
+add-t c = search needs
+
+loop-less : tie.Need-loop-less Inv-loop μ-loop
+loop-less c = search needs
+
+loop-again : tie.Need-loop-again Inv-loop μ-loop
+loop-again c =
+    let at-face-split = c .before .before .before .before .before .before .before in
+    let turn = at-face-split .before .before .before .before .before in
+    let head = turn .before in (
+      omega arith,
+      at-face-split .face-split .ensures
+          ∙ step-on (head .before .before .before .before .pre) (head .loop .inv .1) (head .loop .inv .0)
+          (turn .loop-test .taken),
+    )
+
+-- At the end of the loop the tables have the slots that they had.
+slots : (c : tie.At-loop Inv-loop μ-loop) →
+    let args = c .before .before .before .before .args in
+    let l = c .loop in
+    SameSlots
+    (meshNow (args .counts) (args .positions .now) (args .corners .now) (args .links .now) (args .generations .now))
+    (workNow (l .work) (l .positions) (l .corners) (l .links) (l .generations) .mesh)
+slots c = step-slots (c .before .before .before .before .pre) (c .loop .inv .1) (c .loop .inv .0)
+
+same-length : tie.Need-same-length Inv-loop μ-loop
+same-length c = slots (c .before) .positions
+
+same-length-2 : tie.Need-same-length-2 Inv-loop μ-loop
+same-length-2 c = slots (c .before) .corners
+
+same-length-3 : tie.Need-same-length-3 Inv-loop μ-loop
+same-length-3 c = slots (c .before) .links
+
+same-length-4 : tie.Need-same-length-4 Inv-loop μ-loop
+same-length-4 c = slots (c .before) .generations
+
+returns : tie.Need-returns Inv-loop μ-loop
+returns c =
+    let e : c .before .loop .t ≡ c .before .before .before .before .before .args .counts .triangles = omega arith in
+    rw e at (c .before .loop .inv .1)
+
+pub split-all-spec : {M : Type 1} → statement M
+split-all-spec =
+    tie.close
+    (tie.spec
+    Inv-loop
+    μ-loop
+    loop-holds
+    face-split-requires
+    add-t
+    loop-less
+    loop-again
+    same-length
+    same-length-2
+    same-length-3
+    same-length-4
+    returns)

@@ -1,0 +1,47 @@
+-- The tables of the rules, as lent slices hold them, and one triangle of them as a record.
+use Prim.Native.Nat.{ℕ, _+_, _*_, _/_, _≤_}
+use mathlib.Core.List.{List, [], _∷_}
+use mathlib.Core.Path.{_≡_}
+use lib.IntN.{ℤ}
+use lib.ListN.{length, getD}
+use Rattle.points.specs.declared.Point.{Point}
+use Rattle.rules.specs.Tables.{Topology, Mesh, topologyOf, meshOf, origin, link, generation, putThree, putTriangle}
+use Rattle.tables.specs.declared.Counts.{Counts}
+use Rattle.tables.specs.declared.Triangle.{Triangle}
+
+-- What the slices hold, with the counts in use.
+abbrev pub topologyNow : Counts → List ℕ → List ℕ → List ℕ → Topology
+topologyNow n corners links generations = topologyOf (n .vertices) (n .triangles) corners links generations
+
+abbrev pub meshNow : Counts → List ℤ → List ℕ → List ℕ → List ℕ → Mesh
+meshNow n positions corners links generations = meshOf (topologyNow n corners links generations) positions
+
+-- The triangles' tables agree in their slots and keep to the maximum.
+pub record TrianglesAgree (c l g : List ℕ) : Type 0 where
+  pub corners : length c ≡ 3 * length g
+  pub links : length l ≡ 3 * length g
+  pub few : length g ≤ 65536
+
+-- The vertices' table has three entries a slot and keeps to the maximum.
+pub record VerticesAgree (positions : List ℤ) : Type 0 where
+  pub whole : length positions ≡ 3 * (length positions / 3)
+  pub few : length positions / 3 ≤ 32768
+
+-- The triangle in slot t.
+abbrev pub triangleAt : Topology → ℕ → Triangle
+triangleAt m t = record {
+  corners = origin m (3 * t) ∷ origin m (3 * t + 1) ∷ origin m (3 * t + 2) ∷ [];
+  links = link m (3 * t) ∷ link m (3 * t + 1) ∷ link m (3 * t + 2) ∷ [];
+  generation = generation m t;
+}
+
+-- The three entries of an array.
+abbrev pub entries : List ℕ → ℕ × ℕ × ℕ
+entries l = (getD l 0 0, getD l 1 0, getD l 2 0)
+
+-- The triangle x put into slot t, and the point p into vertex slot v.
+abbrev pub put : ℕ → Triangle → Topology → Topology
+put t x m = putTriangle t (entries (x .corners)) (entries (x .links)) (x .generation) m
+
+abbrev pub putPoint : ℕ → Point → List ℤ → List ℤ
+putPoint v p positions = putThree v (p .x, p .y, p .z) positions

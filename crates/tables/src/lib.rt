@@ -1,0 +1,133 @@
+// The lent tables: triangles and points read from their slots and stored in them.
+use points::Point;
+ghost use mathlib.Core.List.{List};
+ghost use mathlib.Core.Path.{_≡_};
+ghost use Prim.Native.Nat.{ℕ, _+_, _*_, _<_};
+ghost use lib.ListN.{length, getD};
+ghost use Rattle.points.specs.Axes.{eachAxis};
+ghost use Rattle.rules.specs.Tables.{Topology, meshOf, coordinate, putThree, relink};
+ghost use Rattle.tables.specs.declared.Counts.{Counts};
+ghost use Rattle.tables.specs.Lent.{topologyNow, TrianglesAgree, VerticesAgree, triangleAt, entries, put, putPoint};
+
+// The slots in use: they are the first of their tables.
+#[repr(C)]
+pub struct Counts {
+    pub vertices: u32,
+    pub triangles: u32,
+}
+
+// What a side without a partner links to.
+pub const BOUNDARY: u32 = 4294967295;
+
+// Side i runs from corner i to the next, and links[i] is the side across it or the boundary.
+pub struct Triangle {
+    pub corners: [u32; 3],
+    pub links: [u32; 3],
+    pub generation: u8,
+}
+
+// The triangle in slot t.
+pub fn triangle_at(corners: &[u32], links: &[u32], generations: &[u8], t: u32) -> Triangle
+    requires { ⌜ TrianglesAgree (now corners) (now links) (now generations) × (t < length (now generations)) ⌝ }
+    ensures { λ r. ⌜ ((n : Counts) →
+        r ≡ triangleAt (topologyNow n (now (corners .entry)) (now (links .entry)) (now (generations .entry))) t) ⌝ }
+{
+    let slot = t as usize;
+    let i = 3 * slot;
+    let c = [corners[i], corners[i + 1], corners[i + 2]];
+    let l = [links[i], links[i + 1], links[i + 2]];
+    Triangle {
+        corners: c,
+        links: l,
+        generation: generations[slot],
+    }
+}
+
+// What side 0 of slot t links to; 0 past the table.
+pub fn base_link(links: &[u32], t: u32) -> u32
+    ensures { λ r. ⌜ r ≡ getD (now (links .entry)) (3 * t) 0 ⌝ }
+{
+    let i = 3 * (t as usize);
+    if i < links.len() { links[i] } else { 0 }
+}
+
+// The generation of the triangle in slot t; 0 past the table.
+pub fn generation_at(generations: &[u8], t: u32) -> u8
+    ensures { λ r. ⌜ r ≡ getD (now (generations .entry)) t 0 ⌝ }
+{
+    let slot = t as usize;
+    if slot < generations.len() {
+        generations[slot]
+    } else {
+        0
+    }
+}
+
+// Three numbers stored in slot t of a table.
+fn store_three(table: &mut [u32], t: u32, x: [u32; 3])
+    requires { ⌜ 3 * t + 2 < length (now table) ⌝ }
+    ensures { λ r. ⌜ now (table .exit) ≡ putThree t (entries x) (now (table .entry)) ⌝ }
+{
+    let i = 3 * (t as usize);
+    table[i] = x[0];
+    table[i + 1] = x[1];
+    table[i + 2] = x[2];
+}
+
+// The triangle x stored in slot t.
+pub fn store(corners: &mut [u32], links: &mut [u32], generations: &mut [u8], t: u32, x: Triangle)
+    requires { ⌜ TrianglesAgree (now corners) (now links) (now generations) × (t < length (now generations)) ⌝ }
+    ensures { λ r. ⌜ ((n : Counts) →
+        topologyNow n (now (corners .exit)) (now (links .exit)) (now (generations .exit))
+        ≡ put t x (topologyNow n (now (corners .entry)) (now (links .entry)) (now (generations .entry)))) ⌝ }
+{
+    let c = x.corners;
+    let l = x.links;
+    let slot = t as usize;
+    store_three(corners, t, c);
+    store_three(links, t, l);
+    generations[slot] = x.generation;
+}
+
+// Side h linked to side k. The boundary has no slot, so that nothing is written where h is the boundary.
+pub fn relink(links: &mut [u32], h: u32, k: u32)
+    ensures { λ r. ⌜ ((n : Counts) (corners generations : List ℕ) →
+        topologyNow n corners (now (links .exit)) generations
+        ≡ relink h k (topologyNow n corners (now (links .entry)) generations)) ⌝ }
+{
+    let i = h as usize;
+    if i < links.len() {
+        links[i] = k;
+    }
+}
+
+// The point in vertex slot v; zero past the table.
+pub fn point_at(positions: &[i32], v: u32) -> Point
+    requires { ⌜ VerticesAgree (now positions) ⌝ }
+    ensures { λ r. ⌜ ((t : Topology) → r ≡ eachAxis (coordinate (meshOf t (now (positions .entry))) v)) ⌝ }
+{
+    let i = 3 * (v as usize);
+    if i < positions.len() {
+        Point {
+            x: positions[i],
+            y: positions[i + 1],
+            z: positions[i + 2],
+        }
+    } else {
+        Point { x: 0, y: 0, z: 0 }
+    }
+}
+
+// The point p stored in vertex slot v.
+pub fn store_point(positions: &mut [i32], v: u32, p: Point)
+    requires { ⌜ 3 * v + 2 < length (now positions) ⌝ }
+    ensures { λ r. ⌜ now (positions .exit) ≡ putPoint v p (now (positions .entry)) ⌝ }
+{
+    let i = 3 * (v as usize);
+    let x = p.x;
+    let y = p.y;
+    let z = p.z;
+    positions[i] = x;
+    positions[i + 1] = y;
+    positions[i + 2] = z;
+}
