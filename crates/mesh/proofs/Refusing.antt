@@ -11,7 +11,8 @@ use lib.ListN.{length}
 use Rattle.rules.proofs.Decide.{Decides}
 use Rattle.rules.proofs.SoundTest.{tables-agree-is, sound-is}
 use Rattle.rules.specs.Below.{any}
-use Rattle.rules.specs.Calls.{Test, _if_, firstOf, Outcome, unless, outcomeOf, zeroPoint, splitsOf, roomFor, worked, refineRefusal, refineCall, closedEven, wholeStepRefusal, positionRefusal, positionRead, positionCall}
+use Rattle.rules.specs.Calls.{Test, _if_, firstOf, Outcome, unless, outcomeOf, zeroPoint, splitsOf, roomFor, worked, loadRefusal, loadCall, refineRefusal, refineCall, closedEven, wholeStepRefusal, positionRefusal, positionRead, positionCall}
+use Rattle.rules.specs.Cage.{cageOf, loaded}
 use Rattle.rules.specs.Ring.{ring}
 use Rattle.rules.specs.Sound.{Sound, isSound}
 use Rattle.rules.specs.Split.{chainEnd, atFirst, refine}
@@ -157,6 +158,18 @@ module _ (m : Mesh) (buffer : List ℕ) (done : Outcome) (n : ℕ) (r : ℕ) (e 
 
   pub carries : r ≡ 0 → done ≡ unless n m buffer done
   carries z = let q : n ≡ 0 = sym e ∙ z in rw q refl
+
+load-shape : (m l : Mesh) (n : ℕ)
+    → outcomeOf (unless n m [] (worked (atFirst l)) .refusal) 0 0 0 zeroPoint (unless n m [] (worked (atFirst l)) .mesh) []
+    ≡ unless n m [] (worked (atFirst l))
+load-shape m l zero = refl
+load-shape m l (suc n) = refl
+
+-- A load's outcome is its refusal and its mesh; the rest is zero.
+pub load-whole : (bytes : List ℕ) (m : Mesh)
+    → outcomeOf (loadCall bytes m .refusal) 0 0 0 zeroPoint (loadCall bytes m .mesh) [] ≡ loadCall bytes m
+unfolding loadCall
+load-whole bytes m = load-shape m (loaded (cageOf bytes) m) (loadRefusal bytes m)
 
 module _ (t : ℕ) (m : Mesh) (r : ℕ) (e : r ≡ refineRefusal t m) where
   pub refine-refused : r ≢ 0 → outcomeOf r 0 0 0 zeroPoint m [] ≡ refineCall t m

@@ -6,7 +6,7 @@ ghost use mathlib.Core.List.{List, [], _∷_};
 ghost use mathlib.Core.Bool.{not};
 ghost use Prim.Native.Nat.{ℕ, _+_, _*_, max};
 ghost use lib.ListN.{length};
-ghost use Rattle.rules.specs.Calls.{firstOf, _if_, roomFor, refineRefusal, refineCall, wholeStepCall, positionCall, positionRefusal};
+ghost use Rattle.rules.specs.Calls.{firstOf, _if_, roomFor, loadCall, refineRefusal, refineCall, wholeStepCall, positionCall, positionRefusal};
 ghost use Rattle.rules.specs.Sound.{isSound};
 ghost use Rattle.rules.specs.Tables.{tablesAgree};
 ghost use Rattle.tables.specs.Lent.{meshNow};
@@ -54,6 +54,33 @@ fn not_sound(
         return 7;
     }
     0
+}
+
+// Loads a cage, whatever the tables held before.
+pub fn load(
+    positions: &mut [i32],
+    corners: &mut [u32],
+    links: &mut [u32],
+    generations: &mut [u8],
+    counts: Counts,
+    cage: &[u8],
+) -> Worked
+    ensures { λ r. ⌜
+        workedOutcome r (now (positions .exit)) (now (corners .exit)) (now (links .exit)) (now (generations .exit))
+        ≡ loadCall (now (cage .entry)) (meshNow counts (now (positions .entry)) (now (corners .entry)) (now (links .entry)) (now (generations .entry))) ⌝ }
+{
+    let v = counts.vertices;
+    let f = counts.triangles;
+    let done = cage::load(positions, corners, links, generations, v, f, cage);
+    Worked {
+        refusal: done.refusal,
+        splits: 0,
+        flips: 0,
+        counts: Counts {
+            vertices: done.vertices,
+            triangles: done.triangles,
+        },
+    }
 }
 
 // Whether there are slots for so many face splits.
@@ -161,14 +188,14 @@ pub fn whole_step(
             counts,
         };
     }
-    let done = step::smoothing_step(positions, corners, links, generations, counts);
+    let answer = step::smoothing_step(positions, corners, links, generations, counts);
     Worked {
-        refusal: done.refusal,
-        splits: done.splits,
-        flips: done.flips,
+        refusal: answer.refusal,
+        splits: answer.splits,
+        flips: answer.flips,
         counts: Counts {
-            vertices: done.vertices,
-            triangles: done.triangles,
+            vertices: answer.vertices,
+            triangles: answer.triangles,
         },
     }
 }

@@ -1,7 +1,8 @@
 -- Lists whose first n entries are written from a function, read back.
 use mathlib.Core.Path.{_≡_, refl, _∙_}
 use mathlib.Core.List.{List}
-use Prim.Native.Nat.{ℕ, zero, suc, _≤_, _<_}
+use Prim.Native.Nat.{ℕ, zero, suc, _+_, _≤_, _<_}
+use native.Mathlib.Numerals.{add-one}
 use native.Mathlib.Omega.{arith}
 use native.Mathlib.Decide.{ℕ-discrete}
 use lib.ListN.{length, getD, set, drop, length-set}
@@ -29,3 +30,13 @@ module _ {A : Type 0} where
   unfolding fill
   drop-fill zero f l b i = refl
   drop-fill (suc n) f l b i = drop-set-lt b (fill n f l) n (f n) i ∙ drop-fill n f l b (omega arith)
+
+  -- One entry more.
+  pub fill-more : (n : ℕ) (f : ℕ → A) (l : List A) {k : List A} {x : A} → k ≡ fill n f l → x ≡ f n → set k n x ≡ fill (n + 1) f l
+  unfolding fill
+  fill-more n f l e v = rw (add-one, fill, e, v)
+
+  pub fill-same : (n : ℕ) (f g : ℕ → A) (l : List A) → ((h : ℕ) → h < n → f h ≡ g h) → fill n f l ≡ fill n g l
+  unfolding fill
+  fill-same zero f g l e = refl
+  fill-same (suc n) f g l e = rw (fill-same n f g l (λ h i. e h (omega arith)), e n (omega arith))

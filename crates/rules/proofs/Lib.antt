@@ -34,6 +34,7 @@ pub mod RingTheory
 pub mod Fill
 pub mod CageTests
 pub mod Load
+pub mod Alike
 pub mod CageEdges
 pub mod Refine
 pub mod Kobbelt
@@ -44,6 +45,7 @@ pub mod StepPositions
 pub mod RingVertices
 pub mod WholeStep
 pub mod CallRefusals
+pub mod LoadTests
 pub mod Carried
 pub mod RefineLoop
 pub mod StepLoop

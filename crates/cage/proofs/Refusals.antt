@@ -1,0 +1,179 @@
+-- The refusals of a cage whose corners are decoded, by the tests of the code.
+use mathlib.Core.Path.{_≡_, refl, sym, ap, _∙_}
+use mathlib.Core.Logic.{inl, inr}
+use mathlib.Core.Bool.{Bool, true, false}
+use mathlib.Core.List.{List, []}
+use Prim.Native.Nat.{ℕ, _+_, _*_, _≤_, _<_}
+use native.Mathlib.Omega.{arith}
+use lib.ListN.{length, getD}
+use Rattle.rules.proofs.Alike.{SameCorners, SameSides, all-same, corners-fit-same, sides-differ-same, partner-same, one-fan-same}
+use Rattle.rules.proofs.CageTests.{sizes-fit-is, corners-fit-is, sides-differ-is}
+use Rattle.rules.proofs.Decide.{Decides, is-true, is-false, is-same, when-true}
+use Rattle.rules.proofs.Fill.{length-fill, getD-fill}
+use Rattle.rules.proofs.Load.{matches-opposite, opposite-back, partner-matches, loaded-loads}
+use Rattle.rules.specs.Promises.{Matches, only, alone}
+use Rattle.rules.proofs.LoadTests.{refusal-3, refusal-4, refusal-5, refusal-6, refusal-none}
+use Rattle.rules.proofs.Manifold.{Joined}
+use Rattle.rules.proofs.SplitKeeps.{pair}
+use Rattle.rules.proofs.SoundTest.{tables-agree-is}
+use Rattle.rules.proofs.Turning.{Glued}
+use Rattle.rules.specs.Below.{all, fill}
+use Rattle.rules.specs.Cage.{Cage, cageOf, partner, loaded, sizesFit, cornersFit, coordinatesFit, sidesDiffer, fansFit}
+use Rattle.rules.specs.Conditions.{SizesFit, SidesDiffer}
+use Rattle.rules.specs.Numbers.{numberAt, signed, inRange}
+use Rattle.rules.specs.Sound.{hasOneFan}
+use Rattle.rules.specs.Tables.{Mesh, TablesAgree, tablesAgree, topologyOf, link}
+use Rattle.soundness.specs.Walks.{CornersInUse, TellsFans}
+use Rattle.cage.specs.Answers.{Refuses}
+use Rattle.cage.specs.Decoded.{decoded, Readable, Sized, Holds}
+use Rattle.cage.specs.Pairing.{Matched}
+
+-- ---- matching links
+
+matches-once : {c : Cage} {h j k : ℕ} → Matches c h j → Matches c h k → j ≡ k
+matches-once (only {k} O u) M = sym (matches-opposite M k O)
+matches-once (alone n) (only {k} O u) = absurd (n k O)
+matches-once (alone n) (alone m) = refl
+
+module _ (v f : ℕ) (origins partners : List ℕ) (M : Matched (decoded v f origins) partners) where
+  partner-is : (h : ℕ) → h < 3 * f → getD partners h 0 ≡ partner (decoded v f origins) h
+  partner-is h l = matches-once (M .match h l) (partner-matches (decoded v f origins) (M .differ) h)
+
+  joined : (h : ℕ) → h < 3 * f → Joined (topologyOf v f origins partners []) h
+  joined h l = go (getD partners h 0) refl (M .match h l)
+    where
+      go : (k : ℕ) → getD partners h 0 ≡ k → Matches (decoded v f origins) h k → Joined (topologyOf v f origins partners []) h
+      go k e (alone n) = inl e
+      go k e (only O u) =
+          inr (pair (topologyOf v f origins partners []) h k e
+          (matches-opposite (M .match k (O .inUse)) h (opposite-back (decoded v f origins) h k l O))
+          (O .inUse) (O .from) (O .onto) (omega arith))
+
+  -- Sides that are matched are glued.
+  matched-glued : cornersFit (decoded v f origins) ≡ true → f ≤ 65536 → Glued (topologyOf v f origins partners [])
+  matched-glued k b = record {
+    few = omega arith;
+    distinct = when-true (corners-fit-is (decoded v f origins)) k .distinct;
+    joined = joined;
+  }
+
+-- ---- the tests
+
+-- Coordinate i of the bytes is in range.
+abbrev coordinateFits : List ℕ → ℕ → Bool
+coordinateFits bytes i = inRange (signed (numberAt bytes (8 + 4 * i)))
+
+-- The cage in the bytes, with its origins decoded.
+pub record Read (bytes : List ℕ) (v f : ℕ) (origins : List ℕ) : Type 0 where
+  pub sized : Sized bytes v f
+  pub room : 3 * f ≤ length origins
+  pub same : SameCorners (decoded v f origins) (cageOf bytes)
+
+-- Such a cage that is not refused with 3 or 4.
+pub record Fits (bytes : List ℕ) (v f : ℕ) (origins : List ℕ) : Type 0 where
+  pub read : Read bytes v f origins
+  pub corners : cornersFit (decoded v f origins) ≡ true
+  pub coordinates : all (3 * v) (coordinateFits bytes) ≡ true
+
+pub decode-read : {bytes : List ℕ} {v f : ℕ} (before : List ℕ) {origins : List ℕ} → Sized bytes v f → 3 * f ≤ length before
+    → origins ≡ fill (3 * f) (λ i. numberAt bytes (8 + 12 * v + 4 * i)) before → Read bytes v f origins
+unfolding cageOf
+decode-read {bytes} {v} {f} before Z room e =
+    let corner : ℕ → ℕ = λ h. numberAt bytes (8 + 12 * v + 4 * h) in
+    record {
+      sized = Z;
+      room = rw (e, length-fill (3 * f) corner before) room;
+      same = record {
+        vertices = sym (Z .vertices);
+        triangles = sym (Z .triangles);
+        corner = λ h l.
+            ap (λ (k : List ℕ). getD k h 0) e ∙ getD-fill (3 * f) corner before h 0 room l
+            ∙ ap (λ (n : ℕ). numberAt bytes (8 + 12 * n + 4 * h)) (sym (Z .vertices));
+      };
+    }
+
+agrees : {m : Mesh} → TablesAgree m → tablesAgree m ≡ true
+agrees {m} A = is-same (tables-agree-is m) (is-true A)
+
+sizes : {bytes : List ℕ} {m : Mesh} → SizesFit bytes m → sizesFit bytes m ≡ true
+sizes {bytes} {m} S = is-same (sizes-fit-is bytes m) (is-true S)
+
+module _ {bytes : List ℕ} {v f : ℕ} {origins : List ℕ} (R : Read bytes v f origins) where
+  pub refuses-3 : cornersFit (decoded v f origins) ≡ false → Refuses bytes 3
+  refuses-3 k m A S = refusal-3 bytes m (agrees A) (sizes S) (sym (corners-fit-same (R .same)) ∙ k)
+
+  in-range : coordinatesFit (cageOf bytes) ≡ all (3 * v) (coordinateFits bytes)
+  unfolding coordinatesFit cageOf
+  in-range = ap (λ (n : ℕ). all (3 * n) (coordinateFits bytes)) (R .sized .vertices)
+
+  pub refuses-4 : cornersFit (decoded v f origins) ≡ true → all (3 * v) (coordinateFits bytes) ≡ false → Refuses bytes 4
+  refuses-4 k r m A S =
+      refusal-4 bytes m (agrees A) (sizes S) (sym (corners-fit-same (R .same)) ∙ k) (in-range ∙ r)
+
+module _ {bytes : List ℕ} {v f : ℕ} {origins : List ℕ} (F : Fits bytes v f origins) where
+  pub readable : Readable v f origins
+  readable = record {
+    few = F .read .sized .fewTriangles;
+    room = F .read .room;
+    corner = when-true (corners-fit-is (decoded v f origins)) (F .corners) .corner;
+  }
+
+  corners : cornersFit (cageOf bytes) ≡ true
+  corners = sym (corners-fit-same (F .read .same)) ∙ F .corners
+
+  coordinates : coordinatesFit (cageOf bytes) ≡ true
+  coordinates = in-range (F .read) ∙ F .coordinates
+
+  -- The test of sides that run the same way.
+  differs : {b : Bool} → Decides b (SidesDiffer (decoded v f origins)) → sidesDiffer (cageOf bytes) ≡ b
+  differs d = sym (sides-differ-same (F .read .same)) ∙ is-same (sides-differ-is (decoded v f origins)) d
+
+  pub refuses-5 : ¬ SidesDiffer (decoded v f origins) → Refuses bytes 5
+  refuses-5 n m A S = refusal-5 bytes m (agrees A) (sizes S) corners coordinates (differs (is-false n))
+
+  module _ {partners : List ℕ} (M : Matched (decoded v f origins) partners) where
+    pub in-use : CornersInUse v f origins partners
+    in-use = record {
+      fewVertices = F .read .sized .fewVertices;
+      fewTriangles = F .read .sized .fewTriangles;
+      cornerRoom = F .read .room;
+      linkRoom = M .room;
+      corner = readable .corner;
+    }
+
+    pub holds : Holds (cageOf bytes) origins partners
+    holds =
+        let e = F .read .sized .triangles in
+        record {
+          originRoom = rw e (F .read .room);
+          partnerRoom = rw e (M .room);
+          origin = rw e (F .read .same .corner);
+          partner = λ h l.
+              let i : h < 3 * f = omega arith in
+              partner-is v f origins partners M h i ∙ partner-same (F .read .same) h i;
+        }
+
+    -- The fans by the decoded lists are those of the tables that the cage is written to.
+    fans : {b : Bool} → TellsFans v f origins partners b → (m : Mesh) → TablesAgree m → SizesFit bytes m
+        → fansFit (cageOf bytes) m ≡ b
+    unfolding fansFit
+    fans t m A S =
+        let c : Cage = cageOf bytes in
+        let Z = F .read .sized in
+        let L = loaded-loads c m A (S .vertexRoom) (S .triangleRoom) in
+        let E : SameSides (topologyOf v f origins partners []) (loaded c m .topology) =
+        record {
+          triangles = sym (Z .triangles) ∙ sym (L .triangles);
+          corner = λ h l. let i : h < 3 * c .triangles = omega (arith, Z .triangles) in holds .origin h i ∙ sym (L .corners h i);
+          link = λ h l. let i : h < 3 * c .triangles = omega (arith, Z .triangles) in holds .partner h i ∙ sym (L .links h i);
+        } in
+        ap (λ (n : ℕ). all n (hasOneFan (loaded c m .topology))) (Z .vertices)
+        ∙ sym (t [] (matched-glued v f origins partners M (F .corners) (Z .fewTriangles)) ∙ all-same v _ _ (λ x l. one-fan-same E x))
+
+    pub refuses-6 : TellsFans v f origins partners false → Refuses bytes 6
+    refuses-6 t m A S =
+        refusal-6 bytes m (agrees A) (sizes S) corners coordinates (differs (is-true (M .differ))) (fans t m A S)
+
+    pub refuses-none : TellsFans v f origins partners true → Refuses bytes 0
+    refuses-none t m A S =
+        refusal-none bytes m (agrees A) (sizes S) corners coordinates (differs (is-true (M .differ))) (fans t m A S)

@@ -1,0 +1,36 @@
+-- Working room for a cage whose sizes fit.
+use mathlib.Core.Path.{_≡_, sym}
+use mathlib.Core.List.{List}
+use Prim.Native.Nat.{ℕ, _*_, _≤_}
+use native.Mathlib.Omega.{arith}
+use lib.ListN.{replicate, length-replicate}
+use Rattle.rules.specs.Cage.{cageOf}
+use Rattle.rules.specs.Conditions.{SizesFit}
+use Rattle.rules.specs.Numbers.{numberAt}
+use Rattle.rules.specs.Tables.{Mesh, TablesAgree}
+use Rattle.soundness.proofs.Starts.{zeroed}
+use Rattle.cage.specs.Decoded.{Sized, WorkingRoom}
+
+pub sized : {bytes : List ℕ} {m : Mesh} {v f : ℕ} → TablesAgree m → SizesFit bytes m → v ≡ numberAt bytes 0
+    → f ≡ numberAt bytes 4 → Sized bytes v f
+unfolding cageOf
+sized A S e g = record {
+  vertices = sym e;
+  triangles = sym g;
+  fewVertices = omega (arith, A .fewVertices, S .vertexRoom);
+  fewTriangles = omega (arith, A .fewTriangles, S .triangleRoom);
+  size = rw (e, g) (S .size);
+}
+
+-- Zeros for n sides and k vertices.
+pub working-room : (n k v f : ℕ) → 3 * f ≤ n → v ≤ k
+    → WorkingRoom v f (replicate n 0) (replicate n 0) (replicate k 0) (replicate n 0) (replicate k 0)
+working-room n k v f a b =
+    let e = length-replicate {A = ℕ} n 0 in
+    record {
+      originRoom = omega arith;
+      partnerRoom = omega arith;
+      headRoom = zeroed k v b;
+      nextRoom = omega arith;
+      slotRoom = zeroed k v b;
+    }

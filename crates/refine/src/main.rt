@@ -1,0 +1,139 @@
+// The program: loads cage.bin, refines the triangles that requests.bin names, and prints a line for each call.
+use libc::STDOUT_FILENO;
+use mesh::Worked;
+use tables::Counts;
+
+// The counts after some requests, and whether there may be more.
+struct Answered {
+    counts: Counts,
+    more: bool,
+}
+
+fn put(n: u32, after: &[u8]) {
+    io::print_decimal(STDOUT_FILENO, n as u64);
+    io::write_all(STDOUT_FILENO, after);
+}
+
+// Prints refusal, face splits, flips, vertices and triangles.
+fn print(answer: Worked) {
+    put(answer.refusal, b" ");
+    put(answer.splits, b" ");
+    put(answer.flips, b" ");
+    put(answer.counts.vertices, b" ");
+    put(answer.counts.triangles, b"\n");
+}
+
+// Loads the cage in a file; one that is missing is empty. The buffer has a byte more than the largest cage of this store, so
+// that a longer file is longer here too.
+fn load(
+    positions: &mut [i32],
+    corners: &mut [u32],
+    links: &mut [u32],
+    generations: &mut [u8],
+    path: &[u8],
+) -> Worked {
+    let fresh = Counts {
+        vertices: 0,
+        triangles: 0,
+    };
+    let mut cage = [0u8; 36873];
+    let fd = os::open_read(path);
+    if fd < 0 {
+        return mesh::load(positions, corners, links, generations, fresh, b"");
+    }
+    let n = io::read_full(fd, &mut cage);
+    libc::close(fd);
+    mesh::load(positions, corners, links, generations, fresh, &cage[..n])
+}
+
+// Answers the requests in these bytes, four to each, and drops what is left over.
+fn answer(
+    positions: &mut [i32],
+    corners: &mut [u32],
+    links: &mut [u32],
+    generations: &mut [u8],
+    counts: Counts,
+    requests: &[u8],
+) -> Counts {
+    let mut at = counts;
+    let mut i: usize = 0;
+    while i < requests.len() / 4 {
+        let t = points::number_at(requests, 4 * i);
+        let done = mesh::refine(positions, corners, links, generations, at, t);
+        print(done);
+        at = done.counts;
+        i += 1;
+    }
+    at
+}
+
+// Reads and answers some requests. All four bytes of each are read at once, as the buffer's length is a multiple of 4.
+fn answer_some(
+    positions: &mut [i32],
+    corners: &mut [u32],
+    links: &mut [u32],
+    generations: &mut [u8],
+    counts: Counts,
+    fd: i32,
+) -> Answered {
+    let mut requests = io::large_buffer();
+    let n = io::read_full(fd, &mut requests);
+    let after = answer(
+        positions,
+        corners,
+        links,
+        generations,
+        counts,
+        &requests[..n],
+    );
+    Answered {
+        counts: after,
+        more: n == 65536,
+    }
+}
+
+// Answers all requests. A proved loop has to end, and nothing says that a file does: its turns are counted down from a
+// number that no run uses up.
+fn answer_all(
+    positions: &mut [i32],
+    corners: &mut [u32],
+    links: &mut [u32],
+    generations: &mut [u8],
+    counts: Counts,
+    fd: i32,
+) {
+    let mut state = Answered { counts, more: true };
+    let mut turns = u64::MAX;
+    while turns > 0 && state.more {
+        state = answer_some(positions, corners, links, generations, state.counts, fd);
+        turns -= 1;
+    }
+}
+
+fn main() {
+    let mut positions = [0i32; 3072];
+    let mut corners = [0u32; 6144];
+    let mut links = [0u32; 6144];
+    let mut generations = [0u8; 2048];
+    let loaded = load(
+        &mut positions,
+        &mut corners,
+        &mut links,
+        &mut generations,
+        b"cage.bin",
+    );
+    print(loaded);
+    let fd = os::open_read(b"requests.bin");
+    if fd < 0 {
+        return;
+    }
+    answer_all(
+        &mut positions,
+        &mut corners,
+        &mut links,
+        &mut generations,
+        loaded.counts,
+        fd,
+    );
+    libc::close(fd);
+}
