@@ -1,0 +1,83 @@
+//! Random calls on a store, with arguments in use, just past use and far off.
+
+use crate::bench::{Bench, Outcome};
+use crate::claims::read_chain;
+use crate::rng::Rng;
+use crate::tables::{Call, LAST_GENERATION, Store};
+
+/// Three times this number is 2 in 32 bits.
+pub const WRAPPING: u32 = 0x5555_5556;
+
+/// One call of any kind but load.
+pub fn random_call(store: &Store, rng: &mut Rng) -> Call {
+    match rng.below(100) {
+        0..60 => Call::Refine { triangle: some_triangle(store, rng) },
+        60..68 => Call::WholeStep,
+        68..86 => ring(store, rng),
+        _ => Call::Position { vertex: some_number(store.counts.vertices, rng) },
+    }
+}
+
+/// One call of each kind but load.
+pub fn one_of_each(store: &Store, rng: &mut Rng) -> [Call; 4] {
+    [
+        Call::Refine { triangle: some_triangle(store, rng) },
+        Call::WholeStep,
+        ring(store, rng),
+        Call::Position { vertex: some_number(store.counts.vertices, rng) },
+    ]
+}
+
+/// Runs a list of random calls, each on the tables as the one before left them.
+pub fn compare_some(bench: &mut Bench, store: &mut Store, length: usize, rng: &mut Rng) -> Outcome {
+    for _ in 0..length {
+        let call = random_call(store, rng);
+        bench.compare(store, &call)?;
+    }
+    Ok(())
+}
+
+/// A ring query with a buffer of any length and content; short ones are refused with 14 more often than not.
+fn ring(store: &Store, rng: &mut Rng) -> Call {
+    let length = rng.pick(&[0, 1, 2, 3, 4, 5, 6, 7, 8, 12, 20, 60]);
+    let buffer = (0..length).map(|_| rng.word()).collect();
+    Call::Ring { vertex: some_number(store.counts.vertices, rng), buffer }
+}
+
+/// A number mostly below the count, else at it, past it or far off.
+pub fn some_number(count: u32, rng: &mut Rng) -> u32 {
+    match rng.below(24) {
+        0 => count,
+        1 => count.wrapping_add(rng.below(4) as u32),
+        2 => rng.pick(&[u32::MAX, u32::MAX - 1, 1 << 31, 1 << 30, 1 << 16, WRAPPING]),
+        3 => rng.word(),
+        _ => rng.below(count.max(1) as usize) as u32,
+    }
+}
+
+/// A triangle: anywhere, or the deepest that a few tries find.
+fn some_triangle(store: &Store, rng: &mut Rng) -> u32 {
+    let in_use = store.triangles();
+    if in_use == 0 || rng.percent(50) {
+        return some_number(store.counts.triangles, rng);
+    }
+    let tries = (0..8).map(|_| rng.below(in_use));
+    let generation = |slot: &usize| store.tables.generations[*slot];
+    tries.max_by_key(generation).expect("there are tries") as u32
+}
+
+/// The triangle of highest generation that can still be refined, the last of several.
+pub fn deepest_triangle(store: &Store) -> u32 {
+    let generation = |slot: &usize| store.tables.generations[*slot];
+    let below_last = (0..store.triangles()).filter(|slot| generation(slot) < LAST_GENERATION);
+    below_last.max_by_key(generation).map_or(0, |slot| slot as u32)
+}
+
+/// The triangle with the longest base chain over an even triangle in sound tables, the last of several.
+pub fn longest_chain_triangle(store: &Store) -> u32 {
+    let length = |slot: &usize| {
+        let chain = read_chain(&store.tables, *slot);
+        if chain.ends_at_boundary { 0 } else { chain.odd }
+    };
+    (0..store.triangles()).max_by_key(length).map_or(0, |slot| slot as u32)
+}

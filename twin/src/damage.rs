@@ -1,0 +1,164 @@
+//! Damaged tables: single entries overwritten, counts and lengths off, and damage that leaves the links mutual.
+
+use crate::bench::{Bench, Outcome};
+use crate::cages;
+use crate::calls;
+use crate::handmade;
+use crate::rng::Rng;
+use crate::surgery::damaged_store;
+use crate::tables::{BOUNDARY, Call, Counts, FARTHEST, Service, Store};
+use crate::twin::Twin;
+
+/// The store after a load and a list of refines, with some slots to spare that hold anything.
+pub fn refined(cage: &cages::Cage, requests: &[u32], spare: usize, rng: &mut Rng) -> Store {
+    let most = requests.len() * 4 + spare;
+    let mut store = Store::junk(cage.points.len() + most, cage.triangles.len() + 2 * most, rng);
+    let load = Call::Load { cage: cage.bytes() };
+    let refines = requests.iter().map(|&triangle| Call::Refine { triangle });
+    for call in std::iter::once(load).chain(refines) {
+        let answer = Twin::UNBROKEN.answer(&mut store.tables, store.counts, &call).expect("the twin stays inside");
+        store.counts = answer.counts();
+    }
+    let (vertices, triangles) = (store.counts.vertices as usize, store.counts.triangles as usize);
+    store.tables.positions.truncate(3 * (vertices + spare));
+    store.tables.corners.truncate(3 * (triangles + 2 * spare));
+    store.tables.links.truncate(3 * (triangles + 2 * spare));
+    store.tables.generations.truncate(triangles + 2 * spare);
+    store
+}
+
+/// Small sound tables of all sorts: closed, open, back to back, several components, mixed generations, hand-made.
+pub fn small_stores(rng: &mut Rng) -> Vec<Store> {
+    let octahedron = cages::double_pyramid(4);
+    let mut stores = vec![
+        refined(&cages::tetrahedron(), &[], 4, rng),
+        refined(&cages::tetrahedron(), &[0, 0, 0, 0], 2, rng),
+        refined(&cages::tetrahedron(), &[0, 3, 7, 9], 1, rng),
+        refined(&cages::foil(), &[], 3, rng),
+        refined(&cages::foil(), &[0, 1], 2, rng),
+        refined(&cages::foil().with(&cages::strip(1)), &[2], 2, rng),
+        refined(&cages::strip(1), &[0], 1, rng),
+        refined(&cages::strip(2), &[0, 1, 0], 0, rng),
+        refined(&cages::disc(3), &[1, 0], 1, rng),
+        refined(&octahedron, &[0, 4], 1, rng),
+    ];
+    for (odd, even_end) in [(3, true), (4, true), (3, false), (10, true)] {
+        let mut gluing = handmade::chain(odd, even_end, 0, &[0, 0, 2], rng);
+        gluing.glue_at_random(60, rng);
+        stores.push(gluing.store(1, 2, rng));
+    }
+    stores
+}
+
+/// Every single entry of small sound tables overwritten with every interesting value.
+pub fn single_entries(bench: &mut Bench, rng: &mut Rng) -> Outcome {
+    for store in small_stores(rng) {
+        let Counts { vertices, triangles } = store.counts;
+        for place in 0..store.tables.positions.len() {
+            for value in [0, 1, -1, FARTHEST, -FARTHEST, FARTHEST + 1, -FARTHEST - 1, i32::MAX, i32::MIN] {
+                compare_damaged(bench, &store, rng, |damaged| damaged.tables.positions[place] = value)?;
+            }
+        }
+        let vertex_slots = store.vertex_slots() as u32;
+        let far = [vertex_slots, vertex_slots + 1, 1 << 16, 1 << 31, u32::MAX];
+        for place in 0..store.tables.corners.len() {
+            for value in (0..vertices + 2).chain(far) {
+                compare_damaged(bench, &store, rng, |damaged| damaged.tables.corners[place] = value)?;
+            }
+        }
+        let sides = 3 * store.triangle_slots() as u32;
+        let far = [sides - 1, sides, sides + 1, 1 << 18, 1 << 31, u32::MAX - 1, BOUNDARY];
+        for place in 0..store.tables.links.len() {
+            for value in (0..3 * triangles + 3).chain(far) {
+                compare_damaged(bench, &store, rng, |damaged| damaged.tables.links[place] = value)?;
+            }
+        }
+        for place in 0..store.tables.generations.len() {
+            for value in (0..=23).chain([40, 127, 128, 253, 254, 255]) {
+                compare_damaged(bench, &store, rng, |damaged| damaged.tables.generations[place] = value)?;
+            }
+        }
+    }
+    Ok(())
+}
+
+/// Compares one call of each kind but load on a damaged copy.
+fn compare_damaged(bench: &mut Bench, store: &Store, rng: &mut Rng, damage: impl Fn(&mut Store)) -> Outcome {
+    let mut damaged = store.clone();
+    damage(&mut damaged);
+    for call in calls::one_of_each(&damaged, rng) {
+        bench.compare_only(&damaged, &call)?;
+    }
+    Ok(())
+}
+
+/// Counts off by one, at the slots, past them and far off.
+pub fn counts(bench: &mut Bench, rng: &mut Rng) -> Outcome {
+    for store in small_stores(rng) {
+        let near = |count: u32, slots: usize| {
+            let slots = slots as u32;
+            let far = [1 << 16, 1 << 31, count | 1 << 30, calls::WRAPPING, u32::MAX];
+            [0, 1, count - 1, count, count + 1, slots - 1, slots, slots + 1].into_iter().chain(far)
+        };
+        for vertices in near(store.counts.vertices, store.vertex_slots()) {
+            for triangles in near(store.counts.triangles, store.triangle_slots()) {
+                let counts = Counts { vertices, triangles };
+                let damaged = Store { counts, ..store.clone() };
+                for call in calls::one_of_each(&damaged, rng) {
+                    bench.compare_only(&damaged, &call)?;
+                }
+            }
+        }
+    }
+    Ok(())
+}
+
+/// Tables of other lengths: no multiple of 3, unequal, empty, at the maxima and above them.
+pub fn lengths(bench: &mut Bench, rng: &mut Rng) -> Outcome {
+    let store = refined(&cages::tetrahedron(), &[0, 0], 4, rng);
+    let changes = |length: usize| [0, 1, 3, length - 3, length - 1, length, length + 1, length + 3];
+    for positions in changes(store.tables.positions.len()) {
+        for corners in changes(store.tables.corners.len()) {
+            for links in changes(store.tables.links.len()) {
+                for generations in changes(store.tables.generations.len()) {
+                    if rng.percent(15) {
+                        compare_lengths(bench, &store, [positions, corners, links, generations], rng)?;
+                    }
+                }
+            }
+        }
+    }
+    let (most_vertices, most_triangles) = (3 * 32_768, 3 * 65_536);
+    for (positions, corners) in [(0, 0), (1, 1), (3, 3), (-3, -3), (3, 0), (0, 3), (0, -1), (2, 0)] {
+        let positions = (most_vertices + positions) as usize;
+        let corners = (most_triangles + corners) as usize;
+        compare_lengths(bench, &store, [positions, corners, corners, corners / 3], rng)?;
+    }
+    compare_lengths(bench, &store, [0, 0, 0, 0], rng)?;
+    compare_lengths(bench, &store, [most_vertices as usize, 3 * 20, 3 * 20, 20], rng)?;
+    compare_lengths(bench, &store, [3 * 20, most_triangles as usize, most_triangles as usize, 65_536], rng)
+}
+
+fn compare_lengths(bench: &mut Bench, store: &Store, lengths: [usize; 4], rng: &mut Rng) -> Outcome {
+    let mut changed = store.clone();
+    changed.tables.positions.resize(lengths[0], 5);
+    changed.tables.corners.resize(lengths[1], 6);
+    changed.tables.links.resize(lengths[2], 7);
+    changed.tables.generations.resize(lengths[3], 8);
+    let load = Call::Load { cage: cages::strip(2).bytes() };
+    for call in calls::one_of_each(&changed, rng).iter().chain([&load]) {
+        bench.compare_only(&changed, call)?;
+    }
+    Ok(())
+}
+
+/// Random damage to random tables that leaves most of them in order, one or two at a time.
+pub fn random_damage(bench: &mut Bench, rounds: usize, rng: &mut Rng) -> Outcome {
+    for _ in 0..rounds {
+        let store = damaged_store(rng);
+        for call in calls::one_of_each(&store, rng) {
+            bench.compare_only(&store, &call)?;
+        }
+    }
+    Ok(())
+}

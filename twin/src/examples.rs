@@ -1,0 +1,144 @@
+//! The examples of document 01 and of the readings: each a store, a call, and the refusal that the papers give for
+//! it.
+
+use crate::bench::{Bench, Outcome, difference};
+use crate::cages::{self, Cage};
+use crate::damage::refined;
+use crate::handmade::chain;
+use crate::rng::Rng;
+use crate::tables::{Call, FARTHEST, LAST_GENERATION, Store};
+
+pub struct Example {
+    pub refusal: u32,
+    pub store: Store,
+    pub call: Call,
+}
+
+fn example(refusal: u32, store: Store, call: Call) -> Example {
+    Example { refusal, store, call }
+}
+
+fn load(cage: &Cage) -> Call {
+    Call::Load { cage: cage.bytes() }
+}
+
+fn refine(triangle: u32) -> Call {
+    Call::Refine { triangle }
+}
+
+fn ring(vertex: u32, entries: u32) -> Call {
+    Call::Ring { vertex, buffer: (1000..1000 + entries).collect() }
+}
+
+/// A loaded cage whose generations are all raised to the same even one.
+fn at_generation(cage: &Cage, generation: u8, spare: usize, rng: &mut Rng) -> Store {
+    let mut store = refined(cage, &[], spare, rng);
+    store.tables.generations[..cage.triangles.len()].fill(generation);
+    store
+}
+
+/// The example column of the table of refused inputs, in its order.
+pub fn refusals(rng: &mut Rng) -> Vec<Example> {
+    let tetrahedron = cages::tetrahedron();
+    let roomy = Store::junk(20, 40, rng);
+    let mut unequal = Store::fresh(9, 9);
+    unequal.tables.generations.pop();
+    let mut far = tetrahedron.clone();
+    far.points[2][1] = FARTHEST + 1;
+    let mut lonely = Cage::of(vec![[0, 1, 2]]);
+    lonely.points.push([0; 3]);
+    let mut narrow = refined(&tetrahedron, &[], 1, rng);
+    narrow.tables.corners.truncate(15);
+    narrow.tables.links.truncate(15);
+    narrow.tables.generations.truncate(5);
+    vec![
+        example(1, unequal, load(&tetrahedron)),
+        example(2, roomy.clone(), Call::Load { cage: vec![0; 7] }),
+        example(3, roomy.clone(), load(&Cage::of(vec![[0, 0, 1]]))),
+        example(4, roomy.clone(), load(&far)),
+        example(5, roomy.clone(), load(&Cage::of(vec![[0, 1, 2], [0, 1, 3]]))),
+        example(6, roomy, load(&lonely)),
+        example(7, Store::fresh(20, 40), Call::Position { vertex: 0 }),
+        example(8, refined(&tetrahedron, &[], 5, rng), refine(4)),
+        example(9, at_generation(&tetrahedron, LAST_GENERATION, 5, rng), refine(0)),
+        example(10, refined(&cages::strip(1), &[0], 5, rng), refine(0)),
+        example(11, narrow, refine(0)),
+        example(12, refined(&tetrahedron, &[0], 50, rng), Call::WholeStep),
+        example(13, refined(&cages::double_pyramid(13), &[], 50, rng), Call::WholeStep),
+        example(14, refined(&tetrahedron, &[], 0, rng), ring(0, 2)),
+    ]
+}
+
+/// Inputs for which several conditions hold, or for which one just does not.
+pub fn orders(rng: &mut Rng) -> Vec<Example> {
+    let tetrahedron = cages::tetrahedron();
+    let pyramid = cages::double_pyramid(13);
+    let mut last_corner_first_coordinate = tetrahedron.clone();
+    last_corner_first_coordinate.points[0][0] = FARTHEST + 1;
+    last_corner_first_coordinate.triangles[3] = [2, 3, 4];
+    let mut counts_above_slots = refined(&tetrahedron, &[], 0, rng);
+    counts_above_slots.counts.triangles = 5;
+    let mut exact = refined(&tetrahedron, &[], 1, rng);
+    let mut no_vertex_slot = exact.clone();
+    no_vertex_slot.tables.positions.truncate(12);
+    exact.tables.positions.truncate(15);
+    vec![
+        example(3, Store::junk(20, 40, rng), load(&last_corner_first_coordinate)),
+        example(6, Store::junk(20, 40, rng), load(&cages::bow_tie())),
+        example(7, Store::fresh(20, 40), refine(u32::MAX)),
+        example(7, counts_above_slots, refine(0)),
+        example(8, refined(&tetrahedron, &[], 0, rng), ring(4, 0)),
+        example(10, refined(&cages::strip(1), &[0], 0, rng), refine(0)),
+        example(0, exact, refine(0)),
+        example(11, no_vertex_slot, refine(0)),
+        example(12, at_generation(&cages::disc(14), LAST_GENERATION, 0, rng), Call::WholeStep),
+        example(9, at_generation(&pyramid, LAST_GENERATION, 0, rng), Call::WholeStep),
+        example(13, at_generation(&pyramid, 18, 0, rng), Call::WholeStep),
+        example(11, at_generation(&tetrahedron, 18, 3, rng), Call::WholeStep),
+        example(0, at_generation(&tetrahedron, 18, 4, rng), Call::WholeStep),
+        example(0, refined(&tetrahedron, &[], 0, rng), ring(0, 3)),
+        example(0, refined(&cages::strip(1), &[], 0, rng), ring(0, 3)),
+        // Generation 19 may become 20.
+        example(0, chain(1, true, 18, &[], rng).store(1, 2, rng), refine(1)),
+        // Halves: 18204.5 goes to 18205 and −18204.5 to −18204.
+        example(0, refined(&halves(98_304), &[], 4, rng), Call::WholeStep),
+        example(0, refined(&halves(-98_304), &[], 4, rng), Call::WholeStep),
+    ]
+}
+
+/// A tetrahedron whose vertex 0 comes to lie half-way between two whole numbers in a whole step.
+pub fn halves(x: i32) -> Cage {
+    let points = vec![[0, 0, 0], [x, 0, 0], [0, 0, 0], [0, 0, 0]];
+    Cage { points, ..cages::tetrahedron() }
+}
+
+/// The lists of requests in the papers, each with its cage.
+pub fn request_lists() -> Vec<(Cage, Vec<u32>)> {
+    vec![
+        (cages::tetrahedron(), vec![0, 0, 0, 0, 99]),
+        (cages::tetrahedron(), vec![0, 3, 7, 9]),
+        (cages::double_pyramid(4), vec![0, 4]),
+        (cages::foil(), vec![0, 1]),
+        (cages::strip(1), vec![0, 0, 1, 2]),
+    ]
+}
+
+/// All examples on both services; the numbers that the papers give are tested here as well.
+pub fn run(bench: &mut Bench, rng: &mut Rng) -> Outcome {
+    for Example { refusal, mut store, call } in refusals(rng).into_iter().chain(orders(rng)) {
+        let before = store.clone();
+        let answer = bench.compare(&mut store, &call)?;
+        if answer.refusal() != refusal {
+            let what = format!("refusal {}, the papers give {refusal}", answer.refusal());
+            return Err(difference(what, before, &call));
+        }
+    }
+    for (cage, requests) in request_lists() {
+        let mut store = Store::junk(40, 60, rng);
+        bench.compare(&mut store, &load(&cage))?;
+        for &triangle in &requests {
+            bench.compare(&mut store, &refine(triangle))?;
+        }
+    }
+    Ok(())
+}

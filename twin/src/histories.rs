@@ -1,0 +1,245 @@
+//! Histories: lists of calls on one mesh, refused ones among them, and the claims of demand 3 after each.
+
+use crate::bench::{Bench, Outcome, difference};
+use crate::cages::{self, Cage};
+use crate::calls;
+use crate::claims;
+use crate::damage;
+use crate::handmade;
+use crate::malformed;
+use crate::random_cages::random_cage;
+use crate::rng::Rng;
+use crate::tables::{Answer, BOUNDARY, Call, Counts, LAST_GENERATION, Store};
+
+/// A mesh in the course of a history, with V − E + F of the cage of the last accepted load.
+struct History {
+    store: Store,
+    euler_number: Option<i64>,
+}
+
+impl History {
+    /// Histories that begin on any tables and counts.
+    fn begun(vertex_slots: usize, triangle_slots: usize, rng: &mut Rng) -> History {
+        let mut store = match rng.below(3) {
+            0 => Store::fresh(vertex_slots, triangle_slots),
+            _ => Store::junk(vertex_slots, triangle_slots, rng),
+        };
+        if rng.percent(30) {
+            let vertices = calls::some_number(vertex_slots as u32, rng);
+            store.counts = Counts { vertices, triangles: calls::some_number(triangle_slots as u32, rng) };
+        }
+        History { store, euler_number: None }
+    }
+
+    /// The cage of the last accepted load.
+    fn load(&mut self, bench: &mut Bench, cage: Vec<u8>) -> Outcome {
+        let call = Call::Load { cage };
+        let answer = bench.compare(&mut self.store, &call)?;
+        if let (Call::Load { cage }, 0) = (&call, answer.refusal()) {
+            self.euler_number = Some(Cage::of_bytes(cage).euler_number());
+        }
+        Ok(())
+    }
+
+    fn refine(&mut self, bench: &mut Bench, triangle: u32) -> Outcome<u32> {
+        Ok(bench.compare(&mut self.store, &Call::Refine { triangle })?.refusal())
+    }
+
+    /// The claims of demand 3, once a load was accepted: three on the tables, and the fourth, which every
+    /// comparison of a refine tests, on some triangles.
+    fn check(&self, bench: &mut Bench, rng: &mut Rng) -> Outcome {
+        let Some(euler_number) = self.euler_number else {
+            return Ok(());
+        };
+        let look = Call::Position { vertex: 0 };
+        if let Some(what) = claims::violated(&self.store, euler_number) {
+            return Err(difference(what, self.store.clone(), &look));
+        }
+        if bench.compare_only(&self.store, &look)?.refusal() != 0 {
+            let what = "tables not sound after an accepted load".to_string();
+            return Err(difference(what, self.store.clone(), &look));
+        }
+        for _ in 0..6 {
+            let triangle = rng.below(self.store.triangles()) as u32;
+            bench.compare_only(&self.store, &Call::Refine { triangle })?;
+        }
+        Ok(())
+    }
+}
+
+/// Every shape, plain and shuffled: loaded, all rings and positions read, the whole step tried, refined at random.
+pub fn shapes(bench: &mut Bench, rng: &mut Rng) -> Outcome {
+    for shape in cages::shapes() {
+        for shuffle in 0..3 {
+            let cage = if shuffle == 0 { shape.clone() } else { shape.shuffled(rng).scattered(rng) };
+            let spare = rng.pick(&[0, 30, 200]);
+            let mut history = History::begun(cage.points.len() + spare, cage.triangles.len() + 2 * spare, rng);
+            history.load(bench, cage.bytes())?;
+            for vertex in 0..cage.points.len() as u32 {
+                read_vertex(bench, &history.store, vertex, rng)?;
+            }
+            bench.compare_only(&history.store, &Call::WholeStep)?;
+            calls::compare_some(bench, &mut history.store, 40, rng)?;
+            history.check(bench, rng)?;
+        }
+    }
+    Ok(())
+}
+
+/// A vertex's position, and its ring in a buffer that is long, just long enough, and one entry too short.
+fn read_vertex(bench: &mut Bench, store: &Store, vertex: u32, rng: &mut Rng) -> Outcome {
+    bench.compare_only(store, &Call::Position { vertex })?;
+    let buffer = vec![rng.word(); 42];
+    if let Answer::Ring { read, .. } = bench.compare_only(store, &Call::Ring { vertex, buffer })? {
+        for length in [read.length, read.length.saturating_sub(1)] {
+            let buffer = vec![rng.word(); length as usize];
+            bench.compare_only(store, &Call::Ring { vertex, buffer })?;
+        }
+    }
+    Ok(())
+}
+
+/// Whole steps one after another as long as there is room, with a little refining at the end.
+pub fn whole_steps(bench: &mut Bench, rng: &mut Rng) -> Outcome {
+    for round in 0..60 {
+        let (vertices, triangles) = rng.pick(&[(80, 150), (700, 1400), (2000, 4000)]);
+        let mut history = History::begun(vertices, triangles, rng);
+        let closed = [cages::tetrahedron(), cages::foil(), cages::double_pyramid(3 + round % 11), cages::torus(3, 4)];
+        let cage = closed[round as usize % 4].clone().shuffled(rng).scattered(rng);
+        history.load(bench, cage.bytes())?;
+        for _ in 0..6 {
+            bench.compare(&mut history.store, &Call::WholeStep)?;
+        }
+        calls::compare_some(bench, &mut history.store, 6, rng)?;
+        history.check(bench, rng)?;
+    }
+    Ok(())
+}
+
+/// Long refine histories that go deep in one place, to generation 20 and to chains of ten where there is room.
+pub fn deep(bench: &mut Bench, rounds: usize, rng: &mut Rng) -> Outcome {
+    for _ in 0..rounds {
+        let spare = rng.pick(&[60, 250, 500]);
+        let cage = random_cage(rng);
+        let mut history = History::begun(cage.points.len() + spare, cage.triangles.len() + 2 * spare, rng);
+        history.load(bench, cage.bytes())?;
+        if history.euler_number.is_none() {
+            continue;
+        }
+        let style = rng.below(3);
+        for step in 0..rng.pick(&[60, 120]) {
+            let triangle = match style {
+                0 => calls::deepest_triangle(&history.store),
+                1 if step % 24 == 23 => calls::longest_chain_triangle(&history.store),
+                1 => chain_lengthener(&history.store, rng),
+                _ if rng.percent(70) => calls::deepest_triangle(&history.store),
+                _ => calls::longest_chain_triangle(&history.store),
+            };
+            if history.refine(bench, triangle)? != 0 {
+                calls::compare_some(bench, &mut history.store, 3, rng)?;
+            }
+        }
+        calls::compare_some(bench, &mut history.store, 6, rng)?;
+        history.check(bench, rng)?;
+    }
+    Ok(())
+}
+
+/// A triangle whose refining may lengthen the longest base chain: an even one beside a non-base side of its first
+/// triangle, whose child then stands on that side; or, to get such an even one, an odd triangle there.
+fn chain_lengthener(store: &Store, rng: &mut Rng) -> u32 {
+    let first = calls::longest_chain_triangle(store) as usize;
+    let side = 3 * first + 1 + rng.below(2);
+    let beside = store.tables.links[side];
+    let generation = store.tables.generations[first];
+    if generation.is_multiple_of(2) || beside == BOUNDARY || generation + 1 >= LAST_GENERATION || rng.percent(10) {
+        return rng.below(store.triangles()) as u32;
+    }
+    beside / 3
+}
+
+/// Random histories of all five calls, on stores with slots to spare and with none.
+pub fn random(bench: &mut Bench, rounds: usize, rng: &mut Rng) -> Outcome {
+    for _ in 0..rounds {
+        let cage = random_cage(rng);
+        let (vertices, triangles) = rng.pick(&[(0, 0), (0, 0), (1, 2), (2, 3), (5, 10), (5, 60), (40, 20), (80, 160)]);
+        let mut history = History::begun(cage.points.len() + vertices, cage.triangles.len() + triangles, rng);
+        if rng.percent(90) {
+            calls::compare_some(bench, &mut history.store, rng.below(3), rng)?;
+            history.load(bench, cage.bytes())?;
+        }
+        for _ in 0..10 + rng.below(40) {
+            match rng.below(40) {
+                0 => history.load(bench, random_cage(rng).bytes())?,
+                1 => history.load(bench, malformed::random(rng))?,
+                _ => calls::compare_some(bench, &mut history.store, 1, rng)?,
+            }
+        }
+        history.check(bench, rng)?;
+        if history.euler_number.is_some() && rng.percent(30) {
+            // The same mesh near generation 20, as no history gives it.
+            let mut raised = handmade::raised(&history.store, rng);
+            calls::compare_some(bench, &mut raised, 6, rng)?;
+        }
+    }
+    Ok(())
+}
+
+/// All cages of one or two triangles on four vertices, repeated corners included, and all of three proper ones.
+pub fn small_cages(bench: &mut Bench, rng: &mut Rng) -> Outcome {
+    let all: Vec<[u32; 3]> = (0..64).map(|code| [code / 16, code / 4 % 4, code % 4]).collect();
+    let proper = all.iter().filter(|[a, b, c]| a != b && b != c && c != a);
+    let ones = all.iter().map(|&one| vec![one]);
+    let twos = all.iter().flat_map(|&one| all.iter().map(move |&two| vec![one, two]));
+    let threes = proper.clone().flat_map(|&one| {
+        let proper = proper.clone();
+        proper.clone().flat_map(move |&two| proper.clone().map(move |&three| vec![one, two, three]))
+    });
+    for triangles in ones.chain(twos).chain(threes) {
+        let mut store = Store::junk(8, 9, rng);
+        let call = Call::Load { cage: Cage::of(triangles).bytes() };
+        if bench.compare(&mut store, &call)?.refusal() == 0 {
+            calls::compare_some(bench, &mut store, 2, rng)?;
+        }
+    }
+    Ok(())
+}
+
+/// Every list of a few requests on small cages.
+pub fn all_request_lists(bench: &mut Bench, rng: &mut Rng) -> Outcome {
+    let open = [cages::strip(1), cages::strip(2), cages::disc(3)];
+    for cage in [cages::tetrahedron(), cages::foil()].into_iter().chain(open) {
+        let spare = 6;
+        let store = damage::refined(&cage, &[], spare, rng);
+        all_lists_from(bench, &store, 4)?;
+    }
+    Ok(())
+}
+
+fn all_lists_from(bench: &mut Bench, store: &Store, length: usize) -> Outcome {
+    for triangle in 0..store.counts.triangles + u32::from(length == 1) {
+        let mut refined = store.clone();
+        let answer = bench.compare(&mut refined, &Call::Refine { triangle })?;
+        if length > 1 && answer.refusal() == 0 {
+            all_lists_from(bench, &refined, length - 1)?;
+        }
+    }
+    Ok(())
+}
+
+/// Cages that fill the largest tables, a whole step that nearly does, and rings of tens of thousands.
+pub fn largest(bench: &mut Bench, rng: &mut Rng) -> Outcome {
+    let fans = [cages::double_pyramid(32_700), cages::open_fan(32_766)];
+    for cage in [cages::torus(128, 256), cages::torus(106, 103)].into_iter().chain(fans) {
+        let mut history = History::begun(32_768, 65_536, rng);
+        history.load(bench, cage.shuffled(rng).scattered(rng).bytes())?;
+        for _ in 0..2 {
+            bench.compare(&mut history.store, &Call::WholeStep)?;
+            calls::compare_some(bench, &mut history.store, 4, rng)?;
+        }
+        let ring = Call::Ring { vertex: rng.below(cage.points.len()) as u32, buffer: vec![7; 32_768] };
+        bench.compare(&mut history.store, &ring)?;
+        history.check(bench, rng)?;
+    }
+    Ok(())
+}

@@ -1,0 +1,56 @@
+//! The parts of the differential run.
+
+use std::time::Instant;
+
+use crate::bench::{Bench, Outcome};
+use crate::rng::Rng;
+use crate::{damage, examples, handmade, histories, malformed, unsound};
+
+type Part = fn(&mut Bench, &mut Rng) -> Outcome;
+
+/// All parts of one run, in order; each has its own random numbers.
+const PARTS: [(&str, Part); 20] = [
+    ("examples of the papers", examples::run),
+    ("cages with sets of faults", malformed::sets_of_faults),
+    ("cages of all lengths", malformed::lengths_and_slots),
+    ("cages of fitting lengths", malformed::fitting_lengths),
+    ("random malformed cages", |bench, rng| malformed::random_loads(bench, 6_000, rng)),
+    ("all small cages", histories::small_cages),
+    ("shapes", histories::shapes),
+    ("all short request lists", histories::all_request_lists),
+    ("hand-made chains", handmade::chains),
+    ("hand-made tables", |bench, rng| handmade::histories(bench, 4_000, rng)),
+    ("unsound in one way", unsound::run),
+    ("all pairs of sides", unsound::all_pairs),
+    ("tables of other lengths", damage::lengths),
+    ("counts off", damage::counts),
+    ("every entry damaged", damage::single_entries),
+    ("damage that keeps order", |bench, rng| damage::random_damage(bench, 8_000, rng)),
+    ("whole steps", histories::whole_steps),
+    ("deep histories", |bench, rng| histories::deep(bench, 120, rng)),
+    ("random histories", |bench, rng| histories::random(bench, 4_000, rng)),
+    ("largest tables", histories::largest),
+];
+
+/// Runs all parts up to the first difference.
+pub fn run_all(bench: &mut Bench, seed: u64, report: bool) -> Outcome {
+    for (number, (name, part)) in PARTS.iter().enumerate() {
+        let (start, before) = (Instant::now(), bench.comparisons);
+        let outcome = part(bench, &mut Rng::for_part(seed, number as u64));
+        if report {
+            let seconds = start.elapsed().as_secs_f64();
+            println!("{name:<28}{:>9} comparisons {seconds:>7.1} s", bench.comparisons - before);
+        }
+        outcome?;
+    }
+    Ok(())
+}
+
+/// One more round of the random parts.
+pub fn soak_round(bench: &mut Bench, rng: &mut Rng) -> Outcome {
+    malformed::random_loads(bench, 20, rng)?;
+    handmade::histories(bench, 20, rng)?;
+    damage::random_damage(bench, 30, rng)?;
+    histories::deep(bench, 1, rng)?;
+    histories::random(bench, 20, rng)
+}

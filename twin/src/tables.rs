@@ -1,0 +1,151 @@
+//! The lent tables, the counts that travel with them, the five calls and their answers.
+
+use crate::rng::Rng;
+
+/// The link of a boundary side; the paper's rim.
+pub const BOUNDARY: u32 = u32::MAX;
+/// The most slots of vertices and of triangles.
+pub const MOST_VERTEX_SLOTS: usize = 32_768;
+pub const MOST_TRIANGLE_SLOTS: usize = 65_536;
+/// The greatest coordinate, and the opposite of the least.
+pub const FARTHEST: i32 = 16_777_216;
+/// The greatest generation.
+pub const LAST_GENERATION: u8 = 20;
+
+/// The vertices and triangles in use.
+#[repr(C)]
+#[derive(Clone, Copy, Debug, Default, PartialEq, Eq)]
+pub struct Counts {
+    pub vertices: u32,
+    pub triangles: u32,
+}
+
+/// The answer of load, refine and whole step.
+#[repr(C)]
+#[derive(Clone, Copy, Debug, Default, PartialEq, Eq)]
+pub struct Worked {
+    pub refusal: u32,
+    pub splits: u32,
+    pub flips: u32,
+    pub counts: Counts,
+}
+
+/// The answer of a ring query, without the buffer.
+#[repr(C)]
+#[derive(Clone, Copy, Debug, Default, PartialEq, Eq)]
+pub struct RingRead {
+    pub refusal: u32,
+    pub length: u32,
+    pub counts: Counts,
+}
+
+/// The answer of a position query.
+#[repr(C)]
+#[derive(Clone, Copy, Debug, Default, PartialEq, Eq)]
+pub struct PositionRead {
+    pub refusal: u32,
+    pub x: i32,
+    pub y: i32,
+    pub z: i32,
+    pub counts: Counts,
+}
+
+/// What a caller lends: three positions to a vertex slot; three corners, three links and a generation to a triangle slot.
+#[derive(Clone, Debug, Default, PartialEq, Eq)]
+pub struct Tables {
+    pub positions: Vec<i32>,
+    pub corners: Vec<u32>,
+    pub links: Vec<u32>,
+    pub generations: Vec<u8>,
+}
+
+/// Lent tables with their counts.
+#[derive(Clone, Debug, Default, PartialEq, Eq)]
+pub struct Store {
+    pub tables: Tables,
+    pub counts: Counts,
+}
+
+impl Store {
+    /// A fresh store: nothing in use.
+    pub fn fresh(vertex_slots: usize, triangle_slots: usize) -> Store {
+        Store {
+            tables: Tables {
+                positions: vec![0; 3 * vertex_slots],
+                corners: vec![0; 3 * triangle_slots],
+                links: vec![0; 3 * triangle_slots],
+                generations: vec![0; triangle_slots],
+            },
+            counts: Counts::default(),
+        }
+    }
+
+    /// A store whose slots hold anything, so that a write past the counts shows.
+    pub fn junk(vertex_slots: usize, triangle_slots: usize, rng: &mut Rng) -> Store {
+        let mut store = Store::fresh(vertex_slots, triangle_slots);
+        let tables = &mut store.tables;
+        tables.positions.fill_with(|| rng.word() as i32);
+        tables.corners.fill_with(|| rng.word() >> rng.below(32));
+        tables.links.fill_with(|| rng.word() >> rng.below(32));
+        tables.generations.fill_with(|| rng.word() as u8);
+        store
+    }
+
+    pub fn vertex_slots(&self) -> usize {
+        self.tables.positions.len() / 3
+    }
+
+    pub fn triangle_slots(&self) -> usize {
+        self.tables.generations.len()
+    }
+
+    /// The triangles in use, or all slots where the count lies beyond them.
+    pub fn triangles(&self) -> usize {
+        (self.counts.triangles as usize).min(self.triangle_slots())
+    }
+}
+
+/// One call with its arguments, apart from the tables and counts.
+#[derive(Clone, Debug, PartialEq, Eq)]
+pub enum Call {
+    Load { cage: Vec<u8> },
+    Refine { triangle: u32 },
+    WholeStep,
+    Ring { vertex: u32, buffer: Vec<u32> },
+    Position { vertex: u32 },
+}
+
+/// What a call returns, with the ring buffer as the call left it.
+#[derive(Clone, Debug, PartialEq, Eq)]
+pub enum Answer {
+    Worked(Worked),
+    Ring { read: RingRead, buffer: Vec<u32> },
+    Position(PositionRead),
+}
+
+impl Answer {
+    /// The refusal number, 0 for none.
+    pub fn refusal(&self) -> u32 {
+        match self {
+            Answer::Worked(worked) => worked.refusal,
+            Answer::Ring { read, .. } => read.refusal,
+            Answer::Position(read) => read.refusal,
+        }
+    }
+
+    pub fn counts(&self) -> Counts {
+        match self {
+            Answer::Worked(worked) => worked.counts,
+            Answer::Ring { read, .. } => read.counts,
+            Answer::Position(read) => read.counts,
+        }
+    }
+}
+
+/// A service that answers the five calls: the twin, a broken twin, or the library under test.
+pub trait Service {
+    fn name(&self) -> String;
+
+    /// Answers one call on lent tables. The error says which memory outside the tables and buffers was written.
+    fn answer(&self, tables: &mut Tables, counts: Counts, call: &Call) -> Result<Answer, String>;
+}

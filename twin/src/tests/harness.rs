@@ -1,0 +1,110 @@
+//! The harness against itself: what it makes is what it says, and what is broken is caught.
+
+use crate::bench::Bench;
+use crate::case::Case;
+use crate::claims;
+use crate::damage;
+use crate::fault::{Fault, Seeded};
+use crate::handmade;
+use crate::parts;
+use crate::rng::Rng;
+use crate::sound::kind;
+use crate::surgery::damaged_store;
+use crate::tables::{Call, Service, Store};
+use crate::tests::plain_sound::sound;
+use crate::twin::Twin;
+use crate::unsound;
+
+fn found_sound(store: &Store) -> bool {
+    let look = Call::Position { vertex: u32::MAX };
+    let answer = Twin::UNBROKEN.answer(&mut store.tables.clone(), store.counts, &look);
+    answer.expect("the twin stays inside").refusal() == 8
+}
+
+#[test]
+fn hand_made_tables_are_sound_and_stay_so_when_raised() {
+    let rng = &mut Rng::new(11);
+    for _ in 0..500 {
+        let store = handmade::random(rng);
+        assert!(sound(&store) && found_sound(&store));
+        assert!(found_sound(&handmade::raised(&store, rng)));
+    }
+}
+
+#[test]
+fn each_sentence_of_sound_is_needed() {
+    for (broken, store) in unsound::one_way_each() {
+        assert!(!sound(&store) && !found_sound(&store), "{broken}");
+    }
+}
+
+#[test]
+fn both_readings_of_sound_agree_on_damaged_tables() {
+    let rng = &mut Rng::new(12);
+    let (mut good, mut bad) = (0, 0);
+    for _ in 0..4000 {
+        let store = damaged_store(rng);
+        let is_sound = sound(&store);
+        assert_eq!(found_sound(&store), is_sound, "{store:?}");
+        good += u32::from(is_sound);
+        bad += u32::from(!is_sound);
+    }
+    assert!(good > 200 && bad > 200, "{good} sound, {bad} not");
+}
+
+#[test]
+fn the_five_kinds_are_those_of_the_list() {
+    assert_eq!(kind((4, 1), (4, 0)), Some(1));
+    assert_eq!(kind((4, 1), (5, 0)), Some(2));
+    assert_eq!(kind((5, 2), (6, 1)), Some(3));
+    assert_eq!(kind((5, 2), (5, 1)), Some(4));
+    assert_eq!(kind((3, 2), (5, 0)), Some(5));
+    for wrong in [((4, 0), (6, 0)), ((5, 0), (5, 0)), ((5, 0), (5, 1)), ((4, 0), (5, 1)), ((4, 0), (3, 0))] {
+        assert_eq!(kind(wrong.0, wrong.1), None);
+    }
+    assert_eq!(kind((0, 0), (255, 1)), None);
+}
+
+#[test]
+fn cases_are_read_back_as_they_were_written() {
+    let rng = &mut Rng::new(13);
+    let store = handmade::random(rng);
+    let calls = [
+        Call::Load { cage: vec![1, 1, 1, 255, 0] },
+        Call::Refine { triangle: 7 },
+        Call::WholeStep,
+        Call::Ring { vertex: 9, buffer: vec![9, 9, 4] },
+        Call::Ring { vertex: 9, buffer: vec![] },
+        Call::Position { vertex: u32::MAX },
+    ];
+    for call in calls {
+        let case = Case { store: store.clone(), call };
+        assert_eq!(case.to_string().parse(), Ok(case));
+    }
+    let empty = Case { store: Store::default(), call: Call::WholeStep };
+    assert_eq!(empty.to_string().parse(), Ok(empty));
+}
+
+#[test]
+fn claims_tell_broken_tables() {
+    let rng = &mut Rng::new(14);
+    let good = damage::refined(&crate::cages::tetrahedron(), &[0, 0, 0], 2, rng);
+    assert_eq!(claims::violated(&good, 2), None);
+    assert!(claims::violated(&good, 0).is_some());
+    let mut crossed = good.clone();
+    crossed.tables.links.swap(0, 4);
+    assert!(claims::violated(&crossed, 2).is_some());
+    let mut aged = good;
+    aged.tables.generations[0] += 4;
+    assert!(claims::violated(&aged, 2).is_some());
+}
+
+#[test]
+fn every_seeded_fault_is_caught() {
+    let unbroken = Twin::UNBROKEN;
+    for (fault, meaning) in Fault::ALL {
+        let twin = Twin { fault: Seeded(Some(fault)) };
+        let outcome = parts::run_all(&mut Bench::new(&twin, &unbroken), 1, false);
+        assert!(outcome.is_err(), "{meaning}");
+    }
+}

@@ -1,0 +1,214 @@
+//! The twin against the papers: P1 to P12, the readings, the refusals.
+
+use crate::cages::{self, Cage};
+use crate::examples::{self, Example};
+use crate::malformed::RawCage;
+use crate::program::{Files, model};
+use crate::rng::Rng;
+use crate::tables::{Answer, BOUNDARY, Call, Counts, FARTHEST, PositionRead, RingRead, Service, Store, Worked};
+use crate::twin::Twin;
+
+/// Runs a call on the twin; the store's counts follow.
+fn run(store: &mut Store, call: &Call) -> Answer {
+    let answer = Twin::UNBROKEN.answer(&mut store.tables, store.counts, call).expect("the twin stays inside");
+    store.counts = answer.counts();
+    answer
+}
+
+fn loaded(cage: &Cage) -> Store {
+    let mut store = Store::junk(60, 100, &mut Rng::new(5));
+    assert_eq!(run(&mut store, &Call::Load { cage: cage.bytes() }).refusal(), 0);
+    store
+}
+
+/// The program's lines for a cage and its requests.
+fn lines(cage: &Cage, requests: &[u32]) -> String {
+    let requests = requests.iter().flat_map(|request| request.to_le_bytes()).collect();
+    model(&Files { cage: Some(cage.bytes()), requests: Some(requests) })
+}
+
+fn after_requests(cage: &Cage, requests: &[u32]) -> Store {
+    let mut store = loaded(cage);
+    for &triangle in requests {
+        run(&mut store, &Call::Refine { triangle });
+    }
+    store
+}
+
+fn slot(store: &Store, triangle: usize) -> ([u32; 3], u8) {
+    let corners = &store.tables.corners[3 * triangle..];
+    ([corners[0], corners[1], corners[2]], store.tables.generations[triangle])
+}
+
+fn point(store: &Store, vertex: usize) -> [i32; 3] {
+    let positions = &store.tables.positions[3 * vertex..];
+    [positions[0], positions[1], positions[2]]
+}
+
+#[test]
+fn tetrahedron_run_prints_p1_to_p6() {
+    let expected = "0 0 0 4 4\n0 1 0 5 6\n0 1 1 6 8\n0 1 0 7 10\n0 2 3 9 14\n8 0 0 9 14\n";
+    assert_eq!(lines(&cages::tetrahedron(), &[0, 0, 0, 0, 99]), expected);
+}
+
+#[test]
+fn tetrahedron_run_leaves_p7_to_p10() {
+    let store = after_requests(&cages::tetrahedron(), &[0, 0, 0, 0, 99]);
+    assert_eq!(slot(&store, 0), ([0, 8, 6], 4));
+    assert_eq!(slot(&store, 5), ([2, 7, 4], 2));
+    assert_eq!(point(&store, 6), [2, 1, 1]);
+    assert_eq!(point(&store, 8), [1, 1, 2]);
+}
+
+#[test]
+fn whole_step_on_the_tetrahedron_gives_p11_and_p12() {
+    let mut store = loaded(&cages::tetrahedron());
+    let counts = Counts { vertices: 8, triangles: 12 };
+    let worked = Worked { refusal: 0, splits: 4, flips: 6, counts };
+    assert_eq!(run(&mut store, &Call::WholeStep), Answer::Worked(worked));
+    assert_eq!(point(&store, 0), [2, 2, 2]);
+    assert_eq!(point(&store, 1), [4, 2, 2]);
+}
+
+#[test]
+fn reading_b2_an_even_triangle_may_rise_by_two() {
+    let upper = [[0, 1, 2], [0, 2, 3], [0, 3, 4], [0, 4, 1]];
+    let lower = [[2, 1, 5], [3, 2, 5], [4, 3, 5], [1, 4, 5]];
+    let octahedron = Cage::of([upper, lower].concat());
+    assert_eq!(lines(&octahedron, &[0, 4]), "0 0 0 6 8\n0 1 0 7 10\n0 1 1 8 12\n");
+    assert_eq!(slot(&after_requests(&octahedron, &[0, 4]), 4), ([2, 6, 7], 2));
+    assert_eq!(slot(&after_requests(&cages::foil(), &[0, 1]), 1).1, 2);
+}
+
+#[test]
+fn reading_b3_the_even_triangle_across_may_stand_in_another_slot() {
+    let expected = "0 0 0 4 4\n0 1 0 5 6\n0 1 1 6 8\n0 1 0 7 10\n0 2 3 9 14\n";
+    assert_eq!(lines(&cages::tetrahedron(), &[0, 3, 7, 9]), expected);
+    let store = after_requests(&cages::tetrahedron(), &[0, 3, 7, 9]);
+    assert_eq!(slot(&store, 9), ([5, 8, 6], 4));
+    assert_eq!(slot(&store, 6), ([3, 7, 5], 2));
+    assert_eq!(slot(&store, 1), ([0, 6, 8], 4));
+}
+
+#[test]
+fn reading_b6_links_are_no_function_of_the_corners() {
+    let store = after_requests(&cages::foil(), &[0, 1]);
+    let sides = (0..18).filter(|&side: &usize| {
+        let ends = [side, side - side % 3 + (side + 1) % 3].map(|corner| store.tables.corners[corner]);
+        ends == [3, 4]
+    });
+    assert_eq!((store.counts.triangles, sides.count()), (6, 3));
+}
+
+#[test]
+fn refusals_are_those_of_the_table() {
+    let rng = &mut Rng::new(3);
+    let table = examples::refusals(rng);
+    assert!(table.iter().map(|example| example.refusal).eq(1..=14));
+    for Example { refusal, store, call } in table.into_iter().chain(examples::orders(rng)) {
+        let mut after = store.clone();
+        let answer = run(&mut after, &call);
+        assert_eq!(answer.refusal(), refusal, "{call:?}");
+        if refusal > 0 {
+            assert_eq!(after, store, "{call:?}");
+            assert_eq!(answer, zeros(refusal, &store, &call));
+        }
+    }
+}
+
+/// A refusal answers zeros and the counts as they were.
+fn zeros(refusal: u32, store: &Store, call: &Call) -> Answer {
+    let counts = store.counts;
+    match call {
+        Call::Ring { buffer, .. } => {
+            Answer::Ring { read: RingRead { refusal, length: 0, counts }, buffer: buffer.clone() }
+        }
+        Call::Position { .. } => Answer::Position(PositionRead { refusal, x: 0, y: 0, z: 0, counts }),
+        _ => Answer::Worked(Worked { refusal, splits: 0, flips: 0, counts }),
+    }
+}
+
+#[test]
+fn of_several_faults_in_a_cage_the_lowest_number_is_given() {
+    let rng = &mut Rng::new(8);
+    for cage in cages::shapes() {
+        for set in 1..32_u32 {
+            let mut raw = RawCage::new(&cage);
+            let faults = (2..=6).filter(|refusal| set & (1 << (refusal - 2)) != 0);
+            faults.clone().rev().for_each(|refusal| raw.spoil(refusal, rng));
+            let mut store = Store::fresh(cage.points.len() + 4, cage.triangles.len() + 3);
+            let answer = run(&mut store, &Call::Load { cage: raw.bytes() });
+            assert_eq!(Some(answer.refusal()), faults.min());
+        }
+    }
+}
+
+#[test]
+fn thirds_and_halves_round_as_the_papers_say() {
+    for (sum, third) in [(4, 1), (5, 2), (-1, 0), (-4, -1), (-5, -2), (3 * FARTHEST, FARTHEST)] {
+        let mut cage = cages::strip(1);
+        cage.points = vec![[sum / 3, 0, 0], [sum / 3, 0, 0], [sum - sum / 3 * 2, 0, 0]];
+        assert_eq!(point(&after_requests(&cage, &[0]), 3)[0], third, "a third of {sum}");
+    }
+    for (x, moved) in [(98_304, 18_205), (-98_304, -18_204)] {
+        let mut store = loaded(&examples::halves(x));
+        run(&mut store, &Call::WholeStep);
+        assert_eq!(point(&store, 0)[0], moved);
+    }
+}
+
+#[test]
+fn weights_are_the_formula_to_the_nearest() {
+    let mut foil = cages::foil();
+    foil.points[0] = [65_536, 0, 0];
+    let mut store = loaded(&foil);
+    run(&mut store, &Call::WholeStep);
+    assert_eq!(point(&store, 0)[0], 65_536 - 43_691);
+    for sides in 3..=12_u32 {
+        let mut cage = cages::double_pyramid(sides);
+        // The apex alone lies away from the origin, so that it keeps the share (65536 − w) / 65536 of its way.
+        cage.points[sides as usize] = [65_536, 0, 0];
+        let mut store = loaded(&cage);
+        run(&mut store, &Call::WholeStep);
+        let cosine = (std::f64::consts::TAU / f64::from(sides)).cos();
+        let weight = (65_536.0 * (4.0 - 2.0 * cosine) / 9.0).round() as i32;
+        assert_eq!(point(&store, sides as usize)[0], 65_536 - weight, "{sides} sides");
+    }
+}
+
+#[test]
+fn rings_start_and_end_where_the_papers_say() {
+    let ring = |store: &mut Store, vertex: u32| {
+        let answer = run(store, &Call::Ring { vertex, buffer: vec![99; 6] });
+        let Answer::Ring { read, buffer } = answer else { panic!("a ring query answers a ring") };
+        assert!(buffer[read.length as usize..].iter().all(|&entry| entry == 99));
+        buffer[..read.length as usize].to_vec()
+    };
+    assert_eq!(ring(&mut loaded(&cages::strip(1)), 0), [1, 2]);
+    assert_eq!(ring(&mut loaded(&cages::tetrahedron()), 0), [1, 2, 3]);
+    assert_eq!(ring(&mut loaded(&cages::tetrahedron()), 3), [1, 0, 2]);
+    assert_eq!(ring(&mut loaded(&cages::foil()), 1), [2, 0]);
+    assert_eq!(ring(&mut loaded(&cages::open_fan(3)), 0), [1, 2, 3, 4]);
+    assert_eq!(ring(&mut loaded(&cages::open_fan(3)), 2), [3, 0, 1]);
+}
+
+#[test]
+fn whole_step_splits_every_triangle_and_flips_every_edge() {
+    let rng = &mut Rng::new(4);
+    for cage in [cages::torus(3, 3), cages::double_pyramid(7), cages::foil(), cages::tetrahedron()] {
+        let mut store = loaded(&cage.shuffled(rng).scattered(rng));
+        let before = store.clone();
+        let faces = before.counts.triangles;
+        let Answer::Worked(worked) = run(&mut store, &Call::WholeStep) else { panic!("a whole step answers so") };
+        assert_eq!((worked.refusal, worked.splits, worked.flips), (0, faces, 3 * faces / 2));
+        assert!(store.tables.generations[..3 * faces as usize].iter().all(|&generation| generation == 2));
+        assert!(store.tables.links[..9 * faces as usize].iter().all(|&link| link != BOUNDARY));
+        let valence = |store: &Store, vertex: u32| {
+            store.tables.corners[..3 * store.counts.triangles as usize].iter().filter(|&&v| v == vertex).count()
+        };
+        for vertex in 0..store.counts.vertices {
+            let old = vertex < before.counts.vertices;
+            assert_eq!(valence(&store, vertex), if old { valence(&before, vertex) } else { 6 });
+        }
+    }
+}

@@ -1,0 +1,175 @@
+//! The twin: the five calls, each with its conditions in the paper's order.
+
+use crate::fault::{Fault, Seeded};
+use crate::load::mesh_of_cage;
+use crate::mesh::Mesh;
+use crate::smooth::{LONGEST_RING, whole_step};
+use crate::sound::is_sound;
+use crate::tables::{
+    Answer, Call, Counts, LAST_GENERATION, MOST_TRIANGLE_SLOTS, MOST_VERTEX_SLOTS, PositionRead, RingRead, Service,
+    Tables, Worked,
+};
+
+/// Refuses with a number where its condition holds.
+pub fn refuse_unless(good: bool, number: u32) -> Result<(), u32> {
+    if good { Ok(()) } else { Err(number) }
+}
+
+/// The rules of document 01, with one seeded fault or none.
+pub struct Twin {
+    pub fault: Seeded,
+}
+
+impl Service for Twin {
+    fn name(&self) -> String {
+        match self.fault.0 {
+            None => "twin".to_string(),
+            Some(fault) => format!("twin with {fault:?}"),
+        }
+    }
+
+    /// A refusal: its number, zeros, and the counts as they were.
+    fn answer(&self, tables: &mut Tables, counts: Counts, call: &Call) -> Result<Answer, String> {
+        let refused = |refusal| Worked { refusal, counts, ..Worked::default() };
+        Ok(match call {
+            Call::Load { cage } => Answer::Worked(self.load(tables, cage).unwrap_or_else(refused)),
+            Call::Refine { triangle } => {
+                Answer::Worked(self.refine(tables, counts, *triangle as usize).unwrap_or_else(refused))
+            }
+            Call::WholeStep => Answer::Worked(self.whole_step(tables, counts).unwrap_or_else(refused)),
+            Call::Ring { vertex, buffer } => {
+                let mut buffer = buffer.clone();
+                let read = self.ring(tables, counts, *vertex as usize, &mut buffer);
+                let read = read.unwrap_or_else(|refusal| RingRead { refusal, counts, ..RingRead::default() });
+                Answer::Ring { read, buffer }
+            }
+            Call::Position { vertex } => {
+                let read = self.position(tables, counts, *vertex as usize);
+                Answer::Position(read.unwrap_or_else(|refusal| PositionRead {
+                    refusal,
+                    counts,
+                    ..PositionRead::default()
+                }))
+            }
+        })
+    }
+}
+
+impl Twin {
+    pub const UNBROKEN: Twin = Twin { fault: Seeded(None) };
+
+    /// Load: 1 to 6, whatever the tables held.
+    fn load(&self, tables: &mut Tables, cage: &[u8]) -> Result<Worked, u32> {
+        refuse_unless(self.tables_agree(tables), 1)?;
+        let (vertex_slots, triangle_slots) = (tables.positions.len() / 3, tables.generations.len());
+        let mesh = mesh_of_cage(cage, vertex_slots, triangle_slots, self.fault);
+        if self.fault.has(Fault::RefusedLoadWrites) && mesh == Err(6) {
+            tables.positions[0] = 0;
+        }
+        let mesh = mesh?;
+        mesh.write(tables);
+        let counts = mesh.counts();
+        if self.fault.has(Fault::PastCountsWritten) {
+            tables.generations.iter_mut().skip(counts.triangles as usize).for_each(|generation| *generation = 0);
+        }
+        Ok(Worked { counts, ..Worked::default() })
+    }
+
+    /// Refine: 1, 7, 8, 9, 10, 11.
+    fn refine(&self, tables: &mut Tables, counts: Counts, t: usize) -> Result<Worked, u32> {
+        refuse_unless(self.tables_agree(tables), 1)?;
+        if self.fault.has(Fault::UseBeforeSound) {
+            refuse_unless(t < counts.triangles as usize, 8)?;
+        }
+        let mut mesh = self.sound_mesh(tables, counts)?;
+        refuse_unless(t < mesh.triangles.len(), 8)?;
+        let generation = mesh.triangles[t].generation;
+        refuse_unless(generation != LAST_GENERATION, 9)?;
+        let chain = mesh.base_chain(t);
+        // An even triangle takes one split, an odd one as many as its chain has odd triangles.
+        let splits = chain.odd.len().max(1);
+        let triangles_needed = self.fault.unless(Fault::RoomOffByOne, 2 * splits, 2 * splits + 1);
+        if self.fault.has(Fault::RoomBeforeBoundary) {
+            refuse_unless(has_room(tables, &mesh, splits, triangles_needed), 11)?;
+        }
+        refuse_unless(chain.even_end.is_some(), 10)?;
+        refuse_unless(has_room(tables, &mesh, splits, triangles_needed), 11)?;
+        let mut work = mesh.refine(t);
+        if self.fault.has(Fault::SplitsFromGeneration) && generation % 2 == 1 {
+            work.splits = u32::from(generation).div_ceil(2);
+        }
+        mesh.write(tables);
+        Ok(Worked { refusal: 0, splits: work.splits, flips: work.flips, counts: mesh.counts() })
+    }
+
+    /// Whole step: 1, 7, 12, 9, 13, 11.
+    fn whole_step(&self, tables: &mut Tables, counts: Counts) -> Result<Worked, u32> {
+        refuse_unless(self.tables_agree(tables), 1)?;
+        let mut mesh = self.sound_mesh(tables, counts)?;
+        let generation = mesh.triangles[0].generation;
+        let closed = mesh.triangles.iter().all(|triangle| triangle.links.iter().all(Option::is_some));
+        let uniform = mesh.triangles.iter().all(|triangle| triangle.generation == generation);
+        refuse_unless(closed && uniform && generation % 2 == 0, 12)?;
+        let rings_have_weights = mesh.leaving_sides().iter().all(|leaving| mesh.ring(leaving).len() <= LONGEST_RING);
+        if self.fault.has(Fault::RingLimitBeforeGeneration) {
+            refuse_unless(rings_have_weights, 13)?;
+        }
+        refuse_unless(generation != LAST_GENERATION, 9)?;
+        refuse_unless(rings_have_weights, 13)?;
+        let splits = mesh.triangles.len();
+        refuse_unless(has_room(tables, &mesh, splits, 2 * splits), 11)?;
+        let work = whole_step(&mut mesh);
+        mesh.write(tables);
+        Ok(Worked { refusal: 0, splits: work.splits, flips: work.flips, counts: mesh.counts() })
+    }
+
+    /// Ring: 1, 7, 8, 14. The buffer is written as far as the ring goes.
+    fn ring(&self, tables: &Tables, counts: Counts, vertex: usize, buffer: &mut [u32]) -> Result<RingRead, u32> {
+        refuse_unless(self.tables_agree(tables), 1)?;
+        let mesh = self.sound_mesh(tables, counts)?;
+        refuse_unless(vertex < mesh.points.len(), 8)?;
+        let ring = mesh.ring(&mesh.leaving_sides()[vertex]);
+        let full = self.fault.has(Fault::FullBufferRefused) && buffer.len() == ring.len();
+        refuse_unless(buffer.len() >= ring.len() && !full, 14)?;
+        for (entry, &neighbour) in buffer.iter_mut().zip(&ring) {
+            *entry = neighbour as u32;
+        }
+        Ok(RingRead { refusal: 0, length: ring.len() as u32, counts })
+    }
+
+    /// Position: 1, 7, 8.
+    fn position(&self, tables: &Tables, counts: Counts, vertex: usize) -> Result<PositionRead, u32> {
+        refuse_unless(self.tables_agree(tables), 1)?;
+        let mesh = self.sound_mesh(tables, counts)?;
+        refuse_unless(vertex < mesh.points.len(), 8)?;
+        let [x, y, z] = mesh.points[vertex];
+        Ok(PositionRead { refusal: 0, x, y, z, counts })
+    }
+
+    /// Condition 1.
+    fn tables_agree(&self, tables: &Tables) -> bool {
+        let most_vertex_slots = self.fault.unless(Fault::MaximumExceeded, MOST_VERTEX_SLOTS, MOST_VERTEX_SLOTS + 1);
+        let triangle_slots = tables.generations.len();
+        tables.positions.len().is_multiple_of(3)
+            && tables.positions.len() / 3 <= most_vertex_slots
+            && triangle_slots <= MOST_TRIANGLE_SLOTS
+            && tables.corners.len() == 3 * triangle_slots
+            && tables.links.len() == 3 * triangle_slots
+    }
+
+    /// The mesh in use, or 7 where the tables are not sound. Counts above the slots are not sound.
+    fn sound_mesh(&self, tables: &Tables, counts: Counts) -> Result<Mesh, u32> {
+        let within_slots = counts.vertices as usize <= tables.positions.len() / 3
+            && counts.triangles as usize <= tables.generations.len();
+        refuse_unless(within_slots, self.fault.unless(Fault::CountsOverSlotsUntested, 7, 1))?;
+        let mesh = Mesh::read(tables, counts, self.fault);
+        refuse_unless(is_sound(&mesh), 7)?;
+        Ok(mesh)
+    }
+}
+
+/// Condition 11: a face split takes one vertex slot and two triangle slots.
+fn has_room(tables: &Tables, mesh: &Mesh, vertices_needed: usize, triangles_needed: usize) -> bool {
+    mesh.points.len() + vertices_needed <= tables.positions.len() / 3
+        && mesh.triangles.len() + triangles_needed <= tables.generations.len()
+}
