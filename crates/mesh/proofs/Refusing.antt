@@ -1,5 +1,5 @@
 -- The first refusal of a call, found test by test.
-use borrow.Author.Tests.{not-true, not-false, le-leb, lt-leb}
+use borrow.Author.Tests.{not-true, not-false, le-leb, lt-leb, lt-ltb, le-ltb}
 use mathlib.Core.Bool.{Bool, true, false, not}
 use mathlib.Core.List.{List, [], _∷_}
 use mathlib.Core.Logic.{_≢_}
@@ -11,7 +11,7 @@ use lib.ListN.{length}
 use Rattle.rules.proofs.Decide.{Decides}
 use Rattle.rules.proofs.SoundTest.{tables-agree-is, sound-is}
 use Rattle.rules.specs.Below.{any}
-use Rattle.rules.specs.Calls.{Test, _if_, firstOf, Outcome, unless, outcomeOf, zeroPoint, splitsOf, roomFor, worked, loadRefusal, loadCall, refineRefusal, refineCall, closedEven, wholeStepRefusal, positionRefusal, positionRead, positionCall}
+use Rattle.rules.specs.Calls.{Test, _if_, firstOf, Outcome, unless, outcomeOf, zeroPoint, splitsOf, roomFor, worked, loadRefusal, loadCall, refineRefusal, refineCall, closedEven, wholeStepRefusal, ringRefusal, ringRead, ringCall, positionRefusal, positionRead, positionCall}
 use Rattle.rules.specs.Cage.{cageOf, loaded}
 use Rattle.rules.specs.Ring.{ring}
 use Rattle.rules.specs.Sound.{Sound, isSound}
@@ -117,6 +117,32 @@ standing-sound m r e z = go (tablesAgree m) (isSound m) (sound-is m) (sym e ∙ 
     go true false d q = absurd (omega arith)
     go false b d q = absurd (omega arith)
 
+-- ---- ring
+
+module _ (v : ℕ) (buffer : List ℕ) (m : Mesh) where
+  pub ring-one : tablesAgree m ≡ false → 1 ≡ ringRefusal v buffer m
+  unfolding ringRefusal
+  ring-one a = rw a refl
+
+  module _ (a : tablesAgree m ≡ true) where
+    pub ring-seven : isSound m ≡ false → 7 ≡ ringRefusal v buffer m
+    unfolding ringRefusal
+    ring-seven b = rw (a, b) refl
+
+    module _ (b : isSound m ≡ true) where
+      pub ring-eight : m .topology .vertices ≤ v → 8 ≡ ringRefusal v buffer m
+      unfolding ringRefusal
+      ring-eight l = let d = le-leb _ _ l in rw (a, b, d) refl
+
+      module _ (l : v < m .topology .vertices) where
+        pub ring-fourteen : length buffer < length (ring (m .topology) v) → 14 ≡ ringRefusal v buffer m
+        unfolding ringRefusal
+        ring-fourteen k = let d = lt-leb _ _ l in let e = lt-ltb _ _ k in rw (a, b, d, e) refl
+
+        pub ring-none : length (ring (m .topology) v) ≤ length buffer → 0 ≡ ringRefusal v buffer m
+        unfolding ringRefusal
+        ring-none k = let d = lt-leb _ _ l in let e = le-ltb _ _ k in rw (a, b, d, e) refl
+
 -- ---- position
 
 module _ (v : ℕ) (m : Mesh) where
@@ -179,6 +205,15 @@ module _ (t : ℕ) (m : Mesh) (r : ℕ) (e : r ≡ refineRefusal t m) where
   pub refine-carried : r ≡ 0 → worked (refine t (atFirst m)) ≡ refineCall t m
   unfolding refineCall
   refine-carried = carries m [] (worked (refine t (atFirst m))) (refineRefusal t m) r e
+
+module _ (v : ℕ) (buffer : List ℕ) (m : Mesh) (r : ℕ) (e : r ≡ ringRefusal v buffer m) where
+  pub ring-refused : r ≢ 0 → outcomeOf r 0 0 0 zeroPoint m buffer ≡ ringCall v buffer m
+  unfolding ringCall
+  ring-refused = refuses m buffer (ringRead v buffer m) (ringRefusal v buffer m) r e
+
+  pub ring-carried : r ≡ 0 → ringRead v buffer m ≡ ringCall v buffer m
+  unfolding ringCall
+  ring-carried = carries m buffer (ringRead v buffer m) (ringRefusal v buffer m) r e
 
 module _ (v : ℕ) (m : Mesh) (r : ℕ) (e : r ≡ positionRefusal v m) where
   pub position-refused : r ≢ 0 → outcomeOf r 0 0 0 zeroPoint m [] ≡ positionCall v m
