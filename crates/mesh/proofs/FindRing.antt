@@ -98,6 +98,6 @@ module _ (v room : ℕ) (m : Mesh) where
 pub written : (v : ℕ) (m : Mesh) (a : FoundRing) (before after : List ℕ) → Found v (length before) m a
     → after ≡ (let r = ringFrom (m .topology) (a .first) in fill (length r) (λ i. getD r i 0) before)
     → outcomeOf 0 0 0 (a .length) zeroPoint m after ≡ ringRead v before m
-written v m a before after F w = 
+written v m a before after F w =
     let e = F .same in
     rw (F .entries, w, sym e) refl

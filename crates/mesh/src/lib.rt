@@ -287,7 +287,15 @@ pub fn ring(
         ringOutcome r (now (positions .entry)) (now (corners .entry)) (now (links .entry)) (now (generations .entry)) (now (buffer .exit))
         ≡ ringCall v (now (buffer .entry)) (meshNow counts (now (positions .entry)) (now (corners .entry)) (now (links .entry)) (now (generations .entry))) ⌝ }
 {
-    let found = find_ring(positions, corners, links, generations, counts, v, buffer.len());
+    let found = find_ring(
+        positions,
+        corners,
+        links,
+        generations,
+        counts,
+        v,
+        buffer.len(),
+    );
     if found.refusal != 0 {
         return RingRead {
             refusal: found.refusal,

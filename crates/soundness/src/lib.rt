@@ -113,5 +113,14 @@ pub fn is_sound(
         (topologyOf vertices triangles (now (corners .entry)) (now (links .entry)) (now (generations .entry)))
         (now (positions .entry))) ⌝ }
 {
-    sound_start(positions, corners, links, generations, vertices, triangles, 0) != 0
+    sound_start(
+        positions,
+        corners,
+        links,
+        generations,
+        vertices,
+        triangles,
+        0,
+    )
+        != 0
 }
