@@ -14,9 +14,6 @@ ghost use Rattle.soundness.specs.Walks.{startIf};
 pub mod sides;
 pub mod walks;
 
-// What a side without a partner links to.
-pub const BOUNDARY: u32 = 4294967295;
-
 // Whether the tables agree in their slots and keep to the maxima. The counts do not matter.
 pub fn tables_agree(positions: &[i32], corners: &[u32], links: &[u32], generations: &[u8]) -> bool
     ensures { λ r. ⌜ ((v f : ℕ) → r ≡ tablesAgree (meshOf

@@ -1,21 +1,14 @@
 // The test of fans: a walk round each vertex.
-use super::BOUNDARY;
+use tables::BOUNDARY;
+use tables::sides::previous;
 ghost use mathlib.Core.Path.{_≡_};
 ghost use mathlib.Core.List.{List};
 ghost use Prim.Native.Nat.{ℕ, _+_, _*_, _≤_, _<_};
 ghost use lib.ListN.{length, getD};
 ghost use Rattle.rules.proofs.FanTotal.{walkLength};
-ghost use Rattle.rules.specs.Tables.{previous, topologyOf};
+ghost use Rattle.rules.specs.Tables.{topologyOf};
 ghost use Rattle.soundness.specs.Walks.{CornersInUse, Zeroed, Kept, AllKept, StartsInUse};
 ghost use Rattle.soundness.specs.Walks.{walksMeetAll, TellsStart, TellsFans};
-
-// The side before h in its triangle.
-fn previous(h: usize) -> usize
-    requires { ⌜ h < 4294967295 ⌝ }
-    ensures { λ r. ⌜ r ≡ previous h ⌝ }
-{
-    if h % 3 == 0 { h + 2 } else { h - 1 }
-}
 
 // The start of a vertex that had this start among the sides before h, once side h out of it, of this link, is seen.
 fn picked(start: u32, link: u32, h: u32) -> u32

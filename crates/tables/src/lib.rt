@@ -9,6 +9,8 @@ ghost use Rattle.rules.specs.Tables.{Topology, meshOf, coordinate, putThree, re
 ghost use Rattle.tables.specs.declared.Counts.{Counts};
 ghost use Rattle.tables.specs.Lent.{topologyNow, TrianglesAgree, VerticesAgree, triangleAt, entries, put, putPoint};
 
+pub mod sides;
+
 // The slots in use: they are the first of their tables.
 #[repr(C)]
 pub struct Counts {
