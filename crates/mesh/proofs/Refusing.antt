@@ -161,16 +161,6 @@ module _ (v : ℕ) (m : Mesh) where
     pub position-none : leb (m .topology .vertices) v ≡ false → 0 ≡ positionRefusal v m
     position-none a = sym (position-passed ∙ rw a refl)
 
--- ---- room
-
-module _ (s : ℕ) (m : Mesh) (v : m .topology .vertices + s ≤ vertexSlots m) where
-  pub room-by-triangles : leb (m .topology .triangles + 2 * s) (triangleSlots m) ≡ roomFor s m
-  room-by-triangles = let e : leb (m .topology .vertices + s) (vertexSlots m) ≡ true = le-leb _ _ v in rw e refl
-
-pub no-room : (s : ℕ) (m : Mesh) → vertexSlots m < m .topology .vertices + s
-    → leb (m .topology .vertices + s) (vertexSlots m) ≡ roomFor s m
-no-room s m v = let e : leb (m .topology .vertices + s) (vertexSlots m) ≡ false = lt-leb _ _ v in rw e refl
-
 -- ---- outcomes
 
 -- What a refusal leaves, and what no refusal does.

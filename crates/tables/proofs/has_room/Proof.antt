@@ -1,10 +1,24 @@
--- `mesh::has_room` meets its contract.
+-- `tables::has_room` meets its contract.
 use borrow.Author.Needs.{needs}
+use borrow.Author.Tests.{le-leb, lt-leb}
+use Prim.Native.Nat.{ℕ, _+_, _*_, _≤_, _<_}
 use native.Mathlib.Omega.{arith}
-use Rattle.mesh.proofs.Refusing.{room-by-triangles, no-room}
-use Rattle.mesh.proofs.has_room.Statement.{statement}
-use Rattle.mesh.proofs.has_room.Tie as tie
+use mathlib.Core.Bool.{true, false}
+use mathlib.Core.Path.{_≡_, refl}
+use lib.Dec.{leb}
+use Rattle.rules.specs.Calls.{roomFor}
+use Rattle.rules.specs.Tables.{Mesh, vertexSlots, triangleSlots}
 use Rattle.tables.specs.Lent.{meshNow}
+use Rattle.tables.proofs.has_room.Statement.{statement}
+use Rattle.tables.proofs.has_room.Tie as tie
+
+module _ (s : ℕ) (m : Mesh) (v : m .topology .vertices + s ≤ vertexSlots m) where
+  room-by-triangles : leb (m .topology .triangles + 2 * s) (triangleSlots m) ≡ roomFor s m
+  room-by-triangles = let e : leb (m .topology .vertices + s) (vertexSlots m) ≡ true = le-leb _ _ v in rw e refl
+
+no-room : (s : ℕ) (m : Mesh) → vertexSlots m < m .topology .vertices + s
+    → leb (m .topology .vertices + s) (vertexSlots m) ≡ roomFor s m
+no-room s m v = let e : leb (m .topology .vertices + s) (vertexSlots m) ≡ false = lt-leb _ _ v in rw e refl
 
 cast-vertices : tie.Need-cast-vertices
 cast-vertices c = search needs
