@@ -4,13 +4,14 @@
 # example  the example in C, built with the library and run
 # twin     the library and the program beside the second implementation (needs cargo)
 # soak     the same for SECONDS=N of random rounds, from SEED=N
+# bench    the calls measured, as the table of docs/BENCHMARKS.md (needs cargo, and valgrind to count instructions)
 RT := $(shell command -v rt || echo /opt/rattle/bin/rt)
 SECONDS := 600
 SEED := 1
 CARGO = RAWPLINTH_LIB=$(CURDIR)/target/staticlib cargo
 TWIN = --release --quiet --manifest-path twin/Cargo.toml --target-dir target/twin
 
-.PHONY: test run lib example twin soak
+.PHONY: test run lib example twin soak bench
 test:
 	bash .ci/run
 run:
@@ -29,3 +30,5 @@ twin: lib
 	$(CARGO) run $(TWIN)
 soak: lib
 	$(CARGO) run $(TWIN) -- --seconds $(SECONDS) --seed $(SEED)
+bench: lib
+	@$(CARGO) run --release --quiet --manifest-path bench/Cargo.toml --target-dir target/bench

@@ -1,0 +1,103 @@
+//! The cages (control meshes) that are measured: closed, of any size, in order or shuffled.
+
+use std::collections::HashMap;
+
+use crate::tables::Lent;
+
+#[derive(Clone)]
+pub struct Cage {
+    points: Vec<[i32; 3]>,
+    triangles: Vec<[u32; 3]>,
+}
+
+/// The tetrahedron of the rules.
+pub fn tetrahedron() -> Cage {
+    Cage {
+        points: vec![[0, 0, 0], [9, 0, 0], [0, 9, 0], [0, 0, 9]],
+        triangles: vec![[0, 1, 2], [0, 3, 1], [1, 3, 2], [2, 3, 0]],
+    }
+}
+
+/// The corners and outward faces of an icosahedron. Its coordinates are whole, so that points on two faces agree
+/// exactly.
+fn icosahedron() -> ([[i64; 3]; 12], Vec<[usize; 3]>) {
+    let corners: [[i64; 3]; 12] = std::array::from_fn(|i| {
+        let mut corner = [0, [1000, -1000][i & 1], [1618, -1618][i >> 1 & 1]];
+        corner.rotate_right(i >> 2);
+        corner
+    });
+    let near = |a: usize, b: usize| (0..3).map(|i| (corners[a][i] - corners[b][i]).pow(2)).sum::<i64>() < 5_000_000;
+    let outward = |a: usize, b: usize, c: usize| {
+        let [p, q, r] = [corners[a], corners[b], corners[c]];
+        (0..3).map(|i| p[i] * (q[(i + 1) % 3] * r[(i + 2) % 3] - q[(i + 2) % 3] * r[(i + 1) % 3])).sum::<i64>() > 0
+    };
+    let mut faces = Vec::new();
+    for a in 0..12 {
+        for b in a + 1..12 {
+            for c in b + 1..12 {
+                if near(a, b) && near(b, c) && near(c, a) {
+                    faces.push(if outward(a, b, c) { [a, b, c] } else { [a, c, b] });
+                }
+            }
+        }
+    }
+    (corners, faces)
+}
+
+/// A sphere of 20 × parts² triangles: each face of an icosahedron cut into rows, and its points moved out to the
+/// sphere.
+pub fn sphere(parts: i64) -> Cage {
+    let (corners, faces) = icosahedron();
+    let mut numbers = HashMap::new();
+    let mut cage = Cage { points: Vec::new(), triangles: Vec::new() };
+    for [a, b, c] in faces {
+        let mut vertex = |row: i64, column: i64| {
+            let flat = [0, 1, 2]
+                .map(|i| (parts - row) * corners[a][i] + (row - column) * corners[b][i] + column * corners[c][i]);
+            *numbers.entry(flat).or_insert_with(|| {
+                let radius = flat.iter().map(|&x| (x * x) as f64).sum::<f64>().sqrt();
+                cage.points.push(flat.map(|x| (x as f64 / radius * 1_000_000.0).round() as i32));
+                cage.points.len() as u32 - 1
+            })
+        };
+        for row in 0..parts {
+            for column in 0..=row {
+                cage.triangles.push([vertex(row, column), vertex(row + 1, column), vertex(row + 1, column + 1)]);
+                if column < row {
+                    cage.triangles.push([vertex(row, column), vertex(row + 1, column + 1), vertex(row, column + 1)]);
+                }
+            }
+        }
+    }
+    cage
+}
+
+impl Cage {
+    pub fn triangles(&self) -> usize {
+        self.triangles.len()
+    }
+
+    /// The same figure with its triangles, not its vertices, in another order: a shuffle by splitmix64 of a fixed
+    /// seed.
+    pub fn shuffled(mut self) -> Cage {
+        let mut state = 6u64;
+        for i in (1..self.triangles.len()).rev() {
+            state = state.wrapping_add(0x9E37_79B9_7F4A_7C15);
+            let mut z = state;
+            z = (z ^ (z >> 30)).wrapping_mul(0xBF58_476D_1CE4_E5B9);
+            z = (z ^ (z >> 27)).wrapping_mul(0x94D0_49BB_1331_11EB);
+            self.triangles.swap(i, ((z ^ (z >> 31)) % (i as u64 + 1)) as usize);
+        }
+        self
+    }
+
+    /// A fresh store with room for a whole step or for the deepest refine, and the cage's bytes.
+    pub fn lent(&self) -> Lent {
+        let sizes = [self.points.len() as u32, self.triangles.len() as u32];
+        let coordinates = self.points.iter().flatten().map(|&coordinate| coordinate as u32);
+        let corners = self.triangles.iter().flatten().copied();
+        let bytes = sizes.into_iter().chain(coordinates).chain(corners).flat_map(u32::to_le_bytes).collect();
+        let (v, f) = (self.points.len(), self.triangles.len());
+        Lent::fresh(v + f.max(100), f + 2 * f.max(100), bytes)
+    }
+}

@@ -1,0 +1,92 @@
+//! What is measured: each call on each cage.
+
+use crate::cages::{self, Cage};
+use crate::fast;
+use crate::tables::{Answer, Call, Lent};
+
+/// The refine that makes the most splits.
+pub const LONGEST: &str = "refine, chain of 10";
+
+pub struct Case {
+    pub name: &'static str,
+    pub triangles: usize,
+    pub shuffled: bool,
+    pub lent: Lent,
+    pub call: Call,
+}
+
+impl Case {
+    /// A refine of a triangle not in use, which is refused once the tables are found sound.
+    pub fn soundness(&self) -> Call {
+        Call::Refine(self.lent.counts.triangles)
+    }
+}
+
+/// All cases. The whole step needs three slots for each triangle, so it has a smaller cage than the other calls.
+pub fn all() -> Vec<Case> {
+    let spheres = [10, 57].map(cages::sphere);
+    let step_spheres = [10, 33].map(cages::sphere);
+    let mut list = Vec::new();
+    for name in ["load", "soundness", "refine even", "refine odd", LONGEST, "whole step", "ring", "position"] {
+        let spheres = if name == "whole step" { &step_spheres } else { &spheres };
+        for cage in [cages::tetrahedron()].iter().chain(spheres) {
+            list.push(case(name, cage, false));
+            list.push(case(name, &cage.clone().shuffled(), true));
+        }
+    }
+    list
+}
+
+/// The middle triangle or vertex is taken, so that neither end of the tables is favoured.
+fn case(name: &'static str, cage: &Cage, shuffled: bool) -> Case {
+    let mut lent = cage.lent();
+    set_up(&mut lent, Call::Load);
+    if name == "load" {
+        // A load has to write these anew, while the counts tell the scan what is read.
+        lent.tables.positions.fill(-1);
+        lent.tables.corners.fill(1);
+        lent.tables.links.fill(1);
+        lent.tables.generations.fill(1);
+    }
+    let mut triangle = lent.counts.triangles / 2;
+    let vertex = lent.counts.vertices / 2;
+    if name == "refine odd" || name == LONGEST {
+        set_up(&mut lent, Call::Refine(triangle));
+    }
+    if name == LONGEST {
+        triangle = end_of_long_chain(&mut lent, triangle);
+    }
+    let call = match name {
+        "load" => Call::Load,
+        "soundness" => Call::Refine(lent.counts.triangles),
+        "whole step" => Call::WholeStep,
+        "ring" => Call::Ring(vertex),
+        "position" => Call::Position(vertex),
+        _ => Call::Refine(triangle),
+    };
+    Case { name, triangles: cage.triangles(), shuffled, lent, call }
+}
+
+/// From an odd triangle of generation 1, one of generation 19 whose base chain has ten odd triangles, the most there
+/// can be. The sibling across a side is refined, which makes it even, and refined again, which lays a base on that
+/// side: the child with this base has a chain that goes on with the triangle's own. Sides 1 and 2 in turn keep that
+/// chain as it is.
+fn end_of_long_chain(lent: &mut Lent, mut triangle: u32) -> u32 {
+    for side in [1, 2].into_iter().cycle().take(9) {
+        let across = |lent: &Lent| lent.tables.links[3 * triangle as usize + side] / 3;
+        for _ in 0..2 {
+            let sibling = across(lent);
+            set_up(lent, Call::Refine(sibling));
+        }
+        triangle = across(lent);
+    }
+    triangle
+}
+
+/// A call before the measured one.
+fn set_up(lent: &mut Lent, call: Call) {
+    match fast::answer(lent, call) {
+        Answer::Worked(worked) if worked.refusal == 0 => lent.counts = worked.counts,
+        other => panic!("set-up by {call:?} was refused: {other:?}"),
+    }
+}

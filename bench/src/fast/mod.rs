@@ -1,0 +1,125 @@
+//! The five calls written for speed, without proofs: what the library is measured beside. The calls themselves have C
+//! names, so that callgrind can be told to count them alone.
+
+mod load;
+mod sound;
+mod split;
+mod step;
+
+use crate::tables::{
+    Answer, BOUNDARY, Call, Counts, Lent, MOST_TRIANGLE_SLOTS, MOST_VERTEX_SLOTS, PositionRead, RingRead, Tables,
+    Worked,
+};
+
+const LAST_GENERATION: u8 = 20;
+
+pub fn answer(lent: &mut Lent, call: Call) -> Answer {
+    let Lent { tables, counts, cage, buffer } = lent;
+    match call {
+        Call::Load => Answer::Worked(fast_load(tables, *counts, cage)),
+        Call::Refine(triangle) => Answer::Worked(fast_refine(tables, *counts, triangle)),
+        Call::WholeStep => Answer::Worked(fast_whole_step(tables, *counts)),
+        Call::Ring(vertex) => Answer::Ring(fast_ring(tables, *counts, vertex, buffer)),
+        Call::Position(vertex) => Answer::Position(fast_position(tables, *counts, vertex)),
+    }
+}
+
+#[unsafe(no_mangle)]
+#[inline(never)]
+fn fast_load(tables: &mut Tables, counts: Counts, cage: &[u8]) -> Worked {
+    let loaded = if tables_agree(tables) { load::load(tables, cage) } else { Err(1) };
+    match loaded {
+        Ok(counts) => Worked { counts, ..Worked::default() },
+        Err(refusal) => Worked { refusal, counts, ..Worked::default() },
+    }
+}
+
+#[unsafe(no_mangle)]
+#[inline(never)]
+fn fast_refine(tables: &mut Tables, counts: Counts, triangle: u32) -> Worked {
+    match starts(tables, counts).and_then(|_| split::refine(tables, counts, triangle)) {
+        Ok(worked) => worked,
+        Err(refusal) => Worked { refusal, counts, ..Worked::default() },
+    }
+}
+
+#[unsafe(no_mangle)]
+#[inline(never)]
+fn fast_whole_step(tables: &mut Tables, counts: Counts) -> Worked {
+    match starts(tables, counts).and_then(|_| step::whole_step(tables, counts)) {
+        Ok(worked) => worked,
+        Err(refusal) => Worked { refusal, counts, ..Worked::default() },
+    }
+}
+
+#[unsafe(no_mangle)]
+#[inline(never)]
+fn fast_ring(tables: &Tables, counts: Counts, vertex: u32, buffer: &mut [u32]) -> RingRead {
+    match starts(tables, counts).and_then(|starts| ring(tables, &starts, vertex, buffer)) {
+        Ok(length) => RingRead { refusal: 0, length, counts },
+        Err(refusal) => RingRead { refusal, length: 0, counts },
+    }
+}
+
+#[unsafe(no_mangle)]
+#[inline(never)]
+fn fast_position(tables: &Tables, counts: Counts, vertex: u32) -> PositionRead {
+    match starts(tables, counts) {
+        Ok(_) if vertex < counts.vertices => {
+            PositionRead { refusal: 0, point: triple(&tables.positions, vertex as usize), counts }
+        }
+        refused => PositionRead { refusal: refused.err().unwrap_or(8), point: [0; 3], counts },
+    }
+}
+
+/// Condition 1.
+fn tables_agree(tables: &Tables) -> bool {
+    let (vertex_slots, triangle_slots) = (tables.positions.len() / 3, tables.generations.len());
+    vertex_slots <= MOST_VERTEX_SLOTS
+        && triangle_slots <= MOST_TRIANGLE_SLOTS
+        && tables.positions.len() == 3 * vertex_slots
+        && tables.corners.len() == 3 * triangle_slots
+        && tables.links.len() == 3 * triangle_slots
+}
+
+/// The side where the ring of each vertex starts, or the refusal 1 or 7.
+fn starts(tables: &Tables, counts: Counts) -> Result<Vec<u32>, u32> {
+    if !tables_agree(tables) {
+        return Err(1);
+    }
+    sound::starts_if_sound(tables, counts).ok_or(7)
+}
+
+/// Writes the ring of a vertex, after a walk that finds its length.
+fn ring(tables: &Tables, starts: &[u32], vertex: u32, buffer: &mut [u32]) -> Result<u32, u32> {
+    let start = *starts.get(vertex as usize).ok_or(8u32)?;
+    let sides = || {
+        std::iter::successors(Some(start), |&side| Some(tables.links[previous(side as usize)]))
+            .enumerate()
+            .take_while(|&(n, side)| side != BOUNDARY && (n == 0 || side != start))
+            .map(|(_, side)| side as usize)
+    };
+    let last = previous(sides().last().expect("a ring has a side"));
+    let open = tables.links[last] == BOUNDARY;
+    let length = sides().count() + usize::from(open);
+    let buffer = buffer.get_mut(..length).ok_or(14u32)?;
+    for (entry, side) in buffer.iter_mut().zip(sides()) {
+        *entry = tables.corners[next(side)];
+    }
+    if open {
+        buffer[length - 1] = tables.corners[last];
+    }
+    Ok(length as u32)
+}
+
+fn next(side: usize) -> usize {
+    if side % 3 == 2 { side - 2 } else { side + 1 }
+}
+
+fn previous(side: usize) -> usize {
+    if side.is_multiple_of(3) { side + 2 } else { side - 1 }
+}
+
+fn triple<T: Copy>(table: &[T], slot: usize) -> [T; 3] {
+    [table[3 * slot], table[3 * slot + 1], table[3 * slot + 2]]
+}

@@ -1,0 +1,99 @@
+//! Refine: the base chain, the face split and the flip, in place.
+
+use super::{LAST_GENERATION, triple};
+use crate::tables::{BOUNDARY, Counts, Tables, Worked};
+
+/// Refines a triangle of sound tables, or refuses with 8 to 11.
+pub fn refine(tables: &mut Tables, counts: Counts, t: u32) -> Result<Worked, u32> {
+    if counts.triangles <= t {
+        return Err(8);
+    }
+    if tables.generations[t as usize] == LAST_GENERATION {
+        return Err(9);
+    }
+    let (odd, end) = base_chain(tables, t as usize);
+    let splits = odd.max(1);
+    if tables.generations[end] % 2 == 1 {
+        return Err(10);
+    }
+    let room = (tables.positions.len() / 3, tables.generations.len());
+    if room.0 < counts.vertices as usize + splits || room.1 < counts.triangles as usize + 2 * splits {
+        return Err(11);
+    }
+    let mut worked = Worked { counts, ..Worked::default() };
+    face_split(tables, &mut worked, end);
+    for _ in 1..splits {
+        let (_, end) = base_chain(tables, t as usize);
+        face_split(tables, &mut worked, end);
+    }
+    Ok(worked)
+}
+
+/// The odd triangles of the base chain, and its last triangle, which is odd where the chain ends at the boundary.
+fn base_chain(tables: &Tables, t: usize) -> (usize, usize) {
+    let (mut odd, mut end) = (0, t);
+    while tables.generations[end] % 2 == 1 {
+        odd += 1;
+        match tables.links[3 * end] {
+            BOUNDARY => break,
+            across => end = across as usize / 3,
+        }
+    }
+    (odd, end)
+}
+
+/// The nearest third of a sum of three coordinates.
+pub fn third(sum: i32) -> i32 {
+    (sum + 1).div_euclid(3)
+}
+
+/// The face split of t, with its flips.
+fn face_split(tables: &mut Tables, worked: &mut Worked, t: usize) {
+    let (p, f) = (worked.counts.vertices, worked.counts.triangles as usize);
+    let (corners, links) = (triple(&tables.corners, t), triple(&tables.links, t));
+    let [x, y, z] = corners.map(|corner| triple(&tables.positions, corner as usize));
+    let centre = [0, 1, 2].map(|axis| third(x[axis] + y[axis] + z[axis]));
+    tables.positions[3 * p as usize..3 * p as usize + 3].copy_from_slice(&centre);
+    let slots = [t, f, f + 1];
+    let generation = tables.generations[t] + 1;
+    for i in 0..3 {
+        let (slot, after, before) = (slots[i], slots[(i + 1) % 3], slots[(i + 2) % 3]);
+        tables.corners[3 * slot..3 * slot + 3].copy_from_slice(&[corners[i], corners[(i + 1) % 3], p]);
+        let across = [links[i], 3 * after as u32 + 2, 3 * before as u32 + 1];
+        tables.links[3 * slot..3 * slot + 3].copy_from_slice(&across);
+        relink(tables, links[i], 3 * slot);
+        tables.generations[slot] = generation;
+    }
+    worked.counts = Counts { vertices: p + 1, triangles: f as u32 + 2 };
+    worked.splits += 1;
+    for s in slots {
+        let across = tables.links[3 * s] as usize;
+        if across.is_multiple_of(3) && tables.generations.get(across / 3).is_some_and(|g| g % 2 == 1) {
+            flip(tables, s, across / 3);
+            worked.flips += 1;
+        }
+    }
+}
+
+/// The flip of (A,B,P) in s and (B,A,Q) in u to (A,Q,P) and (B,P,Q).
+fn flip(tables: &mut Tables, s: usize, u: usize) {
+    let ([a, b, p], q) = (triple(&tables.corners, s), tables.corners[3 * u + 2]);
+    let (across_s, across_u) = (tables.links[3 * s + 1], tables.links[3 * u + 1]);
+    tables.corners[3 * s..3 * s + 3].copy_from_slice(&[a, q, p]);
+    tables.corners[3 * u..3 * u + 3].copy_from_slice(&[b, p, q]);
+    tables.links[3 * s] = across_u;
+    tables.links[3 * u] = across_s;
+    relink(tables, across_u, 3 * s);
+    relink(tables, across_s, 3 * u);
+    tables.links[3 * s + 1] = 3 * u as u32 + 1;
+    tables.links[3 * u + 1] = 3 * s as u32 + 1;
+    tables.generations[s] += 1;
+    tables.generations[u] += 1;
+}
+
+/// Tells the side across, if there is one, where its partner is.
+fn relink(tables: &mut Tables, across: u32, side: usize) {
+    if let Some(link) = tables.links.get_mut(across as usize) {
+        *link = side as u32;
+    }
+}

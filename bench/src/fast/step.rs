@@ -1,0 +1,86 @@
+//! The whole step in closed form. On a closed mesh of one even generation every edge is flipped, so that each old
+//! side x gives one new triangle, in a slot that x alone decides: (origin of x, centre across x, centre of x's own
+//! triangle).
+
+use super::LAST_GENERATION;
+use super::split::third;
+use crate::tables::{BOUNDARY, Counts, Tables, Worked};
+
+/// The weights for rings of 0 to 12 entries, out of 65536.
+const WEIGHTS: [i64; 13] = [0, 0, 43691, 36409, 29127, 24627, 21845, 20047, 18829, 17971, 17345, 16875, 16515];
+
+/// The whole step on sound tables, or the refusal 12, 9, 13 or 11.
+pub fn whole_step(tables: &mut Tables, counts: Counts) -> Result<Worked, u32> {
+    let (vertices, triangles) = (counts.vertices as usize, counts.triangles as usize);
+    let generation = tables.generations[0];
+    let open = tables.links[..3 * triangles].iter().fold(false, |open, &link| open | (link == BOUNDARY));
+    let mixed = tables.generations[..triangles].iter().fold(false, |mixed, &other| mixed | (other != generation));
+    if open || mixed || generation % 2 == 1 {
+        return Err(12);
+    }
+    if generation == LAST_GENERATION {
+        return Err(9);
+    }
+    let moved = moved_vertices(tables, vertices, triangles).ok_or(13u32)?;
+    if tables.positions.len() / 3 < vertices + triangles || tables.generations.len() < 3 * triangles {
+        return Err(11);
+    }
+    let (points, _) = tables.positions.as_chunks_mut::<3>();
+    let (old, new) = points.split_at_mut(vertices);
+    for (corners, new) in tables.corners.as_chunks::<3>().0.iter().zip(&mut new[..triangles]) {
+        let [a, b, c] = corners.map(|corner| old[corner as usize]);
+        *new = [0, 1, 2].map(|axis| third(a[axis] + b[axis] + c[axis]));
+    }
+    old.copy_from_slice(&moved);
+    split_all(tables, vertices, triangles);
+    tables.generations[..3 * triangles].fill(generation + 2);
+    let (splits, flips) = (counts.triangles, counts.triangles / 2 * 3);
+    let counts = Counts { vertices: counts.vertices + splits, triangles: 3 * splits };
+    Ok(Worked { refusal: 0, splits, flips, counts })
+}
+
+/// Where the vertices move, if no ring has more than 12 entries. On a closed mesh the ring of a vertex has the
+/// targets of the sides out of it.
+fn moved_vertices(tables: &Tables, vertices: usize, triangles: usize) -> Option<Vec<[i32; 3]>> {
+    let (points, _) = tables.positions[..3 * vertices].as_chunks::<3>();
+    let mut rings = vec![[0i32; 4]; vertices];
+    for &[a, b, c] in tables.corners[..3 * triangles].as_chunks::<3>().0 {
+        for (from, to) in [(a, b), (b, c), (c, a)] {
+            let ([x, y, z], ring) = (points[to as usize], &mut rings[from as usize]);
+            // The sum of twelve coordinates fits; of a longer ring only the length matters.
+            *ring = [ring[0].wrapping_add(x), ring[1].wrapping_add(y), ring[2].wrapping_add(z), ring[3] + 1];
+        }
+    }
+    let moved = |(&point, &[x, y, z, entries]): (&[i32; 3], &[i32; 4])| {
+        let w = *WEIGHTS.get(entries as usize)?;
+        let n = i64::from(entries);
+        let nearest = |p: i32, sum: i32| {
+            let numerator = n * (65536 - w) * i64::from(p) + w * i64::from(sum);
+            // Halves go up; the two divisions, both down, are as good as one by 65536 × n.
+            (((numerator + 32768 * n) >> 16) as i32).div_euclid(entries)
+        };
+        Some([nearest(point[0], x), nearest(point[1], y), nearest(point[2], z)])
+    };
+    points.iter().zip(&rings).map(moved).collect()
+}
+
+/// The new triangles with their links. The sides from a centre to an old vertex are linked from there, so that each
+/// triangle writes what its own sides and those across from them become.
+fn split_all(tables: &mut Tables, vertices: usize, triangles: usize) {
+    let old_links = tables.links[..3 * triangles].to_vec();
+    let (corners, _) = tables.corners[..9 * triangles].as_chunks_mut::<3>();
+    let (links, _) = tables.links[..9 * triangles].as_chunks_mut::<3>();
+    let (v, f) = (vertices as u32, triangles as u32);
+    let slot = |t: u32, i: u32| if i == 0 { t } else { f + 2 * t + i - 1 };
+    for (t, across) in (0..f).zip(old_links.as_chunks::<3>().0) {
+        let old_corners = corners[t as usize];
+        let slots_across = across.map(|side| slot(side / 3, side % 3));
+        for i in 0..3 {
+            let (own, before) = (slot(t, i as u32), slots_across[(i + 2) % 3]);
+            corners[own as usize] = [old_corners[i], v + across[i] / 3, v + t];
+            links[own as usize][1] = 3 * slots_across[i] + 1;
+            links[own as usize][2] = 3 * before;
+            links[before as usize][0] = 3 * own + 2;
+        }
+    }
+}

@@ -1,0 +1,33 @@
+//! Measures the library's calls: instructions by callgrind and wall times, as a markdown table.
+
+mod cages;
+mod cases;
+mod fast;
+mod library;
+mod measure;
+mod report;
+mod tables;
+
+use std::thread;
+
+/// A call of the library needs at most 4 MB of stack.
+const STACK: usize = 16 << 20;
+
+fn main() {
+    let counted = std::env::args().any(|argument| argument == "--counted");
+    let work = move || if counted { measure::run_counted(&cases::all()) } else { run() };
+    let thread = thread::Builder::new().stack_size(STACK).spawn(work).expect("a thread can be started");
+    thread.join().expect("a panic ends the program");
+}
+
+fn run() {
+    let cases = cases::all();
+    cases.iter().for_each(measure::compare);
+    eprintln!("{} cases: the library and the fast implementation agree", cases.len());
+    let counts = measure::count_instructions(&cases);
+    if counts.is_none() {
+        eprintln!("valgrind is missing: no instructions are counted");
+    }
+    let times = measure::time(&cases);
+    report::print(&cases, counts.as_deref(), &times);
+}

@@ -1,0 +1,105 @@
+//! What a call is lent and what it answers, laid out as the C interface has it.
+
+/// The link of a boundary side.
+pub const BOUNDARY: u32 = u32::MAX;
+/// The most slots of vertices and of triangles.
+pub const MOST_VERTEX_SLOTS: usize = 32_768;
+pub const MOST_TRIANGLE_SLOTS: usize = 65_536;
+
+/// The vertices and triangles in use.
+#[repr(C)]
+#[derive(Clone, Copy, Debug, Default, PartialEq)]
+pub struct Counts {
+    pub vertices: u32,
+    pub triangles: u32,
+}
+
+/// The answer of load, refine and whole step.
+#[repr(C)]
+#[derive(Clone, Copy, Debug, Default, PartialEq)]
+pub struct Worked {
+    pub refusal: u32,
+    pub splits: u32,
+    pub flips: u32,
+    pub counts: Counts,
+}
+
+/// The answer of a ring query, without the buffer.
+#[repr(C)]
+#[derive(Clone, Copy, Debug, Default, PartialEq)]
+pub struct RingRead {
+    pub refusal: u32,
+    pub length: u32,
+    pub counts: Counts,
+}
+
+/// The answer of a position query.
+#[repr(C)]
+#[derive(Clone, Copy, Debug, Default, PartialEq)]
+pub struct PositionRead {
+    pub refusal: u32,
+    pub point: [i32; 3],
+    pub counts: Counts,
+}
+
+/// The lent tables: three positions to a vertex slot; three corners, three links and a generation to a triangle slot.
+#[derive(Clone, Debug, PartialEq)]
+pub struct Tables {
+    pub positions: Vec<i32>,
+    pub corners: Vec<u32>,
+    pub links: Vec<u32>,
+    pub generations: Vec<u8>,
+}
+
+/// All that a call may be lent.
+#[derive(Clone, Debug, PartialEq)]
+pub struct Lent {
+    pub tables: Tables,
+    pub counts: Counts,
+    pub cage: Vec<u8>,
+    pub buffer: Vec<u32>,
+}
+
+/// A call with the number it is given.
+#[derive(Clone, Copy, Debug)]
+pub enum Call {
+    Load,
+    Refine(u32),
+    WholeStep,
+    Ring(u32),
+    Position(u32),
+}
+
+#[derive(Clone, Copy, Debug, PartialEq)]
+pub enum Answer {
+    Worked(Worked),
+    Ring(RingRead),
+    Position(PositionRead),
+}
+
+impl Lent {
+    /// A fresh store with slots for this many vertices and triangles, as far as the maxima go, and a cage to load.
+    pub fn fresh(vertex_slots: usize, triangle_slots: usize, cage: Vec<u8>) -> Lent {
+        let vertex_slots = vertex_slots.min(MOST_VERTEX_SLOTS);
+        let triangle_slots = triangle_slots.min(MOST_TRIANGLE_SLOTS);
+        let tables = Tables {
+            positions: vec![0; 3 * vertex_slots],
+            corners: vec![0; 3 * triangle_slots],
+            links: vec![0; 3 * triangle_slots],
+            generations: vec![0; triangle_slots],
+        };
+        Lent { tables, counts: Counts::default(), cage, buffer: vec![0; 16] }
+    }
+}
+
+/// The floor: reads every entry in use once and does nothing else with it.
+#[unsafe(no_mangle)]
+#[inline(never)]
+pub extern "C" fn scan_tables(lent: &Lent) -> u32 {
+    let (vertices, triangles) = (lent.counts.vertices as usize, lent.counts.triangles as usize);
+    let Tables { positions, corners, links, generations } = &lent.tables;
+    let positions = positions[..3 * vertices].iter().fold(0u32, |sum, &entry| sum.wrapping_add(entry as u32));
+    let topology = corners[..3 * triangles].iter().chain(&links[..3 * triangles]);
+    let topology = topology.fold(positions, |sum, &entry| sum.wrapping_add(entry));
+    generations[..triangles].iter().fold(topology, |sum, &entry| sum.wrapping_add(u32::from(entry)))
+}
