@@ -7,10 +7,10 @@ use native.Mathlib.Omega.{arith}
 use native.Mathlib.Decide.{ℕ-discrete}
 use lib.ListN.{getD, List·getD-eq-default}
 use lib.Dec.{T, eqb, eqb→eq}
+use borrow.Author.Tests.{ne-eqb}
 use Rattle.rules.proofs.FlipKeeps.{BasesMeet, flip-manifold}
 use Rattle.rules.proofs.FlipRead.{Flips, flip-flips}
 use Rattle.rules.proofs.Manifold.{Partnered, Manifold, level, Joined, Base}
-use Rattle.rules.proofs.Sides.{eqb-no}
 use Rattle.rules.proofs.SplitKeeps.{level₀, no-self}
 use Rattle.rules.specs.Split.{Work, flip, withFlip, settle}
 use Rattle.rules.specs.Tables.{Topology, withTopology, sides, origin, boundary, link, generation, odd, isBase}
@@ -35,7 +35,7 @@ base-yes m h e = go (ℕ-discrete (h % 3) 0)
   where
     go : Dec (h % 3 ≡ 0) → Base m h
     go (yes x) = (x, odd-yes (generation m (h / 3)) (sym (ap (λ (y : ℕ). eqb y 0 && odd (generation m (h / 3))) x) ∙ e))
-    go (no x) = absurd (subst T (sym e ∙ ap (λ (y : Bool). y && odd (generation m (h / 3))) (eqb-no (h % 3) 0 x)) tt)
+    go (no x) = absurd (subst T (sym e ∙ ap (λ (y : Bool). y && odd (generation m (h / 3))) (ne-eqb (h % 3) 0 x)) tt)
 
 base-no : (m : Topology) (h : ℕ) → isBase m h ≡ false → ¬ Base m h
 base-no m h e b =

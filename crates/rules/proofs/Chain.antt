@@ -6,6 +6,7 @@ use Prim.Native.Nat.{ℕ, zero, suc, _+_, _*_, _/_, _%_, _≤_, _<_, min}
 use native.Mathlib.Omega.{arith}
 use native.Mathlib.Decide.{ℕ-discrete}
 use lib.Dec.{eqb}
+use borrow.Author.Tests.{ne-eqb}
 use Rattle.rules.proofs.Bases.{partner-of, reached}
 use Rattle.rules.proofs.Cut.{CutResult}
 use Rattle.rules.proofs.FaceSplit.{Room, Splitting, face-splitting}
@@ -13,7 +14,6 @@ use Rattle.rules.proofs.Manifold.{Partnered, Manifold, level, BasesMeet
 use Rattle.rules.proofs.Runs.{Splittable, isEven, cut}
 use Rattle.rules.proofs.Settled.{nowhere}
 use Rattle.rules.proofs.Settling.{Follow}
-use Rattle.rules.proofs.Sides.{eqb-no}
 use Rattle.rules.proofs.SplitKeeps.{level₀}
 use Rattle.rules.specs.Conditions.{OddInChain, atEven, onward}
 use Rattle.rules.specs.Split.{Work, chainEndWithin, chainOddWithin}
@@ -71,7 +71,7 @@ end-here n m t (isEven e) = end-face n m t e
 end-on : (n : ℕ) (m : Topology) (t v : ℕ) → generation m t % 2 ≡ 1 → link m (3 * t) ≢ boundary
     → chainEndWithin n m (link m (3 * t) / 3) ≡ v → chainEndWithin (suc n) m t ≡ v
 unfolding chainEndWithin
-end-on n m t v o r q = rw (odd-is (generation m t) o, eqb-no (link m (3 * t)) boundary r, chainEndWithin) q
+end-on n m t v o r q = rw (odd-is (generation m t) o, ne-eqb (link m (3 * t)) boundary r, chainEndWithin) q
 
 low : {A : Type 0} (g : ℕ) → g ≤ 0 → g % 2 ≡ 1 → A
 low g i o = absurd (omega arith)
@@ -170,8 +170,8 @@ way (suc n) m F K t l i z =
     go (yes o) (no e) w z =
         let f = falls m F K t l o e in
         let q : generation m (chainEndWithin n m (link m (3 * t) / 3)) % 2 ≡ 0 =
-        rw (odd-is (generation m t) o, eqb-no (link m (3 * t)) boundary e, chainEndWithin) at z in
-        rw (odd-is (generation m t) o, eqb-no (link m (3 * t)) boundary e, chainOddWithin, chainEndWithin) (across {t = t} o e (w (f .0) (omega (arith, f .1)) q))
+        rw (odd-is (generation m t) o, ne-eqb (link m (3 * t)) boundary e, chainEndWithin) at z in
+        rw (odd-is (generation m t) o, ne-eqb (link m (3 * t)) boundary e, chainOddWithin, chainEndWithin) (across {t = t} o e (w (f .0) (omega (arith, f .1)) q))
 
 -- ---- one step, seen from the chain
 

@@ -5,11 +5,11 @@ use Prim.Native.Nat.{ℕ, zero, suc, _*_, _/_, _%_, _≤_, _<_}
 use native.Mathlib.Omega.{arith}
 use native.Mathlib.Decide.{ℕ-discrete}
 use lib.Dec.{eqb}
+use borrow.Author.Tests.{ne-eqb}
 use Rattle.rules.proofs.Chain.{falls, odd-is, odd-not}
 use Rattle.rules.proofs.Decide.{Decides}
 use Rattle.rules.proofs.Manifold.{Manifold, BasesMeetIn}
 use Rattle.rules.proofs.Settled.{nowhere}
-use Rattle.rules.proofs.Sides.{eqb-no}
 use Rattle.rules.specs.Conditions.{EndsAtBoundary, stops, goesOn}
 use Rattle.rules.specs.Split.{chainEndWithin, chainEnd}
 use Rattle.rules.specs.Tables.{Topology, boundary, link, generation, odd}
@@ -59,7 +59,7 @@ module _ (m : Topology) (F : Manifold m) (K : BasesMeetIn nowhere m) where
       go (furtherOn o e) ih =
           let f = falls m F K t l o e in
           let d = ih (f .0) (omega (arith, f .1)) in
-          rw (odd-is (generation m t) o, eqb-no (link m (3 * t)) boundary e, chainEndWithin)
+          rw (odd-is (generation m t) o, ne-eqb (link m (3 * t)) boundary e, chainEndWithin)
           (record { holds = λ x. goesOn o e (d .holds x); passes = λ x. d .passes (next-ends e x) })
 
   pub ends-at-boundary-is : (t : ℕ) → t < m .triangles

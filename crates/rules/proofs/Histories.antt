@@ -7,21 +7,25 @@ use Prim.Native.Nat.{ℕ, _+_, _*_, _/_, _%_, _≤_, _<_}
 use native.Mathlib.Omega.{arith}
 use lib.Dec.{T, eqb}
 use lib.IntN.{pos, _+ℤ_, _-ℤ_}
+use borrow.Author.Tests.{ne-eqb}
 use Rattle.rules.proofs.Bases.{reached}
 use Rattle.rules.proofs.CageEdges.{load-characteristic}
-use Rattle.rules.proofs.CallRefusals.{load-judged, refine-judged, whole-step-judged, ring-judged, position-judged}
-use Rattle.rules.proofs.Carried.{LoadFound, RefineFound, load-found, refine-found, found-refined, step-found, found-step}
+use Rattle.rules.proofs.CallRefusals.{load-judged, refine-judged, whole-step-judged, ring-judged}
+use Rattle.rules.proofs.CallRefusals.{position-judged}
+use Rattle.rules.proofs.Carried.{LoadFound, RefineFound, load-found, refine-found, found-refined, step-found}
+use Rattle.rules.proofs.Carried.{found-step}
 use Rattle.rules.proofs.Differences.{nat, add, sub, equal}
 use Rattle.rules.proofs.FirstThatHolds.{Judged, carried, refused, judged-carried}
 use Rattle.rules.proofs.FiveKinds.{kind-level}
 use Rattle.rules.proofs.Load.{load-sound}
 use Rattle.rules.proofs.Refine.{Refined, chain-counts, chain-bound}
-use Rattle.rules.proofs.Sides.{eqb-no}
 use Rattle.rules.specs.Below.{all}
 use Rattle.rules.specs.Cage.{cageOf, loaded}
 use Rattle.rules.specs.Calls.{Outcome, worked, loadRefusal, refineCall}
 use Rattle.rules.specs.Conditions.{OddInChain, atEven, atBoundary, onward}
-use Rattle.rules.specs.History.{Near, ReportsSplits, Kept, Call, loads, refines, steps, asksRing, asksPosition, LastLoad, nothing, cage, outcome, after, opens, lastLoad, edges, characteristic, cageCharacteristic, EveryHistory}
+use Rattle.rules.specs.History.{Near, ReportsSplits, Kept, Call, loads, refines, steps, asksRing, asksPosition}
+use Rattle.rules.specs.History.{LastLoad, nothing, cage, outcome, after, opens, lastLoad, edges, characteristic}
+use Rattle.rules.specs.History.{cageCharacteristic, EveryHistory}
 use Rattle.rules.specs.Promises.{StepMakes}
 use Rattle.rules.specs.Sound.{Linked, Sound, roleOf, fiveKinds}
 use Rattle.rules.specs.Split.{Work, atFirst, chainOdd, refine}
@@ -95,7 +99,7 @@ load-holds : (bytes : List ℕ) (m : Mesh) (a : LastLoad) {o : Outcome}
     → Judged (loadRefusal bytes m) m [] (worked (atFirst (loaded (cageOf bytes) m))) o
     → Holds a m → Holds (elim (eqb (o .refusal) 0) [ true ↦ cage bytes | false ↦ a ]) (o .mesh)
 load-holds bytes m a (carried z) h = loaded-good bytes m (load-found bytes m z)
-load-holds bytes m a (refused z) h = rw (eqb-no (loadRefusal bytes m) 0 z) h
+load-holds bytes m a (refused z) h = rw (ne-eqb (loadRefusal bytes m) 0 z) h
 
 -- ---- the calls
 

@@ -3,8 +3,10 @@ use mathlib.Core.Path.{_≡_, refl, sym, ap, _∙_, subst, subst₂}
 use mathlib.Core.Logic.{_≢_}
 use Prim.Native.Nat.{ℕ, zero, suc, _+_, _*_, _/_, _%_, _≤_, _<_, max}
 use native.Mathlib.Omega.{arith}
+use borrow.Author.Tests.{eq-eqb, ne-eqb}
 use Rattle.rules.proofs.Bases.{reached}
-use Rattle.rules.proofs.Chain.{Path, ends, across, falls, odd-is, odd-not, path-end, cut-splitting, path-use, path-short, path-fit, way, stays}
+use Rattle.rules.proofs.Chain.{Path, ends, across, falls, odd-is, odd-not, path-end, cut-splitting, path-use}
+use Rattle.rules.proofs.Chain.{path-short, path-fit, way, stays}
 use Rattle.rules.proofs.FaceSplit.{Room, face-splitting}
 use Rattle.rules.proofs.Manifold.{Manifold, BasesMeetIn}
 use Rattle.rules.proofs.Raise.{Shorter, shortens, raise-stops, raise-splits, room-first, room-rest, raise-cuts}
@@ -12,7 +14,6 @@ use Rattle.rules.proofs.Refine.{sound-room}
 use Rattle.rules.proofs.Relaxed.{sound-manifold, sound-bases}
 use Rattle.rules.proofs.Runs.{isEven, cut}
 use Rattle.rules.proofs.Settled.{nowhere}
-use Rattle.rules.proofs.Sides.{eqb-yes, eqb-no}
 use Rattle.rules.specs.Calls.{splitsOf}
 use Rattle.rules.specs.Conditions.{RoomFor}
 use Rattle.rules.specs.Promises.{mate, kobbelt}
@@ -29,13 +30,13 @@ module _ (n t : ℕ) (w : Work) (o : generation (reached w) t % 2 ≡ 1) where
   kobbelt-near : generation (reached w) (mate t w) + 2 ≢ generation (reached w) t
       → kobbelt (suc n) t w ≡ kobbelt n (mate t w) w
   unfolding kobbelt
-  kobbelt-near d = rw (odd-is _ o, eqb-no _ _ d, kobbelt)
+  kobbelt-near d = rw (odd-is _ o, ne-eqb _ _ d, kobbelt)
 
   kobbelt-far : (y : Work) → generation (reached w) (mate t w) + 2 ≡ generation (reached w) t
       → y ≡ kobbelt n (mate t w) w
       → kobbelt (suc n) t w ≡ kobbelt n (mate t y) y
   unfolding kobbelt
-  kobbelt-far y e q = rw (odd-is _ o, e, eqb-yes (generation (reached w) t), q, kobbelt)
+  kobbelt-far y e q = rw (odd-is _ o, e, eq-eqb (generation (reached w) t) _ refl, q, kobbelt)
 
 -- ---- the loop of refine, seen from a triangle and its mate
 

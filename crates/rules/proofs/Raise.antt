@@ -6,9 +6,10 @@ use Prim.Native.Nat.{ℕ, zero, suc, _+_, _*_, _/_, _%_, _≤_, _<_}
 use native.Mathlib.Omega.{arith}
 use native.Mathlib.Decide.{ℕ-discrete}
 use lib.ListN.{length}
-use lib.Dec.{T, ltb, lt→ltb, ltb→lt}
+use borrow.Author.Tests.{lt-ltb, le-ltb}
 use Rattle.rules.proofs.Bases.{reached}
-use Rattle.rules.proofs.Chain.{Path, ends, across, falls, path-end, topOf, boundaryOf, cut-splitting, path-use, path-top, not-v, stays, lands, hit}
+use Rattle.rules.proofs.Chain.{Path, ends, across, falls, path-end, topOf, boundaryOf, cut-splitting, path-use}
+use Rattle.rules.proofs.Chain.{path-top, not-v, stays, lands, hit}
 use Rattle.rules.proofs.Cut.{CutResult}
 use Rattle.rules.proofs.Edges.{boundarySides}
 use Rattle.rules.proofs.FaceSplit.{Room}
@@ -80,30 +81,16 @@ module _ (v g p r : ℕ) (m n : Topology) (F : Manifold m) (K : BasesMeetIn nowh
 
 -- ---- the loop
 
-ltb-yes : (a b : ℕ) → a < b → ltb a b ≡ true
-ltb-yes a b l = go (ltb a b) (lt→ltb a b l)
-  where
-    go : (c : Bool) → T c → c ≡ true
-    go true x = refl
-    go false x = absurd x
-
-ltb-no : (a b : ℕ) → b ≤ a → ltb a b ≡ false
-ltb-no a b l = go (ltb a b) (ltb→lt a b)
-  where
-    go : (c : Bool) → (T c → a < b) → c ≡ false
-    go true x = let y = x tt in absurd (omega arith)
-    go false x = refl
-
 pub raise-stops : (n g t : ℕ) (d : Work) → g < generation (reached d) t → raise n g t d ≡ d
 unfolding raise
 raise-stops zero g t d l = refl
-raise-stops (suc n) g t d l = rw (ltb-yes g (generation (reached d) t) l, raise)
+raise-stops (suc n) g t d l = rw (lt-ltb g (generation (reached d) t) l, raise)
 
 pub raise-splits : (n g t v : ℕ) (d : Work) (x : Splittable (reached d) v) → generation (reached d) t ≤ g
     → chainEndWithin (generation (reached d) t) (reached d) t ≡ v → raise (suc n) g t d ≡ raise n g t (cut v d x)
 unfolding raise
 raise-splits n g t v d x l e =
-    rw (ltb-no g (generation (reached d) t) l, raise)
+    rw (le-ltb g (generation (reached d) t) l, raise)
     (ap (λ (y : ℕ). raise n g t (faceSplit y d)) e ∙ ap (raise n g t) (cut-face v d x))
 
 -- s splits, q of them at the boundary, no child above top.

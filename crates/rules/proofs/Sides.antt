@@ -9,7 +9,8 @@ use native.Mathlib.Decide.{ℕ-discrete}
 use native.Mathlib.Nat.{add-zero}
 use lib.ListN.{length, getD, set, length-set}
 use lib.Seq.{getD-set-same, getD-set-other}
-use lib.Dec.{T, eqb, eqb-refl, eqb→eq}
+use lib.Dec.{eqb}
+use borrow.Author.Tests.{eq-eqb, ne-eqb}
 use Rattle.rules.specs.Tables.{next, previous, boundary, putThree}
 
 pub next-previous : (h : ℕ) → next (previous h) ≡ h
@@ -45,32 +46,18 @@ renameTwo a a′ b b′ h = elim (eqb h a) [
   | false ↦ elim (eqb h b) [ true ↦ b′ | false ↦ h ]
 ]
 
-pub eqb-yes : (h : ℕ) → eqb h h ≡ true
-eqb-yes h = yes′ (eqb h h) (eqb-refl h)
-  where
-    yes′ : (b : Bool) → T b → b ≡ true
-    yes′ true x = refl
-    yes′ false x = absurd x
-
-pub eqb-no : (h a : ℕ) → h ≢ a → eqb h a ≡ false
-eqb-no h a n = no′ (eqb h a) (eqb→eq h a)
-  where
-    no′ : (b : Bool) → (T b → h ≡ a) → b ≡ false
-    no′ true k = absurd (n (k tt))
-    no′ false k = refl
-
 module _ (a a′ b b′ : ℕ) where
   pub rename-a : renameTwo a a′ b b′ a ≡ a′
   unfolding renameTwo
-  rename-a = rw (eqb-yes, renameTwo)
+  rename-a = rw (eq-eqb a a refl, renameTwo)
 
   pub rename-b : a ≢ b → renameTwo a a′ b b′ b ≡ b′
   unfolding renameTwo
-  rename-b n = let n′ : b ≢ a = λ e. n (sym e) in rw (eqb-no b a, eqb-yes b, renameTwo)
+  rename-b n = let n′ : b ≢ a = λ e. n (sym e) in rw (ne-eqb b a n′, eq-eqb b b refl, renameTwo)
 
   pub rename-else : (h : ℕ) → h ≢ a → h ≢ b → renameTwo a a′ b b′ h ≡ h
   unfolding renameTwo
-  rename-else h n k = rw (eqb-no h a n, eqb-no h b k, renameTwo)
+  rename-else h n k = rw (ne-eqb h a n, ne-eqb h b k, renameTwo)
 
 -- ---- links renamed
 

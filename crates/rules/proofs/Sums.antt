@@ -6,7 +6,7 @@ use Prim.Native.Nat.{ℕ, zero, suc, _+_, _*_, _<_}
 use native.Mathlib.Omega.{arith}
 use native.Mathlib.Decide.{ℕ-discrete}
 use lib.Dec.{eqb}
-use Rattle.rules.proofs.Sides.{eqb-yes, eqb-no}
+use borrow.Author.Tests.{eq-eqb, ne-eqb}
 use Rattle.rules.specs.Below.{total}
 
 pub total-same : (n : ℕ) (f g : ℕ → ℕ) → ((h : ℕ) → h < n → f h ≡ g h) → total n f ≡ total n g
@@ -65,8 +65,8 @@ pub total-change₂ : (n i j : ℕ) (f g : ℕ → ℕ) → i < n → j < n → 
     → total n g + f i + f j ≡ total n f + g i + g j
 total-change₂ n i j f g l k ne e =
     let mid : ℕ → ℕ = λ h. pick (eqb h i) (g h) (f h) in
-    let mi : mid i ≡ g i = ap (λ (b : Bool). pick b (g i) (f i)) (eqb-yes i) in
-    let mo : (h : ℕ) → h ≢ i → mid h ≡ f h = λ h q. ap (λ (b : Bool). pick b (g h) (f h)) (eqb-no h i q) in
+    let mi : mid i ≡ g i = ap (λ (b : Bool). pick b (g i) (f i)) (eq-eqb i i refl) in
+    let mo : (h : ℕ) → h ≢ i → mid h ≡ f h = λ h q. ap (λ (b : Bool). pick b (g h) (f h)) (ne-eqb h i q) in
     let a : total n mid + f i ≡ total n f + mid i = total-change n i f mid l (λ h w q. sym (mo h q)) in
     let b : total n g + mid j ≡ total n mid + g j = total-change n j mid g k (λ h w q. on h w q (ℕ-discrete h i)) in
     let c : mid j ≡ f j = mo j (λ q. ne (sym q)) in
@@ -77,8 +77,8 @@ total-change₂ n i j f g l k ne e =
     pick false x y = y
 
     on : (h : ℕ) → h < n → h ≢ j → Dec (h ≡ i) → pick (eqb h i) (g h) (f h) ≡ g h
-    on h w q (yes z) = ap (λ (b : Bool). pick b (g h) (f h)) (ap (λ (x : ℕ). eqb x i) z ∙ eqb-yes i)
-    on h w q (no z) = ap (λ (b : Bool). pick b (g h) (f h)) (eqb-no h i z) ∙ e h w z q
+    on h w q (yes z) = ap (λ (b : Bool). pick b (g h) (f h)) (eq-eqb h i z)
+    on h w q (no z) = ap (λ (b : Bool). pick b (g h) (f h)) (ne-eqb h i z) ∙ e h w z q
 
 -- A sum over sides, triangle by triangle.
 abbrev pub row : (ℕ → ℕ) → ℕ → ℕ

@@ -4,9 +4,8 @@ use native.Mathlib.Nat.{add-zero}
 use native.Mathlib.Omega.{arith}
 use mathlib.Core.Logic.{_≢_}
 use mathlib.Core.Path.{_≡_, refl, subst}
-use borrow.Author.Tests.{eq-eqb}
+use borrow.Author.Tests.{eq-eqb, ne-eqb}
 use Rattle.rules.proofs.Chain.{odd-is, odd-not}
-use Rattle.rules.proofs.Sides.{eqb-no}
 use Rattle.rules.specs.Split.{chainEndWithin, chainOddWithin, chainEnd, chainOdd}
 use Rattle.rules.specs.Tables.{Topology, link, boundary, generation}
 use Rattle.split.specs.declared.Chain.{Chain}
@@ -51,5 +50,5 @@ module _ {m : Topology} {t : ℕ} where
         pub walk-on : link m (3 * end) ≢ boundary → Walking m t (odd + 1) (link m (3 * end) / 3) k
         unfolding chainOddWithin chainEndWithin
         walk-on e =
-            let n = rw (odd-is _ o, eqb-no _ _ e, chainOddWithin) at (w .odds) in
-            record { odds = omega arith; ends = rw (odd-is _ o, eqb-no _ _ e, chainEndWithin) at (w .ends) }
+            let n = rw (odd-is _ o, ne-eqb _ _ e, chainOddWithin) at (w .odds) in
+            record { odds = omega arith; ends = rw (odd-is _ o, ne-eqb _ _ e, chainEndWithin) at (w .ends) }
