@@ -1,17 +1,14 @@
 -- What a call that is carried out has found, and what it makes of the mesh.
-use mathlib.Core.Path.{_≡_, refl, sym, _∙_, subst}
+use mathlib.Core.Path.{_≡_, refl, _∙_}
 use mathlib.Core.Logic.{_≢_}
-use mathlib.Core.Bool.{Bool, true, false}
 use mathlib.Core.List.{List, _∷_}
 use Prim.Native.Nat.{ℕ, suc, _%_, _<_}
 use native.Mathlib.Omega.{arith}
-use native.Mathlib.Decide.{ℕ-discrete}
-use lib.Dec.{T}
 use Rattle.rules.proofs.CageTests.{sizes-fit-is, corners-fit-is, coordinates-fit-is, sides-differ-is}
-use Rattle.rules.proofs.CallRefusals.{used, room-is, closed-even-is, load-refusal-first, refine-refusal-first, whole-step-refusal-first}
-use Rattle.rules.proofs.Chain.{odd-is}
+use Rattle.rules.proofs.CallRefusals.{room-is, closed-even-is, load-refusal-first, refine-refusal-first}
+use Rattle.rules.proofs.CallRefusals.{whole-step-refusal-first}
 use Rattle.rules.proofs.ChainEnd.{ends-at-boundary-is}
-use Rattle.rules.proofs.Decide.{Decides}
+use Rattle.rules.proofs.Decide.{is-lt, is-not, even-is, stable}
 use Rattle.rules.proofs.Load.{fans-fit-is}
 use Rattle.rules.proofs.Refine.{Refined, refine-refined}
 use Rattle.rules.proofs.Relaxed.{sound-manifold, sound-bases}
@@ -19,12 +16,13 @@ use Rattle.rules.proofs.SoundTest.{tables-agree-is, sound-is}
 use Rattle.rules.proofs.WholeStep.{step-makes}
 use Rattle.rules.specs.Cage.{Cage, cageOf}
 use Rattle.rules.specs.Calls.{splitsOf, loadRefusal, refineRefusal, wholeStepRefusal}
-use Rattle.rules.specs.Conditions.{SizesFit, CornersFit, RoomFor, ClosedEven, Condition, _when_, First, this, later, CoordinatesFit, SidesDiffer, FansFit}
+use Rattle.rules.specs.Conditions.{SizesFit, CornersFit, RoomFor, ClosedEven, Condition, _when_, First, this}
+use Rattle.rules.specs.Conditions.{later, CoordinatesFit, SidesDiffer, FansFit}
 use Rattle.rules.specs.Promises.{StepMakes}
 use Rattle.rules.specs.Sound.{Sound}
 use Rattle.rules.specs.Split.{atFirst, chainEnd, refine}
 use Rattle.rules.specs.Step.{wholeStep}
-use Rattle.rules.specs.Tables.{Mesh, TablesAgree, generation, odd}
+use Rattle.rules.specs.Tables.{Mesh, TablesAgree, generation}
 
 -- ---- conditions that do not hold
 
@@ -35,10 +33,6 @@ passed (later q f) e = f
 fails : {n k : ℕ} {P : Type 0} {rest : List Condition} → First (n when P ∷ rest) k → k ≢ n → ¬ P
 fails (this p) e = absurd (e refl)
 fails (later q f) e = q
-
-stable : {b : Bool} {Q : Type 0} → Decides b Q → ¬ (¬ Q) → Q
-stable {b = true} d n = d .holds tt
-stable {b = false} d n = absurd (n (d .passes))
 
 zero-not : {k : ℕ} (n : ℕ) → k ≡ 0 → k ≢ suc n
 zero-not n z e = omega arith
@@ -84,13 +78,6 @@ pub record RefineFound (t : ℕ) (m : Mesh) : Type 0 where
   pub evenEnd : generation (m .topology) (chainEnd (m .topology) t) % 2 ≡ 0
   pub room : RoomFor (splitsOf (m .topology) t) m
 
-even-end : (g : ℕ) {P : Type 0} → Decides (odd g) P → ¬ P → g % 2 ≡ 0
-even-end g d n = go (ℕ-discrete (g % 2) 1)
-  where
-    go : Dec (g % 2 ≡ 1) → g % 2 ≡ 0
-    go (yes o) = absurd (n (d .holds (subst T (sym (odd-is g o)) tt)))
-    go (no o) = omega arith
-
 pub refine-found : (t : ℕ) (m : Mesh) → refineRefusal t m ≡ 0 → RefineFound t m
 refine-found t m z =
     let f₁ = refine-refusal-first t m in
@@ -100,7 +87,7 @@ refine-found t m z =
     let f₅ = passed f₄ (zero-not 8 z) in
     let f₆ = passed f₅ (zero-not 9 z) in
     let S = stable (sound-is m) (fails f₂ (zero-not 6 z)) in
-    let u : t < m .topology .triangles = used (fails f₃ (zero-not 7 z)) in
+    let u : t < m .topology .triangles = stable (is-lt t (m .topology .triangles)) (fails f₃ (zero-not 7 z)) in
     let n : generation (m .topology) t ≢ 20 = fails f₄ (zero-not 8 z) in
     let y = S .generations t u in
     record {
@@ -108,8 +95,9 @@ refine-found t m z =
       inUse = u;
       young = omega arith;
       evenEnd =
-          even-end (generation (m .topology) (chainEnd (m .topology) t))
-          (ends-at-boundary-is (m .topology) (sound-manifold S) (sound-bases S) t u) (fails f₅ (zero-not 9 z));
+          even-is (generation (m .topology) (chainEnd (m .topology) t)) .holds
+          (is-not (ends-at-boundary-is (m .topology) (sound-manifold S) (sound-bases S) t u) .passes
+          (fails f₅ (zero-not 9 z)));
       room = stable (room-is (splitsOf (m .topology) t) m) (fails f₆ (zero-not 10 z));
     }
 

@@ -1,14 +1,13 @@
 -- The base chain.
-use mathlib.Core.Path.{_≡_, refl, sym, ap, _∙_, subst}
+use mathlib.Core.Path.{_≡_, refl, sym, _∙_, subst, ap}
 use mathlib.Core.Logic.{_≢_, _⊎_, inl, inr}
-use mathlib.Core.Bool.{true, false}
 use Prim.Native.Nat.{ℕ, zero, suc, _+_, _*_, _/_, _%_, _≤_, _<_, min}
 use native.Mathlib.Omega.{arith}
 use native.Mathlib.Decide.{ℕ-discrete}
-use lib.Dec.{eqb}
 use borrow.Author.Tests.{ne-eqb}
 use Rattle.rules.proofs.Bases.{partner-of, reached}
 use Rattle.rules.proofs.Cut.{CutResult}
+use Rattle.rules.proofs.Decide.{odd-test, even-test}
 use Rattle.rules.proofs.FaceSplit.{Room, Splitting, face-splitting}
 use Rattle.rules.proofs.Manifold.{Partnered, Manifold, level, BasesMeetIn}
 use Rattle.rules.proofs.Runs.{Splittable, isEven, cut}
@@ -17,7 +16,7 @@ use Rattle.rules.proofs.Settling.{Follow}
 use Rattle.rules.proofs.SplitKeeps.{level₀}
 use Rattle.rules.specs.Conditions.{OddInChain, atEven, onward}
 use Rattle.rules.specs.Split.{Work, chainEndWithin, chainOddWithin}
-use Rattle.rules.specs.Tables.{Topology, boundary, link, generation, odd}
+use Rattle.rules.specs.Tables.{Topology, boundary, link, generation}
 
 module _ (m : Topology) (F : Manifold m) (K : BasesMeetIn nowhere m) where
   -- Across a base stands an even triangle one generation below, or an odd one two below.
@@ -46,12 +45,6 @@ module _ (m : Topology) (F : Manifold m) (K : BasesMeetIn nowhere m) where
       go (no x) (yes y) w z = omega arith
       go d (no y) w z = omega arith
 
-pub odd-is : (g : ℕ) → g % 2 ≡ 1 → odd g ≡ true
-odd-is g e = ap (λ (x : ℕ). eqb x 1) e
-
-pub odd-not : (g : ℕ) → g % 2 ≡ 0 → odd g ≡ false
-odd-not g e = ap (λ (x : ℕ). eqb x 1) e
-
 -- From t, k odd triangles lead each across its base to the next, and the last to v, which may be split.
 pub data Path (m : Topology) : ℕ → ℕ → ℕ → Type 0 where
   ends : {t : ℕ} → Splittable m t → Path m t t 0
@@ -63,7 +56,7 @@ pub data Path (m : Topology) : ℕ → ℕ → ℕ → Type 0 where
 end-face : (n : ℕ) (m : Topology) (t : ℕ) → generation m t % 2 ≡ 0 → chainEndWithin n m t ≡ t
 unfolding chainEndWithin
 end-face zero m t e = refl
-end-face (suc n) m t e = rw (odd-not (generation m t) e, chainEndWithin)
+end-face (suc n) m t e = rw (even-test (generation m t) e, chainEndWithin)
 
 pub end-here : (n : ℕ) (m : Topology) (t : ℕ) → Splittable m t → chainEndWithin n m t ≡ t
 end-here n m t (isEven e) = end-face n m t e
@@ -71,7 +64,7 @@ end-here n m t (isEven e) = end-face n m t e
 end-on : (n : ℕ) (m : Topology) (t v : ℕ) → generation m t % 2 ≡ 1 → link m (3 * t) ≢ boundary
     → chainEndWithin n m (link m (3 * t) / 3) ≡ v → chainEndWithin (suc n) m t ≡ v
 unfolding chainEndWithin
-end-on n m t v o r q = rw (odd-is (generation m t) o, ne-eqb (link m (3 * t)) boundary r, chainEndWithin) q
+end-on n m t v o r q = rw (odd-test (generation m t) o, ne-eqb (link m (3 * t)) boundary r, chainEndWithin) q
 
 low : {A : Type 0} (g : ℕ) → g ≤ 0 → g % 2 ≡ 1 → A
 low g i o = absurd (omega arith)
@@ -163,15 +156,15 @@ way (suc n) m F K t l i z =
         → Path m t (chainEndWithin (suc n) m t) (chainOddWithin (suc n) m t)
     go (no o) d w z =
         let e : generation m t % 2 ≡ 0 = omega arith in
-        rw (odd-not (generation m t) e, chainOddWithin, chainEndWithin) (ends (isEven e))
+        rw (even-test (generation m t) e, chainOddWithin, chainEndWithin) (ends (isEven e))
     go (yes o) (yes e) w z =
-        let q : generation m t % 2 ≡ 0 = rw (odd-is (generation m t) o, e, chainEndWithin) at z in
+        let q : generation m t % 2 ≡ 0 = rw (odd-test (generation m t) o, e, chainEndWithin) at z in
         absurd (omega arith)
     go (yes o) (no e) w z =
         let f = falls m F K t l o e in
         let q : generation m (chainEndWithin n m (link m (3 * t) / 3)) % 2 ≡ 0 =
-        rw (odd-is (generation m t) o, ne-eqb (link m (3 * t)) boundary e, chainEndWithin) at z in
-        rw (odd-is (generation m t) o, ne-eqb (link m (3 * t)) boundary e, chainOddWithin, chainEndWithin) (across {t = t} o e (w (f .0) (omega (arith, f .1)) q))
+        rw (odd-test (generation m t) o, ne-eqb (link m (3 * t)) boundary e, chainEndWithin) at z in
+        rw (odd-test (generation m t) o, ne-eqb (link m (3 * t)) boundary e, chainOddWithin, chainEndWithin) (across {t = t} o e (w (f .0) (omega (arith, f .1)) q))
 
 -- ---- one step, seen from the chain
 

@@ -6,8 +6,8 @@ use native.Mathlib.Omega.{arith}
 use native.Mathlib.Decide.{ℕ-discrete}
 use lib.Dec.{eqb}
 use borrow.Author.Tests.{ne-eqb}
-use Rattle.rules.proofs.Chain.{falls, odd-is, odd-not}
-use Rattle.rules.proofs.Decide.{Decides}
+use Rattle.rules.proofs.Chain.{falls}
+use Rattle.rules.proofs.Decide.{Decides, odd-test, even-test}
 use Rattle.rules.proofs.Manifold.{Manifold, BasesMeetIn}
 use Rattle.rules.proofs.Settled.{nowhere}
 use Rattle.rules.specs.Conditions.{EndsAtBoundary, stops, goesOn}
@@ -44,7 +44,7 @@ module _ (m : Topology) (F : Manifold m) (K : BasesMeetIn nowhere m) where
   unfolding chainEndWithin
   end-decides zero t l i =
       let e : generation m t % 2 ≡ 0 = omega arith in
-      rw (odd-not (generation m t) e) (record { holds = λ x. absurd x; passes = not-even e })
+      rw (even-test (generation m t) e) (record { holds = λ x. absurd x; passes = not-even e })
   end-decides (suc n) t l i = go (goes m t) (end-decides n (link m (3 * t) / 3))
     where
       go : Goes m t → (link m (3 * t) / 3 < m .triangles → generation m (link m (3 * t) / 3) ≤ n
@@ -52,14 +52,14 @@ module _ (m : Topology) (F : Manifold m) (K : BasesMeetIn nowhere m) where
           (link m (3 * t) / 3)))
           → Decides (odd (generation m (chainEndWithin (suc n) m t))) (EndsAtBoundary m t)
       go (evenHere e) ih =
-          rw (odd-not (generation m t) e, chainEndWithin)
-          (rw (odd-not (generation m t) e) (record { holds = λ x. absurd x; passes = not-even e }))
+          rw (even-test (generation m t) e, chainEndWithin)
+          (rw (even-test (generation m t) e) (record { holds = λ x. absurd x; passes = not-even e }))
       go (boundaryHere o e) ih =
-          rw (odd-is (generation m t) o, ap (λ (x : ℕ). eqb x boundary) e, chainEndWithin) (rw (odd-is (generation m t) o) (record { holds = λ x. stops o e; passes = λ x. tt }))
+          rw (odd-test (generation m t) o, ap (λ (x : ℕ). eqb x boundary) e, chainEndWithin) (rw (odd-test (generation m t) o) (record { holds = λ x. stops o e; passes = λ x. tt }))
       go (furtherOn o e) ih =
           let f = falls m F K t l o e in
           let d = ih (f .0) (omega (arith, f .1)) in
-          rw (odd-is (generation m t) o, ne-eqb (link m (3 * t)) boundary e, chainEndWithin)
+          rw (odd-test (generation m t) o, ne-eqb (link m (3 * t)) boundary e, chainEndWithin)
           (record { holds = λ x. goesOn o e (d .holds x); passes = λ x. d .passes (next-ends e x) })
 
   pub ends-at-boundary-is : (t : ℕ) → t < m .triangles

@@ -1,5 +1,5 @@
 -- The face split with its flips.
-use mathlib.Core.Path.{_≡_, refl, sym, ap, _∙_, subst}
+use mathlib.Core.Path.{_≡_, refl, ap, _∙_, subst}
 use mathlib.Core.Logic.{_≢_, _⊎_, inl, inr}
 use mathlib.Core.Bool.{Bool, true, false}
 use mathlib.Core.List.{List, [], _∷_}
@@ -7,7 +7,8 @@ use Prim.Native.Nat.{ℕ, suc, _+_, _*_, _/_, _%_, _≤_, _<_}
 use native.Mathlib.Omega.{arith}
 use lib.ListN.{length, getD}
 use lib.IntN.{pos}
-use Rattle.rules.proofs.Bases.{Settles, boundary-not-base, partner-of, reached, settle-settles, settling-manifold}
+use Rattle.rules.proofs.Bases.{Settles, boundary-not-base, partner-of, reached, settle-settles}
+use Rattle.rules.proofs.Bases.{settling-manifold}
 use Rattle.rules.proofs.Cut.{Cut, CutResult, Onto, cut-settled}
 use Rattle.rules.proofs.Edges.{split-boundary}
 use Rattle.rules.proofs.Manifold.{Partnered, Manifold, Base}
@@ -20,8 +21,10 @@ use Rattle.rules.proofs.SplitKeeps.{no-self, split-manifold}
 use Rattle.rules.proofs.SplitRead.{Splits, split-splits}
 use Rattle.rules.specs.Numbers.{InRange}
 use Rattle.rules.specs.Promises.{odds}
-use Rattle.rules.specs.Split.{Work, split, flip, withSplit, withFlip, centre, splitPlaced, settle, settleAll, faceSplit}
-use Rattle.rules.specs.Tables.{Topology, Mesh, withTopology, sides, origin, boundary, link, generation, isBase, coordinate, putThree}
+use Rattle.rules.specs.Split.{Work, split, flip, withSplit, withFlip, centre, splitPlaced, settle, settleAll}
+use Rattle.rules.specs.Split.{faceSplit}
+use Rattle.rules.specs.Tables.{Topology, Mesh, withTopology, sides, origin, boundary, link, generation, isBase}
+use Rattle.rules.specs.Tables.{coordinate, putThree}
 
 -- Room for 2k triangles more.
 pub record Room (k : ℕ) (m : Topology) : Type 0 where

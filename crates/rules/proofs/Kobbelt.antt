@@ -5,8 +5,9 @@ use Prim.Native.Nat.{ℕ, zero, suc, _+_, _*_, _/_, _%_, _≤_, _<_, max}
 use native.Mathlib.Omega.{arith}
 use borrow.Author.Tests.{eq-eqb, ne-eqb}
 use Rattle.rules.proofs.Bases.{reached}
-use Rattle.rules.proofs.Chain.{Path, ends, across, falls, odd-is, odd-not, path-end, cut-splitting, path-use}
-use Rattle.rules.proofs.Chain.{path-short, path-fit, way, stays}
+use Rattle.rules.proofs.Chain.{Path, ends, across, falls, path-end, cut-splitting, path-use, path-short}
+use Rattle.rules.proofs.Chain.{path-fit, way, stays}
+use Rattle.rules.proofs.Decide.{odd-test, even-test}
 use Rattle.rules.proofs.FaceSplit.{Room, face-splitting}
 use Rattle.rules.proofs.Manifold.{Manifold, BasesMeetIn}
 use Rattle.rules.proofs.Raise.{Shorter, shortens, raise-stops, raise-splits, room-first, room-rest, raise-cuts}
@@ -24,19 +25,19 @@ use Rattle.rules.specs.Tables.{Topology, Mesh, boundary, link, generatio
 kobbelt-even : (n t : ℕ) (w : Work) → 0 < n → generation (reached w) t % 2 ≡ 0 → kobbelt n t w ≡ faceSplit t w
 unfolding kobbelt
 kobbelt-even zero t w i e = absurd (omega arith)
-kobbelt-even (suc n) t w i e = rw (odd-not _ e, kobbelt)
+kobbelt-even (suc n) t w i e = rw (even-test _ e, kobbelt)
 
 module _ (n t : ℕ) (w : Work) (o : generation (reached w) t % 2 ≡ 1) where
   kobbelt-near : generation (reached w) (mate t w) + 2 ≢ generation (reached w) t
       → kobbelt (suc n) t w ≡ kobbelt n (mate t w) w
   unfolding kobbelt
-  kobbelt-near d = rw (odd-is _ o, ne-eqb _ _ d, kobbelt)
+  kobbelt-near d = rw (odd-test _ o, ne-eqb _ _ d, kobbelt)
 
   kobbelt-far : (y : Work) → generation (reached w) (mate t w) + 2 ≡ generation (reached w) t
       → y ≡ kobbelt n (mate t w) w
       → kobbelt (suc n) t w ≡ kobbelt n (mate t y) y
   unfolding kobbelt
-  kobbelt-far y e q = rw (odd-is _ o, e, eq-eqb (generation (reached w) t) _ refl, q, kobbelt)
+  kobbelt-far y e q = rw (odd-test _ o, e, eq-eqb (generation (reached w) t) _ refl, q, kobbelt)
 
 -- ---- the loop of refine, seen from a triangle and its mate
 

@@ -1,14 +1,14 @@
 -- Loading a cage: what the tables hold then, and that they are sound.
-use mathlib.Core.Path.{_≡_, refl, sym, _∙_, subst}
+use mathlib.Core.Path.{_≡_, refl, sym, _∙_}
 use mathlib.Core.Logic.{_≢_, inl, inr}
 use mathlib.Core.Bool.{Bool, true, false}
 use mathlib.Core.List.{List}
 use Prim.Native.Nat.{ℕ, _*_, _/_, _≤_, _<_}
 use native.Mathlib.Omega.{arith}
 use lib.ListN.{length, getD, drop}
-use lib.Dec.{T, ltb, lt→ltb, ltb→lt}
+use lib.Dec.{ltb}
 use lib.IntN.{pos}
-use Rattle.rules.proofs.Decide.{Decides, Lowest, is-eq, is-and, is-all, lowest-is}
+use Rattle.rules.proofs.Decide.{Decides, Lowest, is-eq, is-and, is-all, lowest-is, is-lt, when-true, when-false}
 use Rattle.rules.proofs.FanTest.{one-fan-is}
 use Rattle.rules.proofs.Fill.{length-fill, getD-fill, drop-fill}
 use Rattle.rules.proofs.Manifold.{Partnered, Manifold, level, Joined, BasesMeetIn}
@@ -23,7 +23,8 @@ use Rattle.rules.specs.Cage.{Cage, cageOf, opposite, partner, loaded, fa
 use Rattle.rules.specs.Conditions.{SizesFit, CornersFit, CoordinatesFit, SidesDiffer, FansFit}
 use Rattle.rules.specs.Promises.{Opposite, Matches, only, alone}
 use Rattle.rules.specs.Sound.{OneFan, Sound, hasOneFan}
-use Rattle.rules.specs.Tables.{Topology, Mesh, TablesAgree, sides, next, origin, target, boundary, link, generation, vertexSlots, triangleSlots}
+use Rattle.rules.specs.Tables.{Topology, Mesh, TablesAgree, sides, next, origin, target, boundary, link}
+use Rattle.rules.specs.Tables.{generation, vertexSlots, triangleSlots}
 
 -- ---- the partner of a side
 
@@ -43,12 +44,12 @@ module _ (c : Cage) (D : SidesDiffer c) where
   lowest-matches : (h k : ℕ) → Lowest (3 * c .triangles) (opposite c h) k → (b : Bool) → ltb k (3 * c .triangles) ≡ b
       → Matches c h (elim b [ true ↦ k | false ↦ boundary ])
   lowest-matches h k L true e =
-      let l : k < 3 * c .triangles = ltb→lt k (3 * c .triangles) (subst T (sym e) tt) in
+      let l = when-true (is-lt k (3 * c .triangles)) e in
       let x = opposite-is c h k .holds (L .passes l) in
       only (record { inUse = l; from = x .0; onto = x .1 })
       (λ j O. D j k (O .inUse) l (O .from ∙ sym (x .0)) (O .onto ∙ sym (x .1)))
   lowest-matches h k L false e =
-      let n : ¬ (k < 3 * c .triangles) = λ q. subst T e (lt→ltb k (3 * c .triangles) q) in
+      let n = when-false (is-lt k (3 * c .triangles)) e in
       alone (λ j O. L .none j (omega (arith, O .inUse)) (opposite-is c h j .passes (O .from, O .onto)))
 
   pub partner-matches : (h : ℕ) → Matches c h (partner c h)

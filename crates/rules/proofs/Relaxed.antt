@@ -6,7 +6,6 @@ use native.Mathlib.Omega.{arith}
 use lib.ListN.{length, getD}
 use lib.IntN.{pos}
 use Rattle.rules.proofs.Bases.{boundary-not-base}
-use Rattle.rules.proofs.Differences.{near}
 use Rattle.rules.proofs.FiveKinds.{kind-level, kind-bases, level-kind}
 use Rattle.rules.proofs.Manifold.{Manifold, Joined, Base, BasesMeetIn}
 use Rattle.rules.proofs.Settled.{nowhere}
