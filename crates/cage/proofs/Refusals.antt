@@ -6,15 +6,15 @@ use mathlib.Core.List.{List, []}
 use Prim.Native.Nat.{ℕ, _+_, _*_, _≤_, _<_}
 use native.Mathlib.Omega.{arith}
 use lib.ListN.{length, getD}
-use Rattle.rules.proofs.Alike.{SameCorners, SameSides, all-same, corners-fit-same, sides-differ-same, partner-same, one-fan-same}
+use Rattle.rules.proofs.Alike.{SameCorners, SameSides, all-same, corners-fit-same, sides-differ-same, partner-same}
+use Rattle.rules.proofs.Alike.{one-fan-same}
 use Rattle.rules.proofs.CageTests.{sizes-fit-is, corners-fit-is, sides-differ-is}
 use Rattle.rules.proofs.Decide.{Decides, is-true, is-false, is-same, when-true}
 use Rattle.rules.proofs.Fill.{length-fill, getD-fill}
 use Rattle.rules.proofs.Load.{matches-opposite, opposite-back, partner-matches, loaded-loads}
 use Rattle.rules.specs.Promises.{Matches, only, alone}
 use Rattle.rules.proofs.LoadTests.{refusal-3, refusal-4, refusal-5, refusal-6, refusal-none}
-use Rattle.rules.proofs.Manifold.{Joined}
-use Rattle.rules.proofs.SplitKeeps.{pair}
+use Rattle.rules.proofs.Manifold.{Joined, pair}
 use Rattle.rules.proofs.SoundTest.{tables-agree-is}
 use Rattle.rules.proofs.Turning.{Glued}
 use Rattle.rules.specs.Below.{all, fill}

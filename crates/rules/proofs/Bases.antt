@@ -1,6 +1,6 @@
 -- Where two bases meet, and what settling a child does about it.
 use mathlib.Core.Path.{_≡_, refl, ap, _∙_, subst}
-use mathlib.Core.Logic.{_≢_, inl, inr}
+use mathlib.Core.Logic.{_≢_}
 use mathlib.Core.Bool.{Bool, true, false}
 use Prim.Native.Nat.{ℕ, _+_, _*_, _/_, _%_, _≤_, _<_}
 use native.Mathlib.Omega.{arith}
@@ -8,10 +8,9 @@ use lib.ListN.{getD, List·getD-eq-default}
 use Rattle.rules.proofs.Decide.{Decides, is-eq, is-and, odd-is, when-true, when-false}
 use Rattle.rules.proofs.FlipKeeps.{BasesMeet, flip-manifold}
 use Rattle.rules.proofs.FlipRead.{Flips, flip-flips}
-use Rattle.rules.proofs.Manifold.{Partnered, Manifold, level, Joined, Base}
-use Rattle.rules.proofs.SplitKeeps.{level₀, no-self}
+use Rattle.rules.proofs.Manifold.{Partnered, Manifold, level, Base, level₀, no-self, partnered}
 use Rattle.rules.specs.Split.{Work, flip, withFlip, settle}
-use Rattle.rules.specs.Tables.{Topology, withTopology, sides, origin, boundary, link, generation, odd, isBase}
+use Rattle.rules.specs.Tables.{Topology, withTopology, sides, origin, boundary, link, generation, isBase}
 
 -- ---- the test
 
@@ -23,13 +22,6 @@ boundary-not-base m F b =
     let e : getD (m .generations) (boundary / 3) 0 ≡ 0 =
     List·getD-eq-default (m .generations) 0 (omega (arith, F .slots)) in
     omega (arith, b .1)
-
-pub partner-of : (m : Topology) (h : ℕ) → Manifold m → h < sides m → link m h ≢ boundary → Partnered m h
-partner-of m h F l n = go (F .linked h l)
-  where
-    go : Joined m h → Partnered m h
-    go (inl e) = absurd (n e)
-    go (inr M) = M
 
 -- ---- a triangle just made, whose corner 2 is new: p is the number of the old vertices
 
@@ -45,7 +37,7 @@ bases : (p g c : ℕ) (m : Topology) → Manifold m → Child p g c m → Base m
 bases p g c m F C b =
     let l : 3 * c < sides m = omega (arith, C .inUse) in
     let M : Partnered m (3 * c) =
-    partner-of m (3 * c) F l (λ e. boundary-not-base m F (subst (λ (x : ℕ). Base m x) e b)) in
+    partnered (F .linked (3 * c) l) (λ e. boundary-not-base m F (subst (λ (x : ℕ). Base m x) e b)) in
     let u : ℕ = link m (3 * c) / 3 in
     let e : link m (3 * c) ≡ 3 * u = omega (arith, b .0) in
     let i = M .inUse in

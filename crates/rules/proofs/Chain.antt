@@ -5,15 +5,14 @@ use Prim.Native.Nat.{ℕ, zero, suc, _+_, _*_, _/_, _%_, _≤_, _<_, min}
 use native.Mathlib.Omega.{arith}
 use native.Mathlib.Decide.{ℕ-discrete}
 use borrow.Author.Tests.{ne-eqb}
-use Rattle.rules.proofs.Bases.{partner-of, reached}
+use Rattle.rules.proofs.Bases.{reached}
 use Rattle.rules.proofs.Cut.{CutResult}
 use Rattle.rules.proofs.Decide.{odd-test, even-test}
 use Rattle.rules.proofs.FaceSplit.{Room, Splitting, face-splitting}
-use Rattle.rules.proofs.Manifold.{Partnered, Manifold, level, BasesMeetIn}
+use Rattle.rules.proofs.Manifold.{Partnered, Manifold, level, BasesMeetIn, level₀, partnered}
 use Rattle.rules.proofs.Runs.{Splittable, isEven, cut}
 use Rattle.rules.proofs.Settled.{nowhere}
 use Rattle.rules.proofs.Settling.{Follow}
-use Rattle.rules.proofs.SplitKeeps.{level₀}
 use Rattle.rules.specs.Conditions.{OddInChain, atEven, onward}
 use Rattle.rules.specs.Split.{Work, chainEndWithin, chainOddWithin}
 use Rattle.rules.specs.Tables.{Topology, boundary, link, generation}
@@ -24,7 +23,7 @@ module _ (m : Topology) (F : Manifold m) (K : BasesMeetIn nowhere m) where
       → (link m (3 * t) / 3 < m .triangles)
       × (generation m (link m (3 * t) / 3) + (1 + generation m (link m (3 * t) / 3) % 2) ≡ generation m t)
   falls t l o r =
-      let M : Partnered m (3 * t) = partner-of m (3 * t) F (omega arith) r in
+      let M : Partnered m (3 * t) = partnered (F .linked (3 * t) (omega arith)) r in
       let k : ℕ = link m (3 * t) in
       let u : ℕ = k / 3 in
       let q : level m k ≡ (generation m u + min 1 (k % 3)) / 2 = refl in
@@ -181,7 +180,7 @@ module _ (v g p r : ℕ) (m n : Topology) (F : Manifold m) (K : BasesMeetIn nowh
   pub stays : (x : ℕ) → x < m .triangles → link m (3 * x) ≢ boundary → generation n x ≡ generation m x
       → generation n (link m (3 * x) / 3) ≡ generation m (link m (3 * x) / 3) → link n (3 * x) ≡ link m (3 * x)
   stays x l q e f =
-      let M : Partnered m (3 * x) = partner-of m (3 * x) F (omega arith) q in
+      let M : Partnered m (3 * x) = partnered (F .linked (3 * x) (omega arith)) q in
       let z : 3 * x / 3 ≡ x = omega arith in
       S .still .links (3 * x) (omega arith) (rw z e) (inr (M .inUse, f))
 

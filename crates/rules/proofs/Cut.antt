@@ -7,13 +7,16 @@ use native.Mathlib.Omega.{arith}
 use native.Mathlib.Decide.{ℕ-discrete, decLt}
 use lib.ListN.{length}
 use lib.Dec.{T}
-use Rattle.rules.proofs.Bases.{boundary-not-base, partner-of}
+use Rattle.rules.proofs.Bases.{boundary-not-base}
 use Rattle.rules.proofs.Edges.{boundarySides}
-use Rattle.rules.proofs.Manifold.{Partnered, Manifold, level, Joined, Base, BasesMeetIn}
+use Rattle.rules.proofs.Manifold.{Partnered, Manifold, level, Joined, Base, BasesMeetIn, level-of, level₀}
+use Rattle.rules.proofs.Manifold.{partnered, partnered-with}
 use Rattle.rules.proofs.Past.{Past, past-on}
-use Rattle.rules.proofs.Settled.{Settled, nowhere, Among, Children, Distinct, Met, settled-manifold, settled-same, settled-boundary, settled-bases, settled-past, settled-generation, settled-spread, settled-flips, settled-moved, settled-follow, still-on, settled-still}
+use Rattle.rules.proofs.Settled.{Settled, nowhere, Among, Children, Distinct, Met, settled-manifold}
+use Rattle.rules.proofs.Settled.{settled-same, settled-boundary, settled-bases, settled-past, settled-generation}
+use Rattle.rules.proofs.Settled.{settled-spread, settled-flips, settled-moved, settled-follow, still-on}
+use Rattle.rules.proofs.Settled.{settled-still}
 use Rattle.rules.proofs.Settling.{Same, Follow}
-use Rattle.rules.proofs.SplitKeeps.{level-of, level₀}
 use Rattle.rules.specs.Promises.{Still, Written}
 use Rattle.rules.specs.Tables.{Topology, sides, origin, boundary, link, generation}
 
@@ -64,8 +67,7 @@ met-onto : (p g : ℕ) (n : Topology) (x : ℕ) (cs : List ℕ) → Manifold n �
     → Met x n cs → Onto cs (link n (3 * x))
 met-onto p g n x [] F l K e = absurd e
 met-onto p g n x (c ∷ cs) F l K (inl e) =
-    let M : Partnered n (3 * c) =
-    partner-of n (3 * c) F (omega (arith, K .0 .inUse)) (λ q. omega (arith, F .slots, F .generationRoom)) in
+    let M : Partnered n (3 * c) = partnered-with F (omega (arith, K .0 .inUse)) e (omega arith) in
     inl (ap (λ (y : ℕ). link n y) (sym e) ∙ M .back)
 met-onto p g n x (c ∷ cs) F l K (inr e) = inr (met-onto p g n x cs F l (K .1) e)
 
@@ -109,7 +111,7 @@ module _ (v g : ℕ) (cs : List ℕ) (p r : ℕ) (m one n : Topology) (F : Manif
       O = C .manifold
 
       M : Partnered one h
-      M = partner-of one h O l (λ w. boundary-not-base one O (subst (λ (z : ℕ). Base one z) w y))
+      M = partnered (O .linked h l) (λ w. boundary-not-base one O (subst (λ (z : ℕ). Base one z) w y))
 
       old : (k : ℕ) → k < sides m → k / 3 ≢ v → Base one k → Base m k
       old k i j z = (z .0, sym (ap (λ (a : ℕ). a % 2) (C .generations (k / 3) (omega arith) j)) ∙ z .1)
@@ -134,7 +136,7 @@ module _ (v g : ℕ) (cs : List ℕ) (p r : ℕ) (m one n : Topology) (F : Manif
   -- The triangles whose base meets v are of generation g or below.
   near : (x : ℕ) → x < m .triangles → link m (3 * x) ≢ boundary → link m (3 * x) / 3 ≡ v → generation m x ≤ g
   near x l q e =
-      let M : Partnered m (3 * x) = partner-of m (3 * x) F (omega arith) q in
+      let M : Partnered m (3 * x) = partnered (F .linked (3 * x) (omega arith)) q in
       let k : ℕ = link m (3 * x) in
       let z : level m k ≡ (generation m v + min 1 (k % 3)) / 2 = level-of m k v (k % 3) e refl in
       let a : level m k ≡ level m (3 * x) = M .level in
@@ -146,7 +148,7 @@ module _ (v g : ℕ) (cs : List ℕ) (p r : ℕ) (m one n : Topology) (F : Manif
       let w = C .triangles in
       let o : Onto cs (link one (3 * t)) = C .into (3 * t) (omega arith) (omega arith) e in
       let M : Partnered one (3 * t) =
-      partner-of one (3 * t) (C .manifold) (omega arith)
+      partnered (C .manifold .linked (3 * t) (omega arith))
       (λ z. onto-not-rim (m .vertices) g one cs (C .manifold) (C .children) (subst (Onto cs) z o)) in
       onto-met one t cs (link one (3 * t)) (M .back) o
 
@@ -178,7 +180,7 @@ module _ (v g : ℕ) (cs : List ℕ) (p r : ℕ) (m one n : Topology) (F : Manif
       let e : generation one x ≡ generation m x = C .generations x l ne in
       let w : link m (3 * x) / 3 ≢ v = λ q. omega (arith, near x l (f .0) q) in
       let k : link one (3 * x) ≡ link m (3 * x) = C .links (3 * x) (omega arith) (omega arith) w in
-      let M : Partnered m (3 * x) = partner-of m (3 * x) F (omega arith) (f .0) in
+      let M : Partnered m (3 * x) = partnered (F .linked (3 * x) (omega arith)) (f .0) in
       settled-follow (m .vertices) g x t S (C .manifold) (C .children) (C .distinct) (omega (arith, C .triangles))
       (omega arith)
       ((λ q. f .0 (sym k ∙ q)), go w (M .inUse) k (f .1))

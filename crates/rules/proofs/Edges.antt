@@ -10,9 +10,8 @@ use Rattle.rules.proofs.Bases.{Settling, kept, flipped}
 use Rattle.rules.proofs.Decide.{Decides, is-eq, is-lt, is-iff, is-same, bit-yes, bit-no, is-and}
 use Rattle.rules.proofs.FlipKeeps.{BasesMeet, meet-back}
 use Rattle.rules.proofs.FlipRead.{Flips}
-use Rattle.rules.proofs.Manifold.{Manifold, Joined}
+use Rattle.rules.proofs.Manifold.{Manifold, Joined, no-self, few, partnered-with}
 use Rattle.rules.proofs.Sides.{renameTwo, rename-a, rename-b, rename-else}
-use Rattle.rules.proofs.SplitKeeps.{no-self}
 use Rattle.rules.proofs.SplitRead.{Splits}
 use Rattle.rules.proofs.Sums.{total-same, total-change, total-zero, total-add, total-swap, total-one}
 use Rattle.rules.proofs.Sums.{total-const, total-change₂, row, total-rows, total-two, zero-each}
@@ -26,9 +25,6 @@ boundarySides m = count (sides m) (λ h. eqb (link m h) boundary)
 -- ---- twice the edges
 
 module _ (m : Topology) (F : Manifold m) where
-  pub few : 3 * m .triangles < boundary
-  few = omega (arith, F .slots, F .generationRoom)
-
   -- Side h leads up to its partner j.
   upTo : ℕ → ℕ → Bool
   upTo h j = eqb (link m h) j && ltb h j
@@ -49,13 +45,13 @@ module _ (m : Topology) (F : Manifold m) where
     where
       go : Joined m h → bit (ltb h (link m h)) ≡ bit (eqb (link m h) boundary) + count (sides m) (upTo h)
       go (inl e) =
-          let w = few in
+          let w = few m F in
           let a = total-zero (sides m) (λ j. bit (upTo h j)) (λ j k. bit-no (up-to-is h j) (λ q. omega arith)) in
           let b = bit-yes (is-lt h (link m h)) (omega arith) in
           let c = bit-yes (is-eq (link m h) boundary) e in
           omega arith
       go (inr M) =
-          let w = few in
+          let w = few m F in
           let i : link m h < sides m = M .inUse in
           let a : count (sides m) (upTo h) ≡ bit (upTo h (link m h)) =
           total-one (sides m) (link m h) (λ j. bit (upTo h j)) i
@@ -70,15 +66,11 @@ module _ (m : Topology) (F : Manifold m) where
   down-is j l = go (F .linked j l)
     where
       back : (h : ℕ) → h < sides m → link m h ≡ j → link m j ≡ h
-      back h i e = at-pair (F .linked h i)
-        where
-          at-pair : Joined m h → link m j ≡ h
-          at-pair (inl q) = let w = few in absurd (omega arith)
-          at-pair (inr M) = rw e at (M .back)
+      back h i e = rw e at (partnered-with F i e l .back)
 
       go : Joined m j → bit (ltb (link m j) j) ≡ count (sides m) (λ h. upTo h j)
       go (inl e) =
-          let w = few in
+          let w = few m F in
           bit-no (is-lt (link m j) j) (λ q. omega arith)
           ∙ sym (total-zero (sides m) (λ h. bit (upTo h j))
           (λ h k. bit-no (up-to-is h j) (λ q. let z = back h k (q .0) in omega arith)))
@@ -93,7 +85,7 @@ module _ (m : Topology) (F : Manifold m) where
   one-way h l = go (decLt h (link m h))
     where
       differ : Joined m h → link m h ≢ h
-      differ (inl e) q = let w = few in omega arith
+      differ (inl e) q = let w = few m F in omega arith
       differ (inr M) q = no-self m h F l M (ap (λ (x : ℕ). x / 3) q)
 
       go : Dec (h < link m h) → bit (ltb h (link m h)) + bit (ltb (link m h) h) ≡ 1

@@ -7,17 +7,16 @@ use Prim.Native.Nat.{ℕ, suc, _+_, _*_, _/_, _%_, _≤_, _<_}
 use native.Mathlib.Omega.{arith}
 use lib.ListN.{length, getD}
 use lib.IntN.{pos}
-use Rattle.rules.proofs.Bases.{Settles, boundary-not-base, partner-of, reached, settle-settles}
-use Rattle.rules.proofs.Bases.{settling-manifold}
+use Rattle.rules.proofs.Bases.{Settles, boundary-not-base, reached, settle-settles, settling-manifold}
 use Rattle.rules.proofs.Cut.{Cut, CutResult, Onto, cut-settled}
 use Rattle.rules.proofs.Edges.{split-boundary}
-use Rattle.rules.proofs.Manifold.{Partnered, Manifold, Base}
+use Rattle.rules.proofs.Manifold.{Partnered, Manifold, Base, no-self, partnered}
 use Rattle.rules.proofs.Odds.{split-odds, settling-odds}
 use Rattle.rules.proofs.Places.{Places, places-new}
 use Rattle.rules.proofs.Rounding.{third-in-range}
 use Rattle.rules.proofs.Settled.{Settled, done, then, Among, Children, Distinct, children-on}
 use Rattle.rules.proofs.Sides.{renameTwo, rename-a, rename-b, rename-else, by-triangle, by-slot}
-use Rattle.rules.proofs.SplitKeeps.{no-self, split-manifold}
+use Rattle.rules.proofs.SplitKeeps.{split-manifold}
 use Rattle.rules.proofs.SplitRead.{Splits, split-splits}
 use Rattle.rules.specs.Numbers.{InRange}
 use Rattle.rules.specs.Promises.{odds}
@@ -39,7 +38,7 @@ other : (v : ℕ) (m n : Topology) → Manifold m → Manifold n
     → origin n (3 * (link n k / 3) + 2) < m .vertices
 other v m n F N corners h k l i e c =
     let r : link m h ≢ boundary = λ w. boundary-not-base n N (subst (λ (x : ℕ). Base n x) (e ∙ w) c) in
-    let M : Partnered m h = partner-of m h F l r in
+    let M : Partnered m h = partnered (F .linked h l) r in
     let s : link m h / 3 ≢ h / 3 = no-self m h F l M in
     let u : ℕ = link m h / 3 in
     let z : u < m .triangles = omega (arith, M .inUse) in

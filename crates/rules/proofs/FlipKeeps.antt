@@ -1,15 +1,16 @@
 -- A flip keeps a manifold.
 use mathlib.Core.Path.{_≡_, refl, sym, ap, _∙_, subst}
-use mathlib.Core.Logic.{_≢_, inl, inr}
+use mathlib.Core.Logic.{_≢_, inr}
 use Prim.Native.Nat.{ℕ, _+_, _*_, _/_, _%_, _<_, min}
 use native.Mathlib.Omega.{arith}
 use Rattle.rules.proofs.FlipRead.{Flips}
-use Rattle.rules.proofs.Manifold.{Partnered, Manifold, level, Joined}
+use Rattle.rules.proofs.Manifold.{Partnered, Manifold, level, Joined, level₀, level₁, level₂, target₀, target₁}
+use Rattle.rules.proofs.Manifold.{target₂, rotate₀, rotate₁, rotate₂, pair, no-self, partnered-with}
 use Rattle.rules.proofs.Renaming.{Renames, linked, fan-map}
 use Rattle.rules.proofs.Sides.{previous-lt, renameTwo, rename-a, rename-b, rename-else, by-triangle}
-use Rattle.rules.proofs.SplitKeeps.{level₀, level₁, level₂, target₀, target₁, target₂, rotate₀, rotate₁, rotate₂, pair, no-self}
 use Rattle.rules.specs.Sound.{Turns, here, turn}
-use Rattle.rules.specs.Tables.{Topology, sides, next, previous, origin, target, boundary, link, rotate, generation}
+use Rattle.rules.specs.Tables.{Topology, sides, next, previous, origin, target, boundary, link, rotate}
+use Rattle.rules.specs.Tables.{generation}
 
 -- The bases of s and u meet, of one odd generation, and their centres differ.
 pub record BasesMeet (s u : ℕ) (m : Topology) : Type 0 where
@@ -64,11 +65,7 @@ module _ (s u : ℕ) (m n : Topology) (F : Manifold m) (B : BasesMeet s u m) (S 
 
   -- The two triangles' corners: (A, B, P) and (B, A, Q)
   partneredS : Partnered m (3 * s)
-  partneredS = go (F .linked (3 * s) (omega (arith, B .useS)))
-    where
-      go : Joined m (3 * s) → Partnered m (3 * s)
-      go (inl e) = absurd (omega (arith, B .meet, B .useU, F .slots, F .generationRoom))
-      go (inr M) = M
+  partneredS = partnered-with F (omega (arith, B .useS)) (B .meet) (omega (arith, B .useU))
 
   pub meet-back : link m (3 * u) ≡ 3 * s
   meet-back = rw (B .meet) at (partneredS .back)
@@ -95,25 +92,13 @@ module _ (s u : ℕ) (m n : Topology) (F : Manifold m) (B : BasesMeet s u m) (S 
 
   -- A side is not linked to one that starts elsewhere.
   not-to : (h k : ℕ) → h < sides m → k < sides m → origin m k ≢ target m h → link m h ≢ k
-  not-to h k l i d e = go (F .linked h l)
-    where
-      go : Joined m h → ⊥
-      go (inl x) = omega (arith, F .slots, F .generationRoom)
-      go (inr M) = d (rw e at (M .from))
+  not-to h k l i d e = d (rw e at (partnered-with F l e i .from))
 
   not-onto : (h k : ℕ) → h < sides m → k < sides m → target m k ≢ origin m h → link m h ≢ k
-  not-onto h k l i d e = go (F .linked h l)
-    where
-      go : Joined m h → ⊥
-      go (inl x) = omega (arith, F .slots, F .generationRoom)
-      go (inr M) = d (rw e at (M .onto))
+  not-onto h k l i d e = d (rw e at (partnered-with F l e i .onto))
 
   not-own : (h k : ℕ) → h < sides m → k < sides m → k / 3 ≡ h / 3 → link m h ≢ k
-  not-own h k l i d e = go (F .linked h l)
-    where
-      go : Joined m h → ⊥
-      go (inl x) = omega (arith, F .slots, F .generationRoom)
-      go (inr M) = no-self m h F l M (ap (λ (x : ℕ). x / 3) e ∙ d)
+  not-own h k l i d e = no-self m h F l (partnered-with F l e i) (ap (λ (x : ℕ). x / 3) e ∙ d)
 
   -- The partners of the sides that stay are not renamed.
   own-s₁ : r (link m (3 * s + 1)) ≡ link m (3 * s + 1)

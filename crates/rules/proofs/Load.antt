@@ -11,12 +11,11 @@ use lib.IntN.{pos}
 use Rattle.rules.proofs.Decide.{Decides, Lowest, is-eq, is-and, is-all, lowest-is, is-lt, when-true, when-false}
 use Rattle.rules.proofs.FanTest.{one-fan-is}
 use Rattle.rules.proofs.Fill.{length-fill, getD-fill, drop-fill}
-use Rattle.rules.proofs.Manifold.{Partnered, Manifold, level, Joined, BasesMeetIn}
+use Rattle.rules.proofs.Manifold.{Partnered, Manifold, level, Joined, BasesMeetIn, pair}
 use Rattle.rules.proofs.Past.{Past}
 use Rattle.rules.proofs.Relaxed.{manifold-sound, agree-on}
 use Rattle.rules.proofs.Settled.{nowhere}
 use Rattle.rules.proofs.Sides.{next-lt}
-use Rattle.rules.proofs.SplitKeeps.{pair}
 use Rattle.rules.proofs.Turning.{Glued}
 use Rattle.rules.specs.Below.{lowest}
 use Rattle.rules.specs.Cage.{Cage, cageOf, opposite, partner, loaded, fansFit}
@@ -109,10 +108,10 @@ module _ (c : Cage) (m : Mesh) (A : TablesAgree m)
   target-is : (h : ℕ) → h < 3 * c .triangles → target (loaded c m .topology) h ≡ c .corner (next h)
   target-is h l = loaded-loads .corners (next h) (next-lt h (c .triangles) l)
 
-  partnered : SidesDiffer c → (h k : ℕ) → h < 3 * c .triangles → link (loaded c m .topology) h ≡ k → Opposite c h k
+  opposite-partnered : SidesDiffer c → (h k : ℕ) → h < 3 * c .triangles → link (loaded c m .topology) h ≡ k → Opposite c h k
       → Partnered (loaded c m .topology) h
   unfolding loaded
-  partnered D h k l e O =
+  opposite-partnered D h k l e O =
       let i = O .inUse in
       pair (loaded c m .topology) h k e
       (matches-opposite (links-are D k i) h (opposite-back c h k l O))
@@ -126,7 +125,7 @@ module _ (c : Cage) (m : Mesh) (A : TablesAgree m)
   load-joined D h l = go (link (loaded c m .topology) h) refl (links-are D h l)
     where
       go : (k : ℕ) → link (loaded c m .topology) h ≡ k → Matches c h k → Joined (loaded c m .topology) h
-      go k e (only O u) = inr (partnered D h k l e O)
+      go k e (only O u) = inr (opposite-partnered D h k l e O)
       go k e (alone n) = inl e
 
   pub load-distinct : CornersFit c → (h : ℕ) → h < sides (loaded c m .topology)

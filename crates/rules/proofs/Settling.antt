@@ -5,10 +5,10 @@ use Prim.Native.Nat.{ℕ, suc, _+_, _*_, _/_, _%_, _≤_, _<_}
 use native.Mathlib.Omega.{arith}
 use native.Mathlib.Decide.{ℕ-discrete}
 use lib.ListN.{length}
-use Rattle.rules.proofs.Bases.{Child, Settling, kept, flipped, boundary-not-base, partner-of, not-child}
+use Rattle.rules.proofs.Bases.{Child, Settling, kept, flipped, boundary-not-base, not-child}
 use Rattle.rules.proofs.FlipKeeps.{BasesMeet}
 use Rattle.rules.proofs.FlipRead.{Flips}
-use Rattle.rules.proofs.Manifold.{Partnered, Manifold, Base, BasesMeetIn}
+use Rattle.rules.proofs.Manifold.{Partnered, Manifold, Base, BasesMeetIn, partnered, partnered-with}
 use Rattle.rules.proofs.Past.{Past, past-same}
 use Rattle.rules.proofs.Sides.{renameTwo, rename-a, rename-b, rename-else, rename-far}
 use Rattle.rules.specs.Tables.{Topology, sides, origin, boundary, link, generation}
@@ -103,7 +103,7 @@ settling-bases p g c X m n F C (kept no-base) K = λ h l b d. go h l b d (K h l 
     go h l b d (inl (inr q)) = inl q
     go h l b d (inr (inl q)) =
         let e : link m h ≡ 3 * c = omega (arith, d .0) in
-        let M : Partnered m h = partner-of m h F l (λ w. boundary-not-base m F (subst (λ (x : ℕ). Base m x) w d)) in
+        let M : Partnered m h = partnered (F .linked h l) (λ w. boundary-not-base m F (subst (λ (x : ℕ). Base m x) w d)) in
         let f : link m (3 * c) ≡ h = ap (λ (x : ℕ). link m x) (sym e) ∙ M .back in
         absurd (no-base (subst (λ (x : ℕ). Base m x) (sym f) b))
     go h l b d (inr (inr q)) = inr q
@@ -162,9 +162,8 @@ settling-waits p g c d t m n F (flipped u B S) C D ne l e =
     let du : d ≢ u = not-child p g c u d m B C D in
     let ld : 3 * d < sides m = omega (arith, D .inUse) in
     let lc : 3 * c < sides m = omega (arith, C .inUse) in
-    let D′ : Partnered m (3 * d) = partner-of m (3 * d) F ld (λ q. omega (arith, F .slots, F .generationRoom)) in
-    let C′ : Partnered m (3 * c) =
-    partner-of m (3 * c) F lc (λ q. omega (arith, F .slots, F .generationRoom, B .meet, B .useU)) in
+    let D′ : Partnered m (3 * d) = partnered-with F ld e (omega arith) in
+    let C′ : Partnered m (3 * c) = partnered-with F lc (B .meet) (omega (arith, B .useU)) in
     let bd : link m (3 * t) ≡ 3 * d = rw e at (D′ .back) in
     let bc : link m (3 * u) ≡ 3 * c = rw (B .meet) at (C′ .back) in
     let tu : t ≢ u = λ q. ne (omega (arith, sym bd ∙ ap (λ (x : ℕ). link m (3 * x)) q ∙ bc)) in

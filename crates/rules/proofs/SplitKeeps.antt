@@ -5,67 +5,14 @@ use Prim.Native.Nat.{ℕ, _+_, _*_, _/_, _%_, _≤_, _<_, min}
 use native.Mathlib.Omega.{arith}
 use native.Mathlib.Decide.{ℕ-discrete}
 use lib.ListN.{length}
-use Rattle.rules.proofs.Manifold.{Partnered, Manifold, level, Joined}
+use Rattle.rules.proofs.Manifold.{Manifold, level, Joined, level₀, level₁, level₂, target₀, target₁, target₂}
+use Rattle.rules.proofs.Manifold.{rotate₀, rotate₁, rotate₂, pair, no-self}
 use Rattle.rules.proofs.Renaming.{Renames, linked, fan-map}
-use Rattle.rules.proofs.Sides.{next-previous, next-0, next-1, next-2, same-triangle, next-lt, previous-lt, renameTwo, rename-a, rename-b, rename-else, by-triangle}
+use Rattle.rules.proofs.Sides.{previous-lt, renameTwo, rename-a, rename-b, rename-else, by-triangle}
 use Rattle.rules.proofs.SplitRead.{Splits}
 use Rattle.rules.specs.Sound.{OneFan, Turns, here, turn}
-use Rattle.rules.specs.Tables.{Topology, sides, next, previous, origin, target, boundary, link, rotate, generation}
-
--- ---- facts of one mesh
-
-pub level-of : (m : Topology) (h t i : ℕ) → h / 3 ≡ t → h % 3 ≡ i → level m h ≡ (generation m t + min 1 i) / 2
-level-of m h t i p q = rw (p, q)
-
-module _ (m : Topology) (t : ℕ) where
-  pub level₀ : level m (3 * t) ≡ generation m t / 2
-  level₀ = level-of m (3 * t) t 0 (omega arith) (omega arith) ∙ omega arith
-
-  pub level₁ : level m (3 * t + 1) ≡ (generation m t + 1) / 2
-  level₁ = level-of m (3 * t + 1) t 1 (omega arith) (omega arith)
-
-  pub level₂ : level m (3 * t + 2) ≡ (generation m t + 1) / 2
-  level₂ = level-of m (3 * t + 2) t 2 (omega arith) (omega arith)
-
-  pub target₀ : target m (3 * t) ≡ origin m (3 * t + 1)
-  target₀ = ap (λ (x : ℕ). origin m x) (next-0 t)
-
-  pub target₁ : target m (3 * t + 1) ≡ origin m (3 * t + 2)
-  target₁ = ap (λ (x : ℕ). origin m x) (next-1 t)
-
-  pub target₂ : target m (3 * t + 2) ≡ origin m (3 * t)
-  target₂ = ap (λ (x : ℕ). origin m x) (next-2 t)
-
-  pub rotate₀ : rotate m (3 * t) ≡ link m (3 * t + 2)
-  rotate₀ = let e : previous (3 * t) ≡ 3 * t + 2 = omega arith in ap (λ (x : ℕ). link m x) e
-
-  pub rotate₁ : rotate m (3 * t + 1) ≡ link m (3 * t)
-  rotate₁ = let e : previous (3 * t + 1) ≡ 3 * t = omega arith in ap (λ (x : ℕ). link m x) e
-
-  pub rotate₂ : rotate m (3 * t + 2) ≡ link m (3 * t + 1)
-  rotate₂ = let e : previous (3 * t + 2) ≡ 3 * t + 1 = omega arith in ap (λ (x : ℕ). link m x) e
-
--- A pair of sides linked to each other.
-pub pair : (m : Topology) (a b : ℕ) → link m a ≡ b → link m b ≡ a → b < sides m → origin m b ≡ target m a
-    → target m b ≡ origin m a → level m b ≡ level m a → Partnered m a
-pair m a b e f l o d v = record { inUse = rw e l; back = rw e f; from = rw e o; onto = rw e d; level = rw e v }
-
--- No side is linked to a side of its own triangle.
-pub no-self : (m : Topology) (h : ℕ) → Manifold m → h < sides m → Partnered m h → link m h / 3 ≢ h / 3
-no-self m h F b M e = go (ℕ-discrete (link m h) h) (ℕ-discrete (link m h) (next h))
-  where
-    go : Dec (link m h ≡ h) → Dec (link m h ≡ next h) → ⊥
-    go (yes x) d = F .distinct h b (sym (ap (λ (k : ℕ). origin m k) x) ∙ M .from)
-    go (no x) (yes y) =
-        let q : next (next h) ≡ previous h = omega arith in
-        F .distinct (previous h) (previous-lt h (m .triangles) b)
-        (ap (λ (k : ℕ). origin m k) (sym q) ∙ ap (λ (k : ℕ). target m k) (sym y) ∙ M .onto ∙ ap
-        (λ (k : ℕ). origin m k) (sym (next-previous h)))
-    go (no x) (no y) =
-        let q : link m h ≡ next (next h) = same-triangle h (link m h) e x y in
-        F .distinct (next h) (next-lt h (m .triangles) b) (sym (M .from) ∙ ap (λ (k : ℕ). origin m k) q)
-
--- ---- the split
+use Rattle.rules.specs.Tables.{Topology, sides, next, previous, origin, target, boundary, link, rotate}
+use Rattle.rules.specs.Tables.{generation}
 
 module _ (t : ℕ) (m n : Topology) (F : Manifold m) (b : t < m .triangles) (flat : generation m t % 2 ≡ 0)
     (S : Splits t m n) where

@@ -17,7 +17,6 @@ use Rattle.rules.proofs.StepPositions.{length-move, move-else, move-pas
 use Rattle.rules.proofs.StepTopology.{Midway, refine-first, two-up}
 use Rattle.rules.proofs.Sums.{total-zero}
 use Rattle.rules.specs.Conditions.{RoomFor, ClosedEven}
-use Rattle.rules.specs.History.{edges}
 use Rattle.rules.specs.Numbers.{InRange}
 use Rattle.rules.specs.Promises.{StepMakes, odds}
 use Rattle.rules.specs.Sound.{Sound}
