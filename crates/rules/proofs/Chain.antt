@@ -65,8 +65,8 @@ end-on : (n : ℕ) (m : Topology) (t v : ℕ) → generation m t % 2 ≡ 1 → l
 unfolding chainEndWithin
 end-on n m t v o r q = rw (odd-test (generation m t) o, ne-eqb (link m (3 * t)) boundary r, chainEndWithin) q
 
-low : {A : Type 0} (g : ℕ) → g ≤ 0 → g % 2 ≡ 1 → A
-low g i o = absurd (omega arith)
+zero-not-odd : {A : Type 0} (g : ℕ) → g ≤ 0 → g % 2 ≡ 1 → A
+zero-not-odd g i o = absurd (omega arith)
 
 less : (n g h : ℕ) → h + (1 + h % 2) ≡ g → g ≤ suc n → h ≤ n
 less n g h e i = omega arith
@@ -74,7 +74,7 @@ less n g h e i = omega arith
 pub path-end : {m : Topology} {t v k : ℕ} (n : ℕ) → Manifold m → BasesMeetIn nowhere m → t < m .triangles
     → generation m t ≤ n → Path m t v k → chainEndWithin n m t ≡ v
 path-end {m} n F K l i (ends {t = t} f) = end-here n m t f
-path-end {m} zero F K l i (across {t = t} o r p) = low (generation m t) i o
+path-end {m} zero F K l i (across {t = t} o r p) = zero-not-odd (generation m t) i o
 path-end {m} (suc n) F K l i (across {t = t} {v = v} o r p) =
     end-on n m t v o r
     (path-end n F K (falls m F K t l o r .0)

@@ -71,10 +71,10 @@ met-onto p g n x (c ∷ cs) F l K (inl e) =
     inl (ap (λ (y : ℕ). link n y) (sym e) ∙ M .back)
 met-onto p g n x (c ∷ cs) F l K (inr e) = inr (met-onto p g n x cs F l (K .1) e)
 
-onto-not-rim : (p g : ℕ) (n : Topology) (cs : List ℕ) → Manifold n → Children p g n cs → Onto cs boundary → ⊥
-onto-not-rim p g n [] F K e = e
-onto-not-rim p g n (c ∷ cs) F K (inl e) = omega (arith, F .slots, F .generationRoom, K .0 .inUse)
-onto-not-rim p g n (c ∷ cs) F K (inr e) = onto-not-rim p g n cs F (K .1) e
+onto-not-boundary : (p g : ℕ) (n : Topology) (cs : List ℕ) → Manifold n → Children p g n cs → Onto cs boundary → ⊥
+onto-not-boundary p g n [] F K e = e
+onto-not-boundary p g n (c ∷ cs) F K (inl e) = omega (arith, F .slots, F .generationRoom, K .0 .inUse)
+onto-not-boundary p g n (c ∷ cs) F K (inr e) = onto-not-boundary p g n cs F (K .1) e
 
 -- What a cut and its flips bring.
 pub record CutResult (v g p r : ℕ) (m n : Topology) : Type 0 where
@@ -149,7 +149,7 @@ module _ (v g : ℕ) (cs : List ℕ) (p r : ℕ) (m one n : Topology) (F : Manif
       let o : Onto cs (link one (3 * t)) = C .into (3 * t) (omega arith) (omega arith) e in
       let M : Partnered one (3 * t) =
       partnered (C .manifold .linked (3 * t) (omega arith))
-      (λ z. onto-not-rim (m .vertices) g one cs (C .manifold) (C .children) (subst (Onto cs) z o)) in
+      (λ z. onto-not-boundary (m .vertices) g one cs (C .manifold) (C .children) (subst (Onto cs) z o)) in
       onto-met one t cs (link one (3 * t)) (M .back) o
 
   back : (x : ℕ) → x < m .triangles → x ≢ v → Met x one cs → (link m (3 * x) ≢ boundary) × (link m (3 * x) / 3 ≡ v)
@@ -164,7 +164,7 @@ module _ (v g : ℕ) (cs : List ℕ) (p r : ℕ) (m one n : Topology) (F : Manif
       go o (yes q) L = q
       go o (no q) (inl z) =
           absurd
-          (onto-not-rim (m .vertices) g one cs (C .manifold) (C .children)
+          (onto-not-boundary (m .vertices) g one cs (C .manifold) (C .children)
           (subst (Onto cs) (C .links (3 * x) (omega arith) (omega arith) q ∙ z) o))
       go o (no q) (inr M) =
           let a : Among cs (link m (3 * x) / 3) =
@@ -271,17 +271,17 @@ module _ (v g : ℕ) (cs : List ℕ) (p r : ℕ) (m one n : Topology) (F : Manif
     shift = λ h l e. slide h l (not-v (h / 3) e) (ℕ-discrete (link m h / 3) v);
   }
     where
-      kid : (y : ℕ) → Among cs y → Dec (y < m .triangles) → Written m one y
-      kid y a (yes q) =
+      child-written : (y : ℕ) → Among cs y → Dec (y < m .triangles) → Written m one y
+      child-written y a (yes q) =
           inr (λ z. omega (arith, C .own, subst (λ (w : ℕ). generation one w ≡ generation m w) (C .mine y q a) z))
-      kid y a (no q) = inl (omega arith)
+      child-written y a (no q) = inl (omega arith)
 
       slide : (h : ℕ) → h < sides m → h / 3 ≢ v → Dec (link m h / 3 ≡ v)
           → (link one h ≡ link m h) ⊎ Written m one (link one h / 3)
       slide h l i (no q) = inl (C .links h l i q)
       slide h l i (yes q) =
           inr
-          (kid (link one h / 3) (onto-among cs (link one h) (C .into h l i q)) (decLt (link one h / 3) (m .triangles)))
+          (child-written (link one h / 3) (onto-among cs (link one h) (C .into h l i q)) (decLt (link one h / 3) (m .triangles)))
 
       up : (x : ℕ) → x < m .triangles → Dec (x ≡ v) → generation m x ≤ generation one x
       up x l (yes q) = rw q (omega (arith, C .own))

@@ -49,7 +49,7 @@ other v m n F N corners h k l i e c =
 
 -- ---- the face split
 
-module _ (v : ℕ) (m n : Topology) (F : Manifold m) (b : v < m .triangles) (flat : generation m v % 2 ≡ 0)
+module _ (v : ℕ) (m n : Topology) (F : Manifold m) (b : v < m .triangles) (even : generation m v % 2 ≡ 0)
     (S : Splits v m n) (N : Manifold n) where
   pub face-cut : Cut v (suc (generation m v)) (v ∷ m .triangles ∷ (m .triangles + 1) ∷ []) 1 0 m n
   face-cut =
@@ -217,7 +217,7 @@ module _ (v : ℕ) (w : Work) (F : Manifold (reached w)) (b : v < reached w .tri
   pub face-splitting : generation (reached w) v % 2 ≡ 0
       → Splitting v (suc (generation (reached w) v)) 1 0 w (faceSplit v w)
   unfolding faceSplit splitPlaced
-  face-splitting flat =
+  face-splitting even =
       let rc = R .corners in
       let rl = R .links in
       let rg = R .generations in
@@ -225,8 +225,8 @@ module _ (v : ℕ) (w : Work) (F : Manifold (reached w)) (b : v < reached w .tri
       let cs : List ℕ = v ∷ m .triangles ∷ (m .triangles + 1) ∷ [] in
       let S : Splits v m (split v m) = split-splits v m F b (omega arith) (omega arith) (omega arith) in
       let N : Manifold (split v m) =
-      split-manifold v m (split v m) F b flat S (omega arith) (omega arith) (omega arith) in
-      let C = face-cut v m (split v m) F b flat S N in
+      split-manifold v m (split v m) F b even S (omega arith) (omega arith) (omega arith) in
+      let C = face-cut v m (split v m) F b even S N in
       let A =
       settles-all (m .vertices) (suc (generation m v)) cs (withSplit (splitPlaced v (w .mesh)) w) N (C .children)
       (C .distinct) in
@@ -236,7 +236,7 @@ module _ (v : ℕ) (w : Work) (F : Manifold (reached w)) (b : v < reached w .tri
       record {
         result = result;
         splits = K .splits;
-        odd = omega (arith, K .odd, split-odds v m (split v m) b flat S);
+        odd = omega (arith, K .odd, split-odds v m (split v m) b even S);
         places = places-new (w .mesh) (faceSplit v w .mesh) _ (omega (arith, result .vertices)) (face-positions v w)
             (λ a. (
               centre-in-range (w .mesh) v 0 F b (omega arith) a,

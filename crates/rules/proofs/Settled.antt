@@ -9,7 +9,9 @@ use Rattle.rules.proofs.Bases.{Child, Settling, kept, flipped, settling
 use Rattle.rules.proofs.Edges.{boundarySides, settling-boundary}
 use Rattle.rules.proofs.Manifold.{Manifold, BasesMeetIn}
 use Rattle.rules.proofs.Past.{Past, past-same, past-on}
-use Rattle.rules.proofs.Settling.{Same, settling-child, settling-bases, settling-same, settling-past, settling-generation, settling-flips, settling-waits, Follow, settling-follow, settling-spread, settling-meets}
+use Rattle.rules.proofs.Settling.{Same, settling-child, settling-bases, settling-same, settling-past}
+use Rattle.rules.proofs.Settling.{settling-generation, settling-flips, settling-waits, Follow, settling-follow}
+use Rattle.rules.proofs.Settling.{settling-spread, settling-meets, same-all}
 use Rattle.rules.proofs.Sides.{renameTwo, rename-a, rename-b, rename-else}
 use Rattle.rules.specs.Promises.{Still, Written}
 use Rattle.rules.specs.Tables.{Topology, sides, boundary, link, generation}
@@ -83,9 +85,6 @@ same-on m k n a b = record {
   generations = b .generations ∙ a .generations;
 }
 
-same-all : (m : Topology) → Same m m
-same-all m = record { vertices = refl; triangles = refl; corners = refl; links = refl; generations = refl }
-
 pub settled-same : {cs : List ℕ} {m n : Topology} → Settled cs m n → Same m n
 settled-same (done {m = m}) = same-all m
 settled-same (then {c = c} {m = m} {k = k} {n = n} o s) = same-on m k n (settling-same c m k o) (settled-same s)
@@ -108,9 +107,9 @@ settled-past b (then {c = c} {m = m} {k = k} o s) i =
     past-on (settling-past c b m k o i) (settled-past b s (omega (arith, settling-same c m k o .triangles)))
 
 -- A triangle of another generation is left.
-gen-on : (p g c x : ℕ) (m k n : Topology) → Child p g c m → Settling c m k → generation m x ≢ g
+generation-on : (p g c x : ℕ) (m k n : Topology) → Child p g c m → Settling c m k → generation m x ≢ g
     → (generation k x ≢ g → generation n x ≡ generation k x) → generation n x ≡ generation m x
-gen-on p g c x m k n C o e ih =
+generation-on p g c x m k n C o e ih =
     let a : generation k x ≡ generation m x = settling-generation c x m k o (λ q. e (q ∙ C .generations)) in
     ih (λ q. e (sym a ∙ q)) ∙ a
 
@@ -118,7 +117,7 @@ pub settled-generation : (p g x : ℕ) {cs : List ℕ} {m n : Topology} → Sett
     → Distinct cs → generation m x ≢ g → generation n x ≡ generation m x
 settled-generation p g x done K D e = refl
 settled-generation p g x (then {c = c} {cs = cs} {m = m} {k = k} {n = n} o s) K D e =
-    gen-on p g c x m k n (K .0) o e
+    generation-on p g c x m k n (K .0) o e
     (settled-generation p g x s (children-on p g c m k cs o (K .0) (K .1) (D .0)) (D .1))
 
 -- A generation stays, or is one above the children's.
@@ -181,16 +180,16 @@ moved-on : (p g c x : ℕ) (m k n : Topology) (cs : List ℕ) → Child p g c m 
     → generation n x ≢ generation m x → Among (c ∷ cs) x ⊎ Met x m (c ∷ cs)
 moved-on p g c x m k n cs C D w o i ih ne = go (settling-moves c x m k o)
   where
-    og : generation k x % 2 ≡ 1 → Among cs x ⊎ Met x k cs → Among (c ∷ cs) x ⊎ Met x m (c ∷ cs)
-    og j (inl a) = inl (inr a)
-    og j (inr a) = inr (inr (met-back p g c x m k cs o C D w j a))
+    later : generation k x % 2 ≡ 1 → Among cs x ⊎ Met x k cs → Among (c ∷ cs) x ⊎ Met x m (c ∷ cs)
+    later j (inl a) = inl (inr a)
+    later j (inr a) = inr (inr (met-back p g c x m k cs o C D w j a))
 
     go : (generation k x ≡ generation m x) ⊎ ((x ≡ c) ⊎ (link m (3 * c) ≡ 3 * x)) → Among (c ∷ cs) x ⊎ Met x m (c ∷ cs)
     go (inr (inl e)) = inl (inl e)
     go (inr (inr e)) = inr (inl e)
     go (inl e) =
         let j : generation k x % 2 ≡ 1 = ap (λ (y : ℕ). y % 2) e ∙ i in
-        og j (ih (λ q. ne (q ∙ e)) j)
+        later j (ih (λ q. ne (q ∙ e)) j)
 
 pub settled-moved : (p g x : ℕ) {cs : List ℕ} {m n : Topology} → Settled cs m n → Children p g m cs → Distinct cs
     → generation n x ≢ generation m x → generation m x % 2 ≡ 1 → Among cs x ⊎ Met x m cs

@@ -19,15 +19,15 @@ module _ (s u : ℕ) (m n : Topology) (B : BasesMeet s u m) (S : Flips s u m n) 
   -- A base after the flip was one before, of a third triangle.
   pub still-base : (k : ℕ) → Base n k → (k / 3 ≢ s) × (k / 3 ≢ u) × Base m k
   still-base k b =
-      let i : k / 3 ≢ s = λ e. go (subst (λ (x : ℕ). generation n x % 2 ≡ 1) e (b .1)) in
-      let j : k / 3 ≢ u = λ e. og (subst (λ (x : ℕ). generation n x % 2 ≡ 1) e (b .1)) in
+      let i : k / 3 ≢ s = λ e. even-s (subst (λ (x : ℕ). generation n x % 2 ≡ 1) e (b .1)) in
+      let j : k / 3 ≢ u = λ e. even-u (subst (λ (x : ℕ). generation n x % 2 ≡ 1) e (b .1)) in
       (i, j, (b .0, subst (λ (x : ℕ). x % 2 ≡ 1) (S .generations (k / 3) i j) (b .1)))
     where
-      go : generation n s % 2 ≡ 1 → ⊥
-      go q = omega (arith, S .generationS, B .odd)
+      even-s : generation n s % 2 ≡ 1 → ⊥
+      even-s q = omega (arith, S .generationS, B .odd)
 
-      og : generation n u % 2 ≡ 1 → ⊥
-      og q = omega (arith, S .generationU, B .odd)
+      even-u : generation n u % 2 ≡ 1 → ⊥
+      even-u q = omega (arith, S .generationU, B .odd)
 
   -- A link that does not lead into the two is an old one.
   far : (h : ℕ) → h < sides m → h / 3 ≢ s → h / 3 ≢ u → link n h / 3 ≢ s → link n h / 3 ≢ u → link n h ≡ link m h
@@ -43,8 +43,9 @@ module _ (s u : ℕ) (m n : Topology) (B : BasesMeet s u m) (S : Flips s u m n) 
       let e : link n h ≡ link m h = far h l i j (x .0) (x .1) in
       (e, subst (λ (k : ℕ). Base m k) e (x .2))
 
-  third : (p g c : ℕ) → Child p g s m → Child p g c m → c ≢ s → Child p g c n
-  third p g c C D ne =
+  -- Another child stays one.
+  other-child : (p g c : ℕ) → Child p g s m → Child p g c m → c ≢ s → Child p g c n
+  other-child p g c C D ne =
       let nu : c ≢ u = not-child p g s u c m B C D in
       let l = D .inUse in
       record {
@@ -88,7 +89,7 @@ module _ (s u : ℕ) (m n : Topology) (B : BasesMeet s u m) (S : Flips s u m n) 
 pub settling-child : (p g c d : ℕ) (m n : Topology) → Settling c m n → Child p g c m → Child p g d m → d ≢ c
     → Child p g d n
 settling-child p g c d m n (kept x) C D e = D
-settling-child p g c d m n (flipped u B S) C D e = third c u m n B S p g d C D e
+settling-child p g c d m n (flipped u B S) C D e = other-child c u m n B S p g d C D e
 
 pub settling-bases : (p g c : ℕ) (X : ℕ → Type 0) (m n : Topology) → Manifold m → Child p g c m → Settling c m n
     → BasesMeetIn (λ x. (x ≡ c) ⊎ X x) m → BasesMeetIn X n
@@ -116,14 +117,11 @@ pub record Same (m n : Topology) : Type 0 where
   pub links : length (n .links) ≡ length (m .links)
   pub generations : length (n .generations) ≡ length (m .generations)
 
+pub same-all : (m : Topology) → Same m m
+same-all m = record { vertices = refl; triangles = refl; corners = refl; links = refl; generations = refl }
+
 pub settling-same : (c : ℕ) (m n : Topology) → Settling c m n → Same m n
-settling-same c m n (kept x) = record {
-  vertices = refl;
-  triangles = refl;
-  corners = refl;
-  links = refl;
-  generations = refl;
-}
+settling-same c m n (kept x) = same-all m
 settling-same c m n (flipped u B S) = record {
   vertices = S .vertices;
   triangles = S .triangles;

@@ -14,7 +14,7 @@ use Rattle.rules.specs.Sound.{OneFan, Turns, here, turn}
 use Rattle.rules.specs.Tables.{Topology, sides, next, previous, origin, target, boundary, link, rotate}
 use Rattle.rules.specs.Tables.{generation}
 
-module _ (t : ℕ) (m n : Topology) (F : Manifold m) (b : t < m .triangles) (flat : generation m t % 2 ≡ 0)
+module _ (t : ℕ) (m n : Topology) (F : Manifold m) (b : t < m .triangles) (even : generation m t % 2 ≡ 0)
     (S : Splits t m n) where
   r : ℕ → ℕ
   r = renameTwo (3 * t + 1) (3 * m .triangles) (3 * t + 2) (3 * (m .triangles + 1))

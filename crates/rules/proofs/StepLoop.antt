@@ -55,7 +55,7 @@ module _ {m : Mesh} (R : StepFound m) where
       pub step-next : NextSplit i w
       step-next =
           let L = step-slots in
-          let g = M .todo i (omega arith) more in
+          let g = M .waiting i (omega arith) more in
           let o = R .closed .all 0 (R .sound .someTriangle) in
           let low = R .sound .generations 0 (R .sound .someTriangle) in
           let young = R .young in
