@@ -163,7 +163,8 @@ way (suc n) m F K t l i z =
         let f = falls m F K t l o e in
         let q : generation m (chainEndWithin n m (link m (3 * t) / 3)) % 2 ≡ 0 =
         rw (odd-test (generation m t) o, ne-eqb (link m (3 * t)) boundary e, chainEndWithin) at z in
-        rw (odd-test (generation m t) o, ne-eqb (link m (3 * t)) boundary e, chainOddWithin, chainEndWithin) (across {t = t} o e (w (f .0) (omega (arith, f .1)) q))
+        rw (odd-test (generation m t) o, ne-eqb (link m (3 * t)) boundary e, chainOddWithin, chainEndWithin)
+        (across {t = t} o e (w (f .0) (omega (arith, f .1)) q))
 
 -- ---- one step, seen from the chain
 

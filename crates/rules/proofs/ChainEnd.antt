@@ -55,7 +55,8 @@ module _ (m : Topology) (F : Manifold m) (K : BasesMeetIn nowhere m) where
           rw (even-test (generation m t) e, chainEndWithin)
           (rw (even-test (generation m t) e) (record { holds = λ x. absurd x; passes = not-even e }))
       go (boundaryHere o e) ih =
-          rw (odd-test (generation m t) o, ap (λ (x : ℕ). eqb x boundary) e, chainEndWithin) (rw (odd-test (generation m t) o) (record { holds = λ x. stops o e; passes = λ x. tt }))
+          rw (odd-test (generation m t) o, ap (λ (x : ℕ). eqb x boundary) e, chainEndWithin)
+          (rw (odd-test (generation m t) o) (record { holds = λ x. stops o e; passes = λ x. tt }))
       go (furtherOn o e) ih =
           let f = falls m F K t l o e in
           let d = ih (f .0) (omega (arith, f .1)) in

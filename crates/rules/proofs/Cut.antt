@@ -281,7 +281,8 @@ module _ (v g : ℕ) (cs : List ℕ) (p r : ℕ) (m one n : Topology) (F : Manif
       slide h l i (no q) = inl (C .links h l i q)
       slide h l i (yes q) =
           inr
-          (child-written (link one h / 3) (onto-among cs (link one h) (C .into h l i q)) (decLt (link one h / 3) (m .triangles)))
+          (child-written (link one h / 3) (onto-among cs (link one h) (C .into h l i q))
+          (decLt (link one h / 3) (m .triangles)))
 
       up : (x : ℕ) → x < m .triangles → Dec (x ≡ v) → generation m x ≤ generation one x
       up x l (yes q) = rw q (omega (arith, C .own))

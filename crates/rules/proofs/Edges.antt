@@ -163,9 +163,11 @@ split-boundary t m n F b S =
     let t₀ : boundaryBit n (3 * t) ≡ boundaryBit m (3 * t) = same (3 * t) (3 * t) (S .linksT .0) in
     let f₀ : boundaryBit n (3 * f) ≡ boundaryBit m (3 * t + 1) = same (3 * f) (3 * t + 1) (S .linksF .0) in
     let e₀ : boundaryBit n (3 * e) ≡ boundaryBit m (3 * t + 2) = same (3 * e) (3 * t + 2) (S .linksE .0) in
-    let c : total f (row (boundaryBit n)) + row (boundaryBit m) t ≡ total f (row (boundaryBit m)) + row (boundaryBit n) t =
+    let c : total f (row (boundaryBit n)) + row (boundaryBit m) t
+    ≡ total f (row (boundaryBit m)) + row (boundaryBit n) t =
     total-change f t (row (boundaryBit m)) (row (boundaryBit n)) b (λ x l i. far x l i) in
-    let d : total (n .triangles) (row (boundaryBit n)) ≡ total f (row (boundaryBit n)) + row (boundaryBit n) f + row (boundaryBit n) e =
+    let d : total (n .triangles) (row (boundaryBit n))
+    ≡ total f (row (boundaryBit n)) + row (boundaryBit n) f + row (boundaryBit n) e =
     ap (λ (x : ℕ). total x (row (boundaryBit n))) (S .triangles) ∙ total-two f (row (boundaryBit n)) in
     boundary-rows n ∙ omega (arith, boundary-rows m)
   where
@@ -205,7 +207,8 @@ flip-boundary s u m n F B S =
     let u₂ : boundaryBit n (3 * u + 2) ≡ boundaryBit m (3 * u + 2) = same (3 * u + 2) (3 * u + 2) (S .linksU .2) in
     let a₀ = linked-bit m (3 * s) (3 * u) (B .meet) (omega arith) in
     let b₀ = linked-bit m (3 * u) (3 * s) (meet-back s u m n F B S) (omega arith) in
-    let c : total f (row (boundaryBit n)) + row (boundaryBit m) s + row (boundaryBit m) u ≡ total f (row (boundaryBit m)) + row (boundaryBit n) s + row (boundaryBit n) u =
+    let c : total f (row (boundaryBit n)) + row (boundaryBit m) s + row (boundaryBit m) u
+    ≡ total f (row (boundaryBit m)) + row (boundaryBit n) s + row (boundaryBit n) u =
     total-change₂ f s u (row (boundaryBit m)) (row (boundaryBit n)) bs bu (B .differ) (λ x l i j. far x l i j) in
     let d : total (n .triangles) (row (boundaryBit n)) ≡ total f (row (boundaryBit n)) =
     ap (λ (x : ℕ). total x (row (boundaryBit n))) (S .triangles) in
@@ -247,4 +250,5 @@ no-boundary m e h l q =
 pub boundary-none : (m : Topology) → ((h : ℕ) → h < sides m → link m h ≢ boundary) → boundarySides m ≡ 0
 unfolding boundarySides
 boundary-none m n =
-    total-zero (3 * m .triangles) (λ h. bit (eqb (link m h) boundary)) (λ h l. bit-no (is-eq (link m h) boundary) (n h l))
+    total-zero (3 * m .triangles) (λ h. bit (eqb (link m h) boundary))
+    (λ h l. bit-no (is-eq (link m h) boundary) (n h l))

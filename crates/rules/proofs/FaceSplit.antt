@@ -116,7 +116,9 @@ module _ (v : ℕ) (m n : Topology) (F : Manifold m) (b : v < m .triangles) (eve
             (3 * v + 1) (3 * f) (3 * v + 2) (3 * e) (3 * v) (omega arith) (omega arith)))
             (λ q _. inr (inl (S .links h l i ∙ ap (renameTwo (3 * v + 1) (3 * f) (3 * v + 2) (3 * e)) q ∙ rename-a
             (3 * v + 1) (3 * f) (3 * v + 2) (3 * e))))
-            (λ q _. inr (inr (inl (S .links h l i ∙ ap (renameTwo (3 * v + 1) (3 * f) (3 * v + 2) (3 * e)) q ∙ rename-b (3 * v + 1) (3 * f) (3 * v + 2) (3 * e) (omega arith)))))
+            (λ q _. inr (inr (inl
+            (S .links h l i ∙ ap (renameTwo (3 * v + 1) (3 * f) (3 * v + 2) (3 * e)) q
+            ∙ rename-b (3 * v + 1) (3 * f) (3 * v + 2) (3 * e) (omega arith)))))
             (λ k x _ y. absurd (x y)) (link m h) refl;
         bases =
             λ h l x. by-slot v f (n .triangles)
@@ -190,7 +192,8 @@ settle-positions s w = go (isBase m (link m (3 * s)))
 -- A face split places its vertex at the centre, and no other.
 pub face-positions : (t : ℕ) (w : Work)
     → faceSplit t w .mesh .positions
-    ≡ putThree (reached w .vertices) (centre (w .mesh) t 0, centre (w .mesh) t 1, centre (w .mesh) t 2) (w .mesh .positions)
+    ≡ putThree (reached w .vertices) (centre (w .mesh) t 0, centre (w .mesh) t 1, centre (w .mesh) t 2)
+    (w .mesh .positions)
 unfolding faceSplit splitPlaced
 face-positions t w = simp settle-positions
 
@@ -240,8 +243,7 @@ module _ (v : ℕ) (w : Work) (F : Manifold (reached w)) (b : v < reached w .tri
         places = places-new (w .mesh) (faceSplit v w .mesh) _ (omega (arith, result .vertices)) (face-positions v w)
             (λ a. (
               centre-in-range (w .mesh) v 0 F b (omega arith) a,
-              centre-in-range (w .mesh) v 1 F b
-                  (omega arith) a,
+              centre-in-range (w .mesh) v 1 F b (omega arith) a,
               centre-in-range (w .mesh) v 2 F b (omega arith) a,
             ));
       }

@@ -297,15 +297,13 @@ module _ (s u : ℕ) (m n : Topology) (F : Manifold m) (B : BasesMeet s u m) (S 
           3 * u + 2,
           omega arith,
           sym (S .cornersS .1) ∙ q,
-          rw (r-else (3 * u + 2) (omega arith) (omega arith))
-              (go-on here (rotate₂ n u ∙ S .linksU .1) (omega arith)),
+          rw (r-else (3 * u + 2) (omega arith) (omega arith)) (go-on here (rotate₂ n u ∙ S .linksU .1) (omega arith)),
         )),
         (λ q. (
           3 * s + 2,
           omega arith,
           sym (S .cornersS .2) ∙ q,
-          rw (r-else (3 * s + 2) (omega arith) (omega arith))
-              here,
+          rw (r-else (3 * s + 2) (omega arith) (omega arith)) here,
         )),
       ) (
         (λ q. (3 * u, omega arith, sym (S .cornersU .0) ∙ q, rw (r-else (3 * u) (omega arith) (omega arith)) here)),
@@ -313,23 +311,20 @@ module _ (s u : ℕ) (m n : Topology) (F : Manifold m) (B : BasesMeet s u m) (S 
           3 * s + 2,
           omega arith,
           sym (S .cornersU .1) ∙ q,
-          rw (r-else (3 * s + 2) (omega arith) (omega arith))
-              (go-on here (rotate₂ n s ∙ S .linksS .1) (omega arith)),
+          rw (r-else (3 * s + 2) (omega arith) (omega arith)) (go-on here (rotate₂ n s ∙ S .linksS .1) (omega arith)),
         )),
         (λ q. (
           3 * u + 2,
           omega arith,
           sym (S .cornersU .2) ∙ q,
-          rw (r-else (3 * u + 2) (omega arith) (omega arith))
-              here,
+          rw (r-else (3 * u + 2) (omega arith) (omega arith)) here,
         )),
       )
       (λ h l i j q. (
         h,
         l,
         sym (S .corners h i j) ∙ q,
-        subst (λ (x : ℕ). Turns n x h)
-            (sym (r-else h (omega arith) (omega arith))) here,
+        subst (λ (x : ℕ). Turns n x h) (sym (r-else h (omega arith) (omega arith))) here,
       ))
 
   -- A flip keeps a manifold one.

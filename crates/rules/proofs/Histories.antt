@@ -106,7 +106,8 @@ load-holds bytes m a (refused z) h = rw (ne-eqb (loadRefusal bytes m) 0 z) h
 pub keeps : (c : Call) (m : Mesh) → Keeps c m
 keeps (loads bytes) m = record { holds = λ a. load-holds bytes m a (load-judged bytes m) }
 keeps (refines t) m = record {
-  holds = λ a. judged-keeps a (refine-judged t m) (λ z. holds-on a (refined-stays (found-refined (refine-found t m z))));
+  holds = λ a.
+      judged-keeps a (refine-judged t m) (λ z. holds-on a (refined-stays (found-refined (refine-found t m z))));
 }
 keeps steps m = record {
   holds = λ a. judged-keeps a (whole-step-judged m) (λ z. holds-on a (step-stays (found-step (step-found m z))));

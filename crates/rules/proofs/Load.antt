@@ -108,7 +108,8 @@ module _ (c : Cage) (m : Mesh) (A : TablesAgree m)
   target-is : (h : ℕ) → h < 3 * c .triangles → target (loaded c m .topology) h ≡ c .corner (next h)
   target-is h l = loaded-loads .corners (next h) (next-lt h (c .triangles) l)
 
-  opposite-partnered : SidesDiffer c → (h k : ℕ) → h < 3 * c .triangles → link (loaded c m .topology) h ≡ k → Opposite c h k
+  opposite-partnered : SidesDiffer c → (h k : ℕ) → h < 3 * c .triangles → link (loaded c m .topology) h ≡ k
+      → Opposite c h k
       → Partnered (loaded c m .topology) h
   unfolding loaded
   opposite-partnered D h k l e O =

@@ -1,5 +1,4 @@
--- Different numbers that pass a test: no more than all that pass, and as many only where each that passes is among
--- them.
+-- Different numbers that pass a test: no more than all that pass, and as many only where they are all of them.
 use mathlib.Core.Path.{_≡_, refl, sym, _∙_, subst}
 use mathlib.Core.Bool.{Bool, true, false}
 use Prim.Native.Nat.{ℕ, zero, suc, _≤_, _<_}

@@ -7,7 +7,8 @@ use lib.ListN.{replicate, drop}
 use Rattle.rules.proofs.Computing.{computing, fresh, bytes, tetrahedron}
 use Rattle.rules.proofs.Examples.{lineOf, triangleOf, pointOf}
 use Rattle.rules.proofs.Refusals.{refusalAfter, cageAtOrigin, triangle}
-use Rattle.rules.specs.History.{Call, loads, refines, steps, asksRing, asksPosition, after, outcomes, outcome, nothing, cage, lastLoad, edges}
+use Rattle.rules.specs.History.{Call, loads, refines, steps, asksRing, asksPosition, after, outcomes, outcome}
+use Rattle.rules.specs.History.{nothing, cage, lastLoad, edges}
 use Rattle.rules.specs.Numbers.{nearestThird, halfUp}
 use Rattle.rules.specs.Tables.{Mesh, topologyOf, meshOf, link, generation}
 

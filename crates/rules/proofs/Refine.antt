@@ -75,8 +75,7 @@ module _ (t : ℕ) (m : Mesh) (S : Sound m) (b : t < m .topology .triangles) (yo
                 X .triangles,
                 X .boundaryCount,
                 edges-boundary (m .topology) F,
-                edges-boundary (reached w)
-                    (X .manifold),
+                edges-boundary (reached w) (X .manifold),
               );
           rises = X .rises;
           oddByOne = X .oddByOne;
@@ -123,8 +122,8 @@ module _ (t : ℕ) (m : Mesh) (S : Sound m) (b : t < m .topology .triangles) (yo
         let z = boundary-none-of (chainEnd (m .topology) t) x in
         subst (λ (q : ℕ). Refined t (splitsOf (m .topology) t) q m (refine t (atFirst m))) z
         (refine-path (chainOdd (m .topology) t) (chainEnd (m .topology) t) p x R (omega (arith, R .vertices)))
-        -- The chain counts its odd triangles, which are at most half of the generations up to t's.
 
+    -- The chain counts its odd triangles, which are at most half of the generations up to t's.
     module _ (e : generation (m .topology) (chainEnd (m .topology) t) % 2 ≡ 0) where
       chain-path : Path (m .topology) t (chainEnd (m .topology) t) (chainOdd (m .topology) t)
       unfolding F K

@@ -6,7 +6,8 @@ use native.Mathlib.Omega.{arith}
 use lib.ListN.{length}
 use Rattle.rules.proofs.Bases.{reached}
 use Rattle.rules.proofs.Carried.{RefineFound}
-use Rattle.rules.proofs.Chain.{Path, ends, across, path-end, path-use, topOf, path-top, path-short, path-fit, way}
+use Rattle.rules.proofs.Chain.{Path, ends, across, path-end, path-use, topOf, path-top, path-short, path-fit}
+use Rattle.rules.proofs.Chain.{way}
 use Rattle.rules.proofs.FaceSplit.{Room, Splitting, face-splitting}
 use Rattle.rules.proofs.Manifold.{Manifold, BasesMeetIn}
 use Rattle.rules.proofs.Raise.{Shorter, shortens, raise-stops, raise-splits, room-first, room-rest}
@@ -16,7 +17,8 @@ use Rattle.rules.proofs.Runs.{Splittable, isEven}
 use Rattle.rules.proofs.Settled.{nowhere}
 use Rattle.rules.specs.Calls.{splitsOf}
 use Rattle.rules.specs.Conditions.{RoomFor}
-use Rattle.rules.specs.Split.{Work, atFirst, flip, withFlip, settle, splitPlaced, withSplit, faceSplit, chainEnd, chainOdd, raise, refine}
+use Rattle.rules.specs.Split.{Work, atFirst, flip, withFlip, settle, splitPlaced, withSplit, faceSplit, chainEnd}
+use Rattle.rules.specs.Split.{chainOdd, raise, refine}
 use Rattle.rules.specs.Tables.{Topology, Mesh, TablesAgree, withTopology, link, generation, isBase, vertexSlots}
 
 -- k face splits, each at the end of the base chain of t.
@@ -59,7 +61,8 @@ path-young : {m : Topology} {t v k : ℕ} → Manifold m → BasesMeetIn nowhere
 path-young F K l (ends e) = omega arith
 path-young {m} {v = v} F K l (across {t = t} o r p) = below (path-fit p) (path-top {t = t} F K l o r refl p)
   where
-    below : (x : Splittable m v) → ((x : Splittable m v) → topOf m v x ≤ generation m t) → generation m v ≤ generation m t
+    below : (x : Splittable m v) → ((x : Splittable m v) → topOf m v x ≤ generation m t)
+        → generation m v ≤ generation m t
     below (isEven e) f = let h = f (isEven e) in omega arith
 
 pub ahead-end : {k g t : ℕ} {w : Work} → Ahead (suc k) g t w → End g (chainEnd (reached w) t) (reached w)
@@ -101,7 +104,8 @@ ahead-on {k} {g} {t} {w} A =
     let E = ahead-end A in
     let S = ahead-splitting A .result in
     let L = A .rising .1 in
-    let s = shortens v _ _ _ m x (A .manifold) (A .basesMeet) (E .inUse) (isEven (E .even)) S (A .inUse) refl (L .path) in
+    let s =
+    shortens v _ _ _ m x (A .manifold) (A .basesMeet) (E .inUse) (isEven (E .even)) S (A .inUse) refl (L .path) in
     let l : t < x .triangles = omega (arith, S .triangles, A .inUse) in
     record {
       manifold = S .manifold;

@@ -1,4 +1,4 @@
--- Sound meshes are the manifolds with agreeing tables in which no two bases meet: the five kinds traded for levels, and back.
+-- Sound meshes are the manifolds with agreeing tables in which no two bases meet: the five kinds traded for levels.
 use mathlib.Core.Path.{_≡_, sym, subst}
 use mathlib.Core.Logic.{_⊎_, inl, inr}
 use Prim.Native.Nat.{ℕ, _*_, _/_, _%_, _≤_, _<_}

@@ -85,7 +85,8 @@ module _ (m : Topology) (G : Glued m) (v s : ℕ) (l : List ℕ) (S : Starts m v
   inner-length : ¬ OnBoundary m v → length (neighbours m l) ≡ triangleCount m v
   inner-length n =
       let a = neighbours-count (length l - 1) last-side in
-      let b = bit-no (is-eq (rotate m (sideAt l (length l - 1))) boundary) (λ q. n (to-boundary (length l - 1) last-side q)) in
+      let b =
+      bit-no (is-eq (rotate m (sideAt l (length l - 1))) boundary) (λ q. n (to-boundary (length l - 1) last-side q)) in
       omega arith
 
   outer-length : OnBoundary m v → length (neighbours m l) ≡ triangleCount m v + 1
@@ -112,7 +113,8 @@ ring-of m G v f =
       inUse = W .inUse;
       turns = W .turns;
       ends = W .ends;
-      endsAtBoundary = λ i e. (to-boundary m G v s (fan m v) S W (M .all) i e, of-boundary m G v s (fan m v) S W (M .all) i e);
+      endsAtBoundary = λ i e.
+          (to-boundary m G v s (fan m v) S W (M .all) i e, of-boundary m G v s (fan m v) S W (M .all) i e);
       meets = M .all;
       once = W .once;
       entries = neighbours-at m (fan m v);

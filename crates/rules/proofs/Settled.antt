@@ -232,7 +232,10 @@ still-on m k n A B = record {
       let g = A .grows in
       B .corners h (omega arith) (late (h / 3) (omega arith) e) ∙ A .corners h l (early (h / 3) (omega arith) e);
   links = λ h l e f. go h l e f;
-  shift = λ h l e. let g = A .grows in moves h (A .shift h l (early (h / 3) (omega arith) e)) (B .shift h (omega arith) (late (h / 3) (omega arith) e));
+  shift = λ h l e.
+      let g = A .grows in
+      moves h (A .shift h l (early (h / 3) (omega arith) e))
+      (B .shift h (omega arith) (late (h / 3) (omega arith) e));
 }
   where
     early-written : (y : ℕ) → Dec (m .triangles ≤ y) → Written m k y → Written m n y

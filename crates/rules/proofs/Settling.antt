@@ -63,8 +63,7 @@ module _ (s u : ℕ) (m n : Topology) (B : BasesMeet s u m) (S : Flips s u m n) 
               arith,
               D .other (y .1),
               ap (λ (z : ℕ). origin m (3 * (z / 3) + 2)) (y .0),
-              S .corners (3 * k + 2)
-                  (omega arith) (omega arith),
+              S .corners (3 * k + 2) (omega arith) (omega arith),
             );
       }
 
@@ -104,7 +103,8 @@ settling-bases p g c X m n F C (kept no-base) K = λ h l b d. go h l b d (K h l 
     go h l b d (inl (inr q)) = inl q
     go h l b d (inr (inl q)) =
         let e : link m h ≡ 3 * c = omega (arith, d .0) in
-        let M : Partnered m h = partnered (F .linked h l) (λ w. boundary-not-base m F (subst (λ (x : ℕ). Base m x) w d)) in
+        let M : Partnered m h =
+        partnered (F .linked h l) (λ w. boundary-not-base m F (subst (λ (x : ℕ). Base m x) w d)) in
         let f : link m (3 * c) ≡ h = ap (λ (x : ℕ). link m x) (sym e) ∙ M .back in
         absurd (no-base (subst (λ (x : ℕ). Base m x) (sym f) b))
     go h l b d (inr (inr q)) = inr q
@@ -181,8 +181,7 @@ pub settling-follow : (c x t : ℕ) (m n : Topology) → Manifold m → Settling
 settling-follow c x t m n F (kept y) l e f = f
 settling-follow c x t m n F (flipped u B S) l e f = (
   λ q. gone (ℕ-discrete (link m (3 * x)) (3 * c + 1)) (ℕ-discrete (link m (3 * x)) (3 * u + 1)) q,
-  go
-      (ℕ-discrete (link n (3 * x) / 3) c) (ℕ-discrete (link n (3 * x) / 3) u),
+  go (ℕ-discrete (link n (3 * x) / 3) c) (ℕ-discrete (link n (3 * x) / 3) u),
 )
   where
     xc : x ≢ c
@@ -202,8 +201,7 @@ settling-follow c x t m n F (flipped u B S) l e f = (
           F .slots,
           F .generationRoom,
           B .useU,
-          ap
-              (renameTwo (3 * c + 1) (3 * u) (3 * u + 1) (3 * c)) y ∙ rename-a (3 * c + 1) (3 * u) (3 * u + 1) (3 * c),
+          ap (renameTwo (3 * c + 1) (3 * u) (3 * u + 1) (3 * c)) y ∙ rename-a (3 * c + 1) (3 * u) (3 * u + 1) (3 * c),
         )
     gone (no y) (yes z) q =
         omega (

@@ -167,22 +167,16 @@ module _ (t : ℕ) (m n : Topology) (F : Manifold m) (b : t < m .triangles) (eve
       let ca = F .distinct (3 * t + 2) (omega arith) in
       by-new (λ k. origin n k ≢ target n k) (
         omega (arith, S .cornersT .0, S .cornersT .1, target₀ n t, target₀ m t),
-        omega
-            (arith, S .cornersT .1, S .cornersT .2, target₁ n t),
-        omega
-            (arith, S .cornersT .2, S .cornersT .0, target₂ n t),
+        omega (arith, S .cornersT .1, S .cornersT .2, target₁ n t),
+        omega (arith, S .cornersT .2, S .cornersT .0, target₂ n t),
       ) (
         omega (arith, S .cornersF .0, S .cornersF .1, target₀ n f, target₁ m t),
-        omega
-            (arith, S .cornersF .1, S .cornersF .2, target₁ n f),
-        omega
-            (arith, S .cornersF .2, S .cornersF .0, target₂ n f),
+        omega (arith, S .cornersF .1, S .cornersF .2, target₁ n f),
+        omega (arith, S .cornersF .2, S .cornersF .0, target₂ n f),
       ) (
         omega (arith, S .cornersE .0, S .cornersE .1, target₀ n e, target₂ m t),
-        omega
-            (arith, S .cornersE .1, S .cornersE .2, target₁ n e),
-        omega
-            (arith, S .cornersE .2, S .cornersE .0, target₂ n e),
+        omega (arith, S .cornersE .1, S .cornersE .2, target₁ n e),
+        omega (arith, S .cornersE .2, S .cornersE .0, target₂ n e),
       )
       (λ h l i q. F .distinct h l (sym (S .corners h l i) ∙ q ∙ S .corners (next h) (omega arith) (omega arith)))
 
@@ -229,8 +223,7 @@ module _ (t : ℕ) (m n : Topology) (F : Manifold m) (b : t < m .triangles) (eve
           3 * t + 1,
           omega arith,
           sym (S .cornersT .1) ∙ q,
-          rw r₁
-              (go-on here (rotate₀ n f ∙ S .linksF .2) (omega arith)),
+          rw r₁ (go-on here (rotate₀ n f ∙ S .linksF .2) (omega arith)),
         )),
         (λ q. absurd (omega (arith, S .cornersT .2))),
       ) (
@@ -239,8 +232,7 @@ module _ (t : ℕ) (m n : Topology) (F : Manifold m) (b : t < m .triangles) (eve
           3 * t + 2,
           omega arith,
           sym (S .cornersF .1) ∙ q,
-          rw r₂
-              (go-on here (rotate₀ n e ∙ S .linksE .2) (omega arith)),
+          rw r₂ (go-on here (rotate₀ n e ∙ S .linksE .2) (omega arith)),
         )),
         (λ q. absurd (omega (arith, S .cornersF .2))),
       ) (
@@ -249,8 +241,7 @@ module _ (t : ℕ) (m n : Topology) (F : Manifold m) (b : t < m .triangles) (eve
           3 * t,
           omega arith,
           sym (S .cornersE .1) ∙ q,
-          rw r₀
-              (go-on here (rotate₀ n t ∙ S .linksT .2) (omega arith)),
+          rw r₀ (go-on here (rotate₀ n t ∙ S .linksT .2) (omega arith)),
         )),
         (λ q. absurd (omega (arith, S .cornersE .2))),
       )
@@ -258,8 +249,7 @@ module _ (t : ℕ) (m n : Topology) (F : Manifold m) (b : t < m .triangles) (eve
         h,
         i,
         sym (S .corners h i j) ∙ q,
-        subst (λ (x : ℕ). Turns n x h)
-            (sym (r-else h (omega arith) (omega arith))) here,
+        subst (λ (x : ℕ). Turns n x h) (sym (r-else h (omega arith) (omega arith))) here,
       ))
 
   fan-old : (v : ℕ) → v < m .vertices → OneFan n v
@@ -277,7 +267,11 @@ module _ (t : ℕ) (m n : Topology) (F : Manifold m) (b : t < m .triangles) (eve
         inUse = omega (arith, S .triangles);
         out = S .cornersT .2;
         all = by-new (λ k. origin n k ≡ m .vertices → Turns n (3 * t + 2) k)
-            ((λ q. absurd (omega (arith, S .cornersT .0))), (λ q. absurd (omega (arith, S .cornersT .1))), (λ q. here)) (
+            (
+              (λ q. absurd (omega (arith, S .cornersT .0))),
+              (λ q. absurd (omega (arith, S .cornersT .1))),
+              (λ q. here),
+            ) (
               (λ q. absurd (omega (arith, S .cornersF .0))),
               (λ q. absurd (omega (arith, S .cornersF .1))),
               (λ q. go-on here (rotate₂ n t ∙ S .linksT .1) (omega arith)),

@@ -50,7 +50,8 @@ module _ (m : Mesh) (v k : ℕ) (three : k < 3) where
       go : Dec (v ≡ n) → (v < n → getD (moveVertices n m put) (3 * v + k) (pos 0) ≡ movedCoordinate m v k)
           → getD (moveVertices n m put) (3 * v + k) (pos 0) ≡ movedCoordinate m v k
       go (yes e) ih =
-          move-else n m put (3 * v + k) (omega arith) ∙ rw e (put-at l n (movedCoordinate m n) (pos 0) (omega arith) k three)
+          move-else n m put (3 * v + k) (omega arith)
+          ∙ rw e (put-at l n (movedCoordinate m n) (pos 0) (omega arith) k three)
       go (no e) ih = ih (omega arith)
 
 -- ---- sums over a ring
@@ -67,7 +68,8 @@ sum-range m k [] a = (at-most (neg (nat 0)) (nat 0) (omega arith), at-most (nat 
 sum-range m k (v ∷ vs) a = go (a .0) (sum-range m k vs (a .1))
   where
     go : InRange (coordinate m v k)
-        → (negℤ (pos (length vs * maxCoordinate)) ≤ℤ sumOver m k vs) × (sumOver m k vs ≤ℤ pos (length vs * maxCoordinate))
+        → (negℤ (pos (length vs * maxCoordinate)) ≤ℤ sumOver m k vs)
+        × (sumOver m k vs ≤ℤ pos (length vs * maxCoordinate))
         → (negℤ (pos (suc (length vs) * maxCoordinate)) ≤ℤ (coordinate m v k +ℤ sumOver m k vs))
         × ((coordinate m v k +ℤ sumOver m k vs) ≤ℤ pos (suc (length vs) * maxCoordinate))
     go r s =
@@ -78,8 +80,7 @@ sum-range m k (v ∷ vs) a = go (a .0) (sum-range m k vs (a .1))
         let b₀ = at-most-gives (neg (nat (length vs * maxCoordinate))) t (s .0) in
         let b₁ = at-most-gives t (nat (length vs * maxCoordinate)) (s .1) in (
           at-most (neg (nat (suc (length vs) * maxCoordinate))) (add c t) (omega arith),
-          at-most (add c t)
-              (nat (suc (length vs) * maxCoordinate)) (omega arith),
+          at-most (add c t) (nat (suc (length vs) * maxCoordinate)) (omega arith),
         )
 
 -- A vertex in range whose ring entries are in range moves to a place in range.

@@ -9,7 +9,8 @@ use lib.ListN.{length}
 use Rattle.rules.proofs.Decide.{is-true, is-same}
 use Rattle.rules.proofs.SoundTest.{tables-agree-is, sound-is}
 use Rattle.rules.specs.Below.{any}
-use Rattle.rules.specs.Calls.{outcomeOf, zeroPoint, worked, unless, roomFor, closedEven, wholeStepRefusal, wholeStepCall}
+use Rattle.rules.specs.Calls.{outcomeOf, zeroPoint, worked, unless, roomFor, closedEven, wholeStepRefusal}
+use Rattle.rules.specs.Calls.{wholeStepCall}
 use Rattle.rules.specs.Ring.{ring}
 use Rattle.rules.specs.Sound.{Sound, isSound}
 use Rattle.rules.specs.Step.{wholeStep}

@@ -97,21 +97,27 @@ module _ (g : ℕ) (even : g % 2 ≡ 0) (d : Work) (F : Manifold (reached d)) (K
   unfolding centre
   centre-stays i k e l j M = rw (at 0 (omega arith), at 1 (omega arith), at 2 (omega arith))
     where
-      at : (n : ℕ) → n < 3 → coordinate (e .mesh) (origin (reached e) (3 * i + n)) k ≡ coordinate (d .mesh) (origin (reached d) (3 * i + n)) k
+      at : (n : ℕ) → n < 3
+          → coordinate (e .mesh) (origin (reached e) (3 * i + n)) k
+          ≡ coordinate (d .mesh) (origin (reached d) (3 * i + n)) k
       at n q =
           let c = F .corner (3 * i + n) (omega arith) in
           ap (λ (v : ℕ). coordinate (e .mesh) v k) (M .waitingCorners (3 * i + n) (omega arith) (omega arith))
           ∙ M .places .old (3 * origin (reached d) (3 * i + n) + k) (omega arith)
 
-  centres-on : (i : ℕ) (e : Work) → i < reached d .triangles → (M : Midway g i d e) → Places (e .mesh) (faceSplit i e .mesh)
-      → (t k : ℕ) → t < suc i → k < 3 → coordinate (faceSplit i e .mesh) (reached d .vertices + t) k ≡ centre (d .mesh) t k
+  centres-on : (i : ℕ) (e : Work) → i < reached d .triangles → (M : Midway g i d e)
+      → Places (e .mesh) (faceSplit i e .mesh)
+      → (t k : ℕ) → t < suc i → k < 3
+      → coordinate (faceSplit i e .mesh) (reached d .vertices + t) k ≡ centre (d .mesh) t k
   centres-on i e l M Q t k j q = go (ℕ-discrete t i)
     where
       go : Dec (t ≡ i) → coordinate (faceSplit i e .mesh) (reached d .vertices + t) k ≡ centre (d .mesh) t k
-      go (no n) = Q .old (3 * (reached d .vertices + t) + k) (omega (arith, M .vertices)) ∙ M .centres t k (omega arith) q
+      go (no n) =
+          Q .old (3 * (reached d .vertices + t) + k) (omega (arith, M .vertices)) ∙ M .centres t k (omega arith) q
       go (yes x) =
           let v : reached d .vertices + t ≡ reached e .vertices = omega (arith, M .vertices) in
-          let r : 3 * reached e .vertices + 3 ≤ length (e .mesh .positions) = omega (arith, P, M .vertices, M .places .size) in
+          let r : 3 * reached e .vertices + 3 ≤ length (e .mesh .positions) =
+          omega (arith, P, M .vertices, M .places .size) in
           ap (λ (u : ℕ). coordinate (faceSplit i e .mesh) u k) v
           ∙ ap (λ (p : List ℤ). getD p (3 * reached e .vertices + k) (pos 0)) (face-positions i e)
           ∙ put-at (e .mesh .positions) (reached e .vertices) (centre (e .mesh) i) (pos 0) r k q
@@ -124,7 +130,8 @@ module _ (g : ℕ) (even : g % 2 ≡ 0) (d : Work) (F : Manifold (reached d)) (K
       let gi : generation (reached e) i ≡ g = M .waiting i (omega arith) l in
       let X = face-splitting i e (M .manifold) (omega arith) (room-at i e l M) (omega arith) in
       let S = X .result in
-      let stays : (x : ℕ) → suc i ≤ x → x < reached d .triangles → generation (reached (faceSplit i e)) x ≡ generation (reached e) x =
+      let stays : (x : ℕ) → suc i ≤ x → x < reached d .triangles → generation (reached (faceSplit i e)) x
+      ≡ generation (reached e) x =
       λ x j k. let a = M .waiting x (omega arith) k in S .keeps x (omega arith) (omega arith) (omega arith) in
       record {
         manifold = S .manifold;

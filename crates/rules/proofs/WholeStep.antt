@@ -68,7 +68,8 @@ module _ (m : Mesh) (S : Sound m) (C : ClosedEven (m .topology)) (young : C .com
 
   moved-range : (v k : ℕ) → v < m .topology .vertices → k < 3 → InRange (movedCoordinate m v k)
   moved-range v k l i =
-      moved-coordinate-in-range m v k (S .range (3 * v + k) (omega arith)) (ring-coordinates S v l k i) (ring-some S v l)
+      moved-coordinate-in-range m v k (S .range (3 * v + k) (omega arith)) (ring-coordinates S v l k i)
+      (ring-some S v l)
 
   fits : 3 * m .topology .vertices ≤ length (w .mesh .positions)
   unfolding w g f
@@ -91,7 +92,8 @@ module _ (m : Mesh) (S : Sound m) (C : ClosedEven (m .topology)) (young : C .com
           (subst InRange (sym (moved-to (i / 3) (i % 3) q (omega arith))) (moved-range (i / 3) (i % 3) q (omega arith)))
       go (no q) =
           subst InRange (sym (move-else (m .topology .vertices) m (w .mesh .positions) i (omega arith)))
-          (M .places .range (let p = M .places .size in let v = M .vertices in let s = slots in omega arith) (S .range) i l)
+          (M .places .range (let p = M .places .size in let v = M .vertices in let s = slots in omega arith) (S .range)
+          i l)
 
   pub step-makes : StepMakes (C .common) m (wholeStep m)
   unfolding wholeStep w g f
