@@ -12,8 +12,8 @@ use Rattle.rules.proofs.CageTests.{sizes-fit-is, corners-fit-is, sides-differ-i
 use Rattle.rules.proofs.Decide.{Decides, is-true, is-false, is-same, when-true}
 use Rattle.rules.proofs.Fill.{length-fill, getD-fill}
 use Rattle.rules.proofs.Load.{matches-opposite, opposite-back, partner-matches, loaded-loads}
+use Rattle.rules.proofs.LoadTests.{load-by-tests}
 use Rattle.rules.specs.Promises.{Matches, only, alone}
-use Rattle.rules.proofs.LoadTests.{refusal-3, refusal-4, refusal-5, refusal-6, refusal-none}
 use Rattle.rules.proofs.Manifold.{Joined, pair}
 use Rattle.rules.proofs.SoundTest.{tables-agree-is}
 use Rattle.rules.proofs.Turning.{Glued}
@@ -100,7 +100,8 @@ sizes {bytes} {m} S = is-same (sizes-fit-is bytes m) (is-true S)
 
 module _ {bytes : List ℕ} {v f : ℕ} {origins : List ℕ} (R : Read bytes v f origins) where
   pub refuses-3 : cornersFit (decoded v f origins) ≡ false → Refuses bytes 3
-  refuses-3 k m A S = refusal-3 bytes m (agrees A) (sizes S) (sym (corners-fit-same (R .same)) ∙ k)
+  refuses-3 k m A S =
+      load-by-tests bytes m (agrees A) (sizes S) (sym (corners-fit-same (R .same)) ∙ k) refl refl refl
 
   in-range : coordinatesFit (cageOf bytes) ≡ all (3 * v) (coordinateFits bytes)
   unfolding coordinatesFit cageOf
@@ -108,7 +109,7 @@ module _ {bytes : List ℕ} {v f : ℕ} {origins : List ℕ} (R : Read bytes v f
 
   pub refuses-4 : cornersFit (decoded v f origins) ≡ true → all (3 * v) (coordinateFits bytes) ≡ false → Refuses bytes 4
   refuses-4 k r m A S =
-      refusal-4 bytes m (agrees A) (sizes S) (sym (corners-fit-same (R .same)) ∙ k) (in-range ∙ r)
+      load-by-tests bytes m (agrees A) (sizes S) (sym (corners-fit-same (R .same)) ∙ k) (in-range ∙ r) refl refl
 
 module _ {bytes : List ℕ} {v f : ℕ} {origins : List ℕ} (F : Fits bytes v f origins) where
   pub readable : Readable v f origins
@@ -129,7 +130,8 @@ module _ {bytes : List ℕ} {v f : ℕ} {origins : List ℕ} (F : Fits bytes v f
   differs d = sym (sides-differ-same (F .read .same)) ∙ is-same (sides-differ-is (decoded v f origins)) d
 
   pub refuses-5 : ¬ SidesDiffer (decoded v f origins) → Refuses bytes 5
-  refuses-5 n m A S = refusal-5 bytes m (agrees A) (sizes S) corners coordinates (differs (is-false n))
+  refuses-5 n m A S =
+      load-by-tests bytes m (agrees A) (sizes S) corners coordinates (differs (is-false n)) refl
 
   module _ {partners : List ℕ} (M : Matched (decoded v f origins) partners) where
     pub in-use : CornersInUse v f origins partners
@@ -172,8 +174,8 @@ module _ {bytes : List ℕ} {v f : ℕ} {origins : List ℕ} (F : Fits bytes v f
 
     pub refuses-6 : TellsFans v f origins partners false → Refuses bytes 6
     refuses-6 t m A S =
-        refusal-6 bytes m (agrees A) (sizes S) corners coordinates (differs (is-true (M .differ))) (fans t m A S)
+        load-by-tests bytes m (agrees A) (sizes S) corners coordinates (differs (is-true (M .differ))) (fans t m A S)
 
     pub refuses-none : TellsFans v f origins partners true → Refuses bytes 0
     refuses-none t m A S =
-        refusal-none bytes m (agrees A) (sizes S) corners coordinates (differs (is-true (M .differ))) (fans t m A S)
+        load-by-tests bytes m (agrees A) (sizes S) corners coordinates (differs (is-true (M .differ))) (fans t m A S)

@@ -1,22 +1,25 @@
 -- The first refusal of a call, found test by test.
-use borrow.Author.Tests.{not-true, not-false, le-leb, lt-leb}
+use borrow.Author.Tests.{not-true, not-false, lt-leb}
 use mathlib.Core.Bool.{Bool, true, false, not}
 use mathlib.Core.List.{List, [], _∷_}
 use mathlib.Core.Logic.{_≢_}
-use mathlib.Core.Path.{_≡_, refl, sym, ap, _∙_}
-use Prim.Native.Nat.{ℕ, zero, suc, _+_, _*_, _≤_, _<_}
+use mathlib.Core.Path.{_≡_, refl, sym, _∙_}
+use Prim.Native.Nat.{ℕ, _+_, _*_, _<_}
 use native.Mathlib.Omega.{arith}
 use lib.Dec.{eqb, leb, ltb}
 use lib.ListN.{length}
+use Rattle.rules.proofs.CallRefusals.{no-vertex-room, load-judged}
 use Rattle.rules.proofs.Decide.{Decides}
+use Rattle.rules.proofs.FirstThatHolds.{refuses, carries, Judged, carried, refused}
 use Rattle.rules.proofs.SoundTest.{tables-agree-is, sound-is}
 use Rattle.rules.specs.Below.{any}
-use Rattle.rules.specs.Calls.{Test, _if_, firstOf, Outcome, unless, outcomeOf, zeroPoint, splitsOf, roomFor, worked, loadRefusal, loadCall, refineRefusal, refineCall, closedEven, wholeStepRefusal, positionRefusal, positionRead, positionCall}
-use Rattle.rules.specs.Cage.{cageOf, loaded}
+use Rattle.rules.specs.Calls.{Test, _if_, firstOf, Outcome, outcomeOf, zeroPoint, splitsOf, roomFor, worked, loadCall}
+use Rattle.rules.specs.Calls.{refineRefusal, refineCall, closedEven, wholeStepRefusal, positionRefusal, positionRead}
+use Rattle.rules.specs.Calls.{positionCall}
 use Rattle.rules.specs.Ring.{ring}
 use Rattle.rules.specs.Sound.{Sound, isSound}
 use Rattle.rules.specs.Split.{chainEnd, atFirst, refine}
-use Rattle.rules.specs.Tables.{Mesh, TablesAgree, tablesAgree, vertexSlots, triangleSlots, generation, odd}
+use Rattle.rules.specs.Tables.{Mesh, TablesAgree, tablesAgree, vertexSlots, generation, odd}
 
 -- Where one of the first two tests refuses, the later ones do not matter; where none does, they decide.
 two-kept : (a b : Bool) (rest : List Test) (r : ℕ) → r ≡ firstOf (1 if a ∷ 7 if b ∷ []) → r ≢ 0
@@ -73,28 +76,30 @@ module _ (t : ℕ) (m : Mesh) where
     unfolding refineRefusal rest
     passed = two-passed (not (tablesAgree m)) (not (isSound m)) rest r s z
 
-    pub refine-eight : leb (m .topology .triangles) t ≡ true → 8 ≡ refineRefusal t m
+    -- The refusal by the answers of the later tests. A test that was not made stands for itself.
+    by-tests : {a b d e : Bool} → leb (m .topology .triangles) t ≡ a → eqb (generation (m .topology) t) 20 ≡ b
+        → odd (generation (m .topology) (chainEnd (m .topology) t)) ≡ d → roomFor (splitsOf (m .topology) t) m ≡ e
+        → firstOf (8 if a ∷ 9 if b ∷ 10 if d ∷ 11 if not e ∷ []) ≡ refineRefusal t m
     unfolding rest
-    refine-eight a = sym (passed ∙ rw a refl)
+    by-tests a b d e = sym (passed ∙ rw (a, b, d, e) refl)
+
+    pub refine-eight : leb (m .topology .triangles) t ≡ true → 8 ≡ refineRefusal t m
+    refine-eight a = by-tests a refl refl refl
 
     module _ (a : leb (m .topology .triangles) t ≡ false) where
       pub refine-nine : eqb (generation (m .topology) t) 20 ≡ true → 9 ≡ refineRefusal t m
-      unfolding rest
-      refine-nine b = sym (passed ∙ rw (a, b) refl)
+      refine-nine b = by-tests a b refl refl
 
       module _ (b : eqb (generation (m .topology) t) 20 ≡ false) where
         pub refine-ten : odd (generation (m .topology) (chainEnd (m .topology) t)) ≡ true → 10 ≡ refineRefusal t m
-        unfolding rest
-        refine-ten d = sym (passed ∙ rw (a, b, d) refl)
+        refine-ten d = by-tests a b d refl
 
         module _ (d : odd (generation (m .topology) (chainEnd (m .topology) t)) ≡ false) where
           pub refine-eleven : roomFor (splitsOf (m .topology) t) m ≡ false → 11 ≡ refineRefusal t m
-          unfolding rest
-          refine-eleven e = sym (passed ∙ rw (a, b, d, e) refl)
+          refine-eleven e = by-tests a b d e
 
           pub refine-none : roomFor (splitsOf (m .topology) t) m ≡ true → 0 ≡ refineRefusal t m
-          unfolding rest
-          refine-none e = sym (passed ∙ rw (a, b, d, e) refl)
+          refine-none e = by-tests a b d e
 
 -- ---- whole step
 
@@ -137,39 +142,21 @@ module _ (v : ℕ) (m : Mesh) where
 
 -- ---- room
 
-module _ (s : ℕ) (m : Mesh) (v : m .topology .vertices + s ≤ vertexSlots m) where
-  pub room-by-triangles : leb (m .topology .triangles + 2 * s) (triangleSlots m) ≡ roomFor s m
-  room-by-triangles = let e : leb (m .topology .vertices + s) (vertexSlots m) ≡ true = le-leb _ _ v in rw e refl
-
 pub no-room : (s : ℕ) (m : Mesh) → vertexSlots m < m .topology .vertices + s
     → leb (m .topology .vertices + s) (vertexSlots m) ≡ roomFor s m
-no-room s m v = let e : leb (m .topology .vertices + s) (vertexSlots m) ≡ false = lt-leb _ _ v in rw e refl
+no-room s m v = lt-leb _ _ v ∙ no-vertex-room s m v
 
 -- ---- outcomes
-
--- What a refusal leaves, and what no refusal does.
-module _ (m : Mesh) (buffer : List ℕ) (done : Outcome) (n : ℕ) (r : ℕ) (e : r ≡ n) where
-  pub refuses : r ≢ 0 → outcomeOf r 0 0 0 zeroPoint m buffer ≡ unless n m buffer done
-  refuses x = ap (λ k. outcomeOf k 0 0 0 zeroPoint m buffer) e ∙ go n (λ z. x (e ∙ z))
-    where
-      go : (k : ℕ) → k ≢ 0 → outcomeOf k 0 0 0 zeroPoint m buffer ≡ unless k m buffer done
-      go zero y = absurd (y refl)
-      go (suc k) y = refl
-
-  pub carries : r ≡ 0 → done ≡ unless n m buffer done
-  carries z = let q : n ≡ 0 = sym e ∙ z in rw q refl
-
-load-shape : (m l : Mesh) (n : ℕ)
-    → outcomeOf (unless n m [] (worked (atFirst l)) .refusal) 0 0 0 zeroPoint (unless n m [] (worked (atFirst l)) .mesh) []
-    ≡ unless n m [] (worked (atFirst l))
-load-shape m l zero = refl
-load-shape m l (suc n) = refl
 
 -- A load's outcome is its refusal and its mesh; the rest is zero.
 pub load-whole : (bytes : List ℕ) (m : Mesh)
     → outcomeOf (loadCall bytes m .refusal) 0 0 0 zeroPoint (loadCall bytes m .mesh) [] ≡ loadCall bytes m
-unfolding loadCall
-load-whole bytes m = load-shape m (loaded (cageOf bytes) m) (loadRefusal bytes m)
+load-whole bytes m = go (load-judged bytes m)
+  where
+    go : {n : ℕ} {l : Mesh} {o : Outcome} → Judged n m [] (worked (atFirst l)) o
+        → outcomeOf (o .refusal) 0 0 0 zeroPoint (o .mesh) [] ≡ o
+    go (carried z) = refl
+    go (refused z) = refl
 
 module _ (t : ℕ) (m : Mesh) (r : ℕ) (e : r ≡ refineRefusal t m) where
   pub refine-refused : r ≢ 0 → outcomeOf r 0 0 0 zeroPoint m [] ≡ refineCall t m

@@ -1,5 +1,5 @@
 -- The first condition that holds, by the tests that decide the conditions.
-use mathlib.Core.Path.{_≡_, refl, sym, _∙_}
+use mathlib.Core.Path.{_≡_, refl, sym, _∙_, ap}
 use mathlib.Core.Logic.{_≢_}
 use mathlib.Core.Bool.{Bool, true, false, not}
 use mathlib.Core.List.{List, _∷_}
@@ -49,3 +49,15 @@ pub judged-carried : {n : ℕ} {m : Mesh} {buffer : List ℕ} {success o : Outco
     → o .refusal ≡ 0 → (n ≡ 0) × (o ≡ success)
 judged-carried (carried e) r = (e, refl)
 judged-carried (refused e) r = absurd (e r)
+
+-- The outcome of a call whose refusal n was found to be r.
+module _ (m : Mesh) (buffer : List ℕ) (success : Outcome) (n r : ℕ) (e : r ≡ n) where
+  pub refuses : r ≢ 0 → outcomeOf r 0 0 0 zeroPoint m buffer ≡ unless n m buffer success
+  refuses x = go (judged n m buffer success)
+    where
+      go : {o : Outcome} → Judged n m buffer success o → outcomeOf r 0 0 0 zeroPoint m buffer ≡ o
+      go (carried z) = absurd (x (e ∙ z))
+      go (refused z) = ap (λ (k : ℕ). outcomeOf k 0 0 0 zeroPoint m buffer) e
+
+  pub carries : r ≡ 0 → success ≡ unless n m buffer success
+  carries z = ap (λ (k : ℕ). unless k m buffer success) (sym z ∙ e)

@@ -1,29 +1,19 @@
 -- What the call of a whole step decides, and its work put together.
-use mathlib.Core.Bool.{true, false}
+use mathlib.Core.Bool.{true}
 use mathlib.Core.List.{List}
 use mathlib.Core.Path.{_≡_, ap, _∙_}
-use Prim.Native.Nat.{ℕ, _+_, _*_, _≤_, _<_}
-use borrow.Author.Tests.{le-leb, lt-leb}
-use lib.Dec.{leb}
+use Prim.Native.Nat.{ℕ}
 use lib.IntN.{ℤ}
 use lib.ListN.{replicate, length-replicate}
 use Rattle.rules.proofs.CallRefusals.{closed-even-is}
 use Rattle.rules.proofs.Decide.{when-true}
 use Rattle.rules.proofs.StepRefusals.{step-carried}
-use Rattle.rules.specs.Calls.{worked, roomFor, closedEven, wholeStepRefusal, wholeStepCall}
+use Rattle.rules.specs.Calls.{worked, closedEven, wholeStepRefusal, wholeStepCall}
 use Rattle.rules.specs.Sound.{Sound}
 use Rattle.rules.specs.Split.{Work, atFirst}
 use Rattle.rules.specs.Step.{moveVertices, refineFirst, wholeStep}
-use Rattle.rules.specs.Tables.{Mesh, meshOf, vertexSlots, triangleSlots}
+use Rattle.rules.specs.Tables.{Mesh, meshOf}
 use Rattle.step.specs.Moves.{Size, Closed}
-
-module _ (s : ℕ) (m : Mesh) where
-  pub no-vertex-room : vertexSlots m < m .topology .vertices + s → false ≡ roomFor s m
-  no-vertex-room l = rw (lt-leb (m .topology .vertices + s) (vertexSlots m) l)
-
-  pub triangle-room : m .topology .vertices + s ≤ vertexSlots m
-      → leb (m .topology .triangles + 2 * s) (triangleSlots m) ≡ roomFor s m
-  triangle-room l = rw (le-leb (m .topology .vertices + s) (vertexSlots m) l)
 
 pub whole-step-steps : (m : Mesh) (w : Work) (positions : List ℤ) → w ≡ refineFirst (m .topology .triangles) (atFirst m)
     → positions ≡ moveVertices (m .topology .vertices) m (w .mesh .positions)

@@ -1,10 +1,10 @@
 -- `cage::load` meets its contract: conditions 1 and 2 are decided here, the others with working room of a fitting size.
 use borrow.Author.Tests.{not-true, not-false}
 use native.Mathlib.Omega.{arith}
-use mathlib.Core.Path.{_≡_, sym, _∙_}
+use mathlib.Core.Path.{_≡_, refl, sym, _∙_}
 use Rattle.rules.proofs.CageTests.{sizes-fit-is}
 use Rattle.rules.proofs.Decide.{when-true}
-use Rattle.rules.proofs.LoadTests.{refusal-1, refusal-2, load-refused}
+use Rattle.rules.proofs.LoadTests.{load-by-tests, load-refused}
 use Rattle.rules.proofs.SoundTest.{tables-agree-is}
 use Rattle.rules.specs.Cage.{sizesFit}
 use Rattle.rules.specs.Conditions.{SizesFit}
@@ -61,7 +61,10 @@ same-length-4 : tie.Need-same-length-4
 same-length-4 c = search needs
 
 returns : tie.Need-returns
-returns c = load-refused _ _ (refusal-1 _ _ (agree (c .before) ∙ not-true _ (c .if1 .taken))) (λ e. omega arith)
+returns c =
+    load-refused _ _
+    (load-by-tests _ _ (agree (c .before) ∙ not-true _ (c .if1 .taken)) refl refl refl refl refl)
+    (λ e. omega arith)
 
 sizes-fit-requires : tie.Need-sizes-fit-requires
 sizes-fit-requires c κs = search needs
@@ -82,7 +85,8 @@ returns-2 : tie.Need-returns-2
 returns-2 c =
     let at-else = c .before .before .before .before in
     load-refused _ _
-    (refusal-2 _ _ (agree (at-else .before) ∙ not-false _ (at-else .if1 .left)) (fit (c .before) ∙ not-true _ (c .if2 .taken)))
+    (load-by-tests _ _ (agree (at-else .before) ∙ not-false _ (at-else .if1 .left))
+    (fit (c .before) ∙ not-true _ (c .if2 .taken)) refl refl refl refl)
     (λ e. omega arith)
 
 load-within-256-requires : tie.Need-load-within-256-requires

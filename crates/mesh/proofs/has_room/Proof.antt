@@ -1,7 +1,7 @@
 -- `mesh::has_room` meets its contract.
 use borrow.Author.Needs.{needs}
-use native.Mathlib.Omega.{arith}
-use Rattle.mesh.proofs.Refusing.{room-by-triangles, no-room}
+use Rattle.rules.proofs.CallRefusals.{triangle-room}
+use Rattle.mesh.proofs.Refusing.{no-room}
 use Rattle.mesh.proofs.has_room.Statement.{statement}
 use Rattle.mesh.proofs.has_room.Tie as tie
 use Rattle.tables.specs.Lent.{meshNow}
@@ -24,7 +24,7 @@ add-triangles c = search needs
 returns : tie.Need-returns
 returns c corners links =
     let args = c .before .before .before .args in
-    room-by-triangles (args .splits) (meshNow (args .counts) (args .positions .now) corners links (args .generations .now))
+    triangle-room (args .splits) (meshNow (args .counts) (args .positions .now) corners links (args .generations .now))
     (c .if1 .taken)
 
 returns-2 : tie.Need-returns-2

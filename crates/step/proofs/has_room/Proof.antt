@@ -1,8 +1,8 @@
 -- `step::has_room` meets its contract.
 use borrow.Author.Needs.{needs}
 use native.Mathlib.Omega.{arith}
+use Rattle.rules.proofs.CallRefusals.{triangle-room, no-vertex-room}
 use Rattle.tables.specs.Lent.{meshNow}
-use Rattle.step.proofs.Deciding.{no-vertex-room, triangle-room}
 use Rattle.step.proofs.has_room.Statement.{statement}
 use Rattle.step.proofs.has_room.Tie as tie
 
