@@ -52,6 +52,20 @@ pub data Path (m : Topology) : ℕ → ℕ → ℕ → Type 0 where
 
 -- ---- the chain and its end
 
+-- A triangle ends the chain, or the chain goes on from the next.
+pub data Goes (m : Topology) (t : ℕ) : Type 0 where
+  evenHere : generation m t % 2 ≡ 0 → Goes m t
+  boundaryHere : generation m t % 2 ≡ 1 → link m (3 * t) ≡ boundary → Goes m t
+  furtherOn : generation m t % 2 ≡ 1 → link m (3 * t) ≢ boundary → Goes m t
+
+pub goes : (m : Topology) (t : ℕ) → Goes m t
+goes m t = go (ℕ-discrete (generation m t % 2) 1) (ℕ-discrete (link m (3 * t)) boundary)
+  where
+    go : Dec (generation m t % 2 ≡ 1) → Dec (link m (3 * t) ≡ boundary) → Goes m t
+    go (no o) d = evenHere (omega arith)
+    go (yes o) (yes e) = boundaryHere o e
+    go (yes o) (no e) = furtherOn o e
+
 end-face : (n : ℕ) (m : Topology) (t : ℕ) → generation m t % 2 ≡ 0 → chainEndWithin n m t ≡ t
 unfolding chainEndWithin
 end-face zero m t e = refl
@@ -144,22 +158,19 @@ pub way : (n : ℕ) (m : Topology) → Manifold m → BasesMeetIn nowhere m → 
     → Path m t (chainEndWithin n m t) (chainOddWithin n m t)
 unfolding chainOddWithin chainEndWithin
 way zero m F K t l i z = ends {t = t} (isEven (omega arith))
-way (suc n) m F K t l i z =
-    go (ℕ-discrete (generation m t % 2) 1) (ℕ-discrete (link m (3 * t)) boundary) (way n m F K (link m (3 * t) / 3)) z
+way (suc n) m F K t l i z = go (goes m t) (way n m F K (link m (3 * t) / 3)) z
   where
-    go : Dec (generation m t % 2 ≡ 1) → Dec (link m (3 * t) ≡ boundary)
+    go : Goes m t
         → (link m (3 * t) / 3 < m .triangles → generation m (link m (3 * t) / 3) ≤ n → generation m
         (chainEndWithin n m (link m (3 * t) / 3)) % 2 ≡ 0 → Path m (link m (3 * t) / 3)
         (chainEndWithin n m (link m (3 * t) / 3)) (chainOddWithin n m (link m (3 * t) / 3)))
         → generation m (chainEndWithin (suc n) m t) % 2 ≡ 0
         → Path m t (chainEndWithin (suc n) m t) (chainOddWithin (suc n) m t)
-    go (no o) d w z =
-        let e : generation m t % 2 ≡ 0 = omega arith in
-        rw (even-test (generation m t) e, chainOddWithin, chainEndWithin) (ends (isEven e))
-    go (yes o) (yes e) w z =
+    go (evenHere e) w z = rw (even-test (generation m t) e, chainOddWithin, chainEndWithin) (ends (isEven e))
+    go (boundaryHere o e) w z =
         let q : generation m t % 2 ≡ 0 = rw (odd-test (generation m t) o, e, chainEndWithin) at z in
         absurd (omega arith)
-    go (yes o) (no e) w z =
+    go (furtherOn o e) w z =
         let f = falls m F K t l o e in
         let q : generation m (chainEndWithin n m (link m (3 * t) / 3)) % 2 ≡ 0 =
         rw (odd-test (generation m t) o, ne-eqb (link m (3 * t)) boundary e, chainEndWithin) at z in
@@ -168,10 +179,17 @@ way (suc n) m F K t l i z =
 
 -- ---- one step, seen from the chain
 
+-- Chains of none or one rise; longer ones are one shorter and end at an even triangle.
+abbrev pub Shorter : Topology → Topology → ℕ → ℕ → Type 0
+Shorter m n x zero = generation m x < generation n x
+Shorter m n x (suc zero) = generation n x ≡ suc (generation m x)
+Shorter m n x (suc (suc j)) =
+    (generation n x ≡ generation m x) × ((w : ℕ) × (generation n w % 2 ≡ 0) × Path n x w (suc j))
+
 module _ (v g p r : ℕ) (m n : Topology) (F : Manifold m) (K : BasesMeetIn nowhere m) (b : v < m .triangles)
     (fit : Splittable m v) (S : CutResult v g p r m n) where
   -- A base chain that goes on does not go on from v, unless v is even.
-  pub not-v : (x : ℕ) → generation m x % 2 ≡ 1 → link m (3 * x) ≢ boundary → x ≢ v
+  not-v : (x : ℕ) → generation m x % 2 ≡ 1 → link m (3 * x) ≢ boundary → x ≢ v
   not-v x o q e = go fit
     where
       go : Splittable m v → ⊥
@@ -186,7 +204,7 @@ module _ (v g p r : ℕ) (m n : Topology) (F : Manifold m) (K : BasesMeetIn nowh
       S .still .links (3 * x) (omega arith) (rw z e) (inr (M .inUse, f))
 
   -- x is left and its base's partner u flipped: then the base of x meets an even triangle.
-  pub lands : (x : ℕ) → x < m .triangles → generation m x % 2 ≡ 1 → link m (3 * x) ≢ boundary
+  lands : (x : ℕ) → x < m .triangles → generation m x % 2 ≡ 1 → link m (3 * x) ≢ boundary
       → generation n x ≡ generation m x → generation n (link m (3 * x) / 3) ≢ generation m (link m (3 * x) / 3)
       → (w : ℕ) × (generation n w % 2 ≡ 0) × Path n x w 1
   lands x l o q e d =
@@ -200,14 +218,59 @@ module _ (v g p r : ℕ) (m n : Topology) (F : Manifold m) (K : BasesMeetIn nowh
       let w₃ = w .3 in
       let od = S .odd in
       let A : Follow x u n = S .follow x u l (omega arith) (q, inl refl) in
-      (link n (3 * x) / 3, level (A .1) w₃, across {t = x} (omega arith) (A .0) (ends (isEven (level (A .1) w₃))))
+      (link n (3 * x) / 3, even (A .1) w₃, across {t = x} (omega arith) (A .0) (ends (isEven (even (A .1) w₃))))
     where
-      level : (link n (3 * x) / 3 ≡ link m (3 * x) / 3) ⊎ (generation n (link n (3 * x) / 3) % 2 ≡ 0)
+      even : (link n (3 * x) / 3 ≡ link m (3 * x) / 3) ⊎ (generation n (link n (3 * x) / 3) % 2 ≡ 0)
           → generation n (link m (3 * x) / 3) ≡ suc g → generation n (link n (3 * x) / 3) % 2 ≡ 0
-      level (inr z) w = z
-      level (inl z) w = rw z (omega (arith, S .odd))
+      even (inr z) w = z
+      even (inl z) w = rw z (omega (arith, S .odd))
 
   -- The base of a flipped triangle met v.
-  pub hit : (x : ℕ) → x < m .triangles → generation m x % 2 ≡ 1 → link m (3 * x) ≢ boundary
+  hit : (x : ℕ) → x < m .triangles → generation m x % 2 ≡ 1 → link m (3 * x) ≢ boundary
       → generation n x ≢ generation m x → link m (3 * x) / 3 ≡ v
   hit x l o q d = S .moved x l (not-v x o q) d .1
+
+  -- A triangle further up is left.
+  left : (x : ℕ) → x < m .triangles → generation m x % 2 ≡ 1 → link m (3 * x) ≢ boundary
+      → link m (3 * x) / 3 ≢ v → generation n x ≡ generation m x
+  left x l o q ne = go (ℕ-discrete (generation n x) (generation m x))
+    where
+      go : Dec (generation n x ≡ generation m x) → generation n x ≡ generation m x
+      go (yes e) = e
+      go (no d) = absurd (ne (hit x l o q d))
+
+  shorter-on : (x k : ℕ) → x < m .triangles → generation m x % 2 ≡ 1 → link m (3 * x) ≢ boundary
+      → link m (3 * x) / 3 ≢ v → Shorter m n (link m (3 * x) / 3) (suc k) → Shorter m n x (suc (suc k))
+  shorter-on x zero l o q ne a =
+      let e : generation n x ≡ generation m x = left x l o q ne in
+      (e, lands x l o q e (λ z. omega arith))
+  shorter-on x (suc k) l o q ne a =
+      let e : generation n x ≡ generation m x = left x l o q ne in
+      let s : link n (3 * x) ≡ link m (3 * x) = stays x l q e (a .0) in (
+        e,
+        (
+          a .1 .0,
+          a .1 .1,
+          across {t = x} (omega arith) (λ z. q (sym s ∙ z))
+              (subst (λ (z : ℕ). Path n (z / 3) (a .1 .0) (suc k)) (sym s) (a .1 .2)),
+        ),
+      )
+
+  rises-itself : (x : ℕ) → x ≡ v → generation m x < generation n x
+  rises-itself x e = rw e (S .own)
+
+  rises-by-one : (x : ℕ) → x < m .triangles → generation m x % 2 ≡ 1 → link m (3 * x) ≢ boundary
+      → link m (3 * x) / 3 ≡ v → generation n x ≡ suc (generation m x)
+  rises-by-one x l o q e = S .turns x l (not-v x o q) o q e
+
+  pub shortens : {x w k : ℕ} → x < m .triangles → w ≡ v → Path m x w k → Shorter m n x k
+  shortens {x} l e (ends f) = rises-itself x e
+  shortens {x} l e (across o q p) = shortens-on x l o q e refl p
+    where
+      shortens-on : {u w k : ℕ} (x : ℕ) → x < m .triangles → generation m x % 2 ≡ 1 → link m (3 * x) ≢ boundary
+          → w ≡ v → link m (3 * x) / 3 ≡ u → Path m u w k → Shorter m n x (suc k)
+      shortens-on x l o q e i (ends f) = rises-by-one x l o q (i ∙ e)
+      shortens-on x l o q e i (across {t = u} {k = k} o′ q′ p) =
+          shorter-on x k l o q (λ z. not-v u o′ q′ (sym i ∙ z))
+          (subst (λ (y : ℕ). Shorter m n y (suc k)) (sym i)
+          (shortens-on u (subst (λ (y : ℕ). y < m .triangles) i (falls m F K x l o q .0)) o′ q′ e refl p))

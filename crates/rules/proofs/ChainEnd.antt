@@ -3,30 +3,15 @@ use mathlib.Core.Path.{_≡_, ap}
 use mathlib.Core.Logic.{_≢_}
 use Prim.Native.Nat.{ℕ, zero, suc, _*_, _/_, _%_, _≤_, _<_}
 use native.Mathlib.Omega.{arith}
-use native.Mathlib.Decide.{ℕ-discrete}
 use lib.Dec.{eqb}
 use borrow.Author.Tests.{ne-eqb}
-use Rattle.rules.proofs.Chain.{falls}
+use Rattle.rules.proofs.Chain.{falls, Goes, evenHere, boundaryHere, furtherOn, goes}
 use Rattle.rules.proofs.Decide.{Decides, odd-test, even-test}
 use Rattle.rules.proofs.Manifold.{Manifold, BasesMeetIn}
 use Rattle.rules.proofs.Settled.{nowhere}
 use Rattle.rules.specs.Conditions.{EndsAtBoundary, stops, goesOn}
 use Rattle.rules.specs.Split.{chainEndWithin, chainEnd}
 use Rattle.rules.specs.Tables.{Topology, boundary, link, generation, odd}
-
--- A triangle ends the chain, or the chain goes on from the next.
-data Goes (m : Topology) (t : ℕ) : Type 0 where
-  evenHere : generation m t % 2 ≡ 0 → Goes m t
-  boundaryHere : generation m t % 2 ≡ 1 → link m (3 * t) ≡ boundary → Goes m t
-  furtherOn : generation m t % 2 ≡ 1 → link m (3 * t) ≢ boundary → Goes m t
-
-goes : (m : Topology) (t : ℕ) → Goes m t
-goes m t = go (ℕ-discrete (generation m t % 2) 1) (ℕ-discrete (link m (3 * t)) boundary)
-  where
-    go : Dec (generation m t % 2 ≡ 1) → Dec (link m (3 * t) ≡ boundary) → Goes m t
-    go (no o) d = evenHere (omega arith)
-    go (yes o) (yes e) = boundaryHere o e
-    go (yes o) (no e) = furtherOn o e
 
 -- The cases of the statement.
 not-even : {A : Type 0} {m : Topology} {t : ℕ} → generation m t % 2 ≡ 0 → EndsAtBoundary m t → A

@@ -11,7 +11,7 @@ use Rattle.rules.proofs.Decide.{Decides, is-eq, is-lt, is-iff, is-same,
 use Rattle.rules.proofs.FlipKeeps.{BasesMeet, meet-back}
 use Rattle.rules.proofs.FlipRead.{Flips}
 use Rattle.rules.proofs.Manifold.{Manifold, Joined, no-self, few, partnered-with}
-use Rattle.rules.proofs.Sides.{renameTwo, rename-a, rename-b, rename-else}
+use Rattle.rules.proofs.Sides.{renameTwo, rename-a, rename-b, rename-else, by-rename}
 use Rattle.rules.proofs.SplitRead.{Splits}
 use Rattle.rules.proofs.Sums.{total-same, total-change, total-zero, total-add, total-swap, total-one}
 use Rattle.rules.proofs.Sums.{total-const, total-change₂, row, total-rows, total-two, zero-each}
@@ -134,18 +134,11 @@ linked-bit m h k e n = boundary-bit m h k e ∙ bit-no (is-eq k boundary) n
 
 rename-boundary : (a a′ b b′ k : ℕ) → a ≢ b → a ≢ boundary → a′ ≢ boundary → b ≢ boundary → b′ ≢ boundary
     → bit (eqb (renameTwo a a′ b b′ k) boundary) ≡ bit (eqb k boundary)
-rename-boundary a a′ b b′ k ne x x′ y y′ = go (ℕ-discrete k a) (ℕ-discrete k b)
-  where
-    go : Dec (k ≡ a) → Dec (k ≡ b) → bit (eqb (renameTwo a a′ b b′ k) boundary) ≡ bit (eqb k boundary)
-    go (yes e) d =
-        ap (λ (z : ℕ). bit (eqb (renameTwo a a′ b b′ z) boundary)) e ∙ ap (λ (z : ℕ). bit (eqb z boundary))
-        (rename-a a a′ b b′)
-        ∙ bit-no (is-eq a′ boundary) x′ ∙ sym (ap (λ (z : ℕ). bit (eqb z boundary)) e ∙ bit-no (is-eq a boundary) x)
-    go (no e) (yes f) =
-        ap (λ (z : ℕ). bit (eqb (renameTwo a a′ b b′ z) boundary)) f ∙ ap (λ (z : ℕ). bit (eqb z boundary))
-        (rename-b a a′ b b′ ne)
-        ∙ bit-no (is-eq b′ boundary) y′ ∙ sym (ap (λ (z : ℕ). bit (eqb z boundary)) f ∙ bit-no (is-eq b boundary) y)
-    go (no e) (no f) = ap (λ (z : ℕ). bit (eqb z boundary)) (rename-else a a′ b b′ k e f)
+rename-boundary a a′ b b′ k ne x x′ y y′ =
+    by-rename a a′ b b′ (λ z. bit (eqb z boundary) ≡ bit (eqb k boundary)) ne k
+    (λ e. bit-no (is-eq a′ boundary) x′ ∙ sym (bit-no (is-eq k boundary) (λ q. x (sym e ∙ q))))
+    (λ e. bit-no (is-eq b′ boundary) y′ ∙ sym (bit-no (is-eq k boundary) (λ q. y (sym e ∙ q))))
+    (λ _ _. refl)
 
 pub split-boundary : (t : ℕ) (m n : Topology) → Manifold m → t < m .triangles → Splits t m n
     → boundarySides n ≡ boundarySides m

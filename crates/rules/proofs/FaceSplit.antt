@@ -31,6 +31,9 @@ pub record Room (k : ℕ) (m : Topology) : Type 0 where
   pub links : 3 * (m .triangles + 2 * k) ≤ length (m .links)
   pub generations : m .triangles + 2 * k ≤ length (m .generations)
 
+pub room-fewer : (s k : ℕ) (m : Topology) → Room s m → k ≤ s → Room k m
+room-fewer s k m R i = omega arith
+
 -- What the base of a child meets has an old centre.
 other : (v : ℕ) (m n : Topology) → Manifold m → Manifold n
     → ((h : ℕ) → h < sides m → h / 3 ≢ v → origin n h ≡ origin m h)

@@ -6,8 +6,8 @@ use lib.ListN.{length}
 use Rattle.rules.proofs.Decide.{Decides, is-eq, is-iff}
 use Rattle.rules.proofs.FanTest.{no-more-met, all-met, met-fan, all-counted, reach}
 use Rattle.rules.proofs.Fans.{Walked, Starts, walk-walked}
-use Rattle.rules.proofs.Pigeonhole.{total-tight, counted-by-value}
-use Rattle.rules.proofs.Sums.{total-same}
+use Rattle.rules.proofs.Pigeonhole.{counted-by-value}
+use Rattle.rules.proofs.Sums.{total-same, total-tight}
 use Rattle.rules.proofs.Turning.{Glued}
 use Rattle.rules.specs.Below.{total}
 use Rattle.rules.specs.Promises.{triangleCount}

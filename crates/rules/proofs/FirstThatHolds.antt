@@ -5,7 +5,7 @@ use mathlib.Core.Bool.{Bool, true, false, not}
 use mathlib.Core.List.{List, _∷_}
 use Prim.Native.Nat.{ℕ, zero, suc}
 use native.Mathlib.Omega.{arith}
-use Rattle.rules.proofs.Decide.{Decides}
+use Rattle.rules.proofs.Decide.{Decides, is-not, stable}
 use Rattle.rules.specs.Calls.{Outcome, outcomeOf, zeroPoint, unless}
 use Rattle.rules.specs.Conditions.{Condition, _when_, First, this, later}
 use Rattle.rules.specs.Tables.{Mesh}
@@ -19,8 +19,7 @@ first-if n {b = false} d f = later (d .passes) (f (d .passes))
 -- A condition that holds where the test of its opposite fails.
 pub first-unless : (n : ℕ) {b : Bool} {Q : Type 0} {k : ℕ} {rest : List Condition} → Decides b Q → (Q → First rest k)
     → First (n when (¬ Q) ∷ rest) (elim (not b) [ true ↦ n | false ↦ k ])
-first-unless n {b = true} {Q = Q} d f = later {P = ¬ Q} (λ x. x (d .holds tt)) (f (d .holds tt))
-first-unless n {b = false} d f = this (d .passes)
+first-unless n d f = first-if n (is-not d) (λ x. f (stable d x))
 
 -- ---- what a refusal leaves
 

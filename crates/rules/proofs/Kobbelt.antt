@@ -5,13 +5,13 @@ use Prim.Native.Nat.{ℕ, zero, suc, _+_, _*_, _/_, _%_, _≤_, _<_, max}
 use native.Mathlib.Omega.{arith}
 use borrow.Author.Tests.{eq-eqb, ne-eqb}
 use Rattle.rules.proofs.Bases.{reached}
-use Rattle.rules.proofs.Chain.{Path, ends, across, falls, path-end, cut-splitting, path-use, path-short}
-use Rattle.rules.proofs.Chain.{path-fit, way, stays}
+use Rattle.rules.proofs.Chain.{Path, ends, across, falls, path-end, cut-splitting, path-use, path-fit, stays}
+use Rattle.rules.proofs.Chain.{Shorter, shortens}
 use Rattle.rules.proofs.Decide.{odd-test, even-test}
-use Rattle.rules.proofs.FaceSplit.{Room, face-splitting}
+use Rattle.rules.proofs.FaceSplit.{Room, face-splitting, room-fewer}
 use Rattle.rules.proofs.Manifold.{Manifold, BasesMeetIn}
-use Rattle.rules.proofs.Raise.{Shorter, shortens, raise-stops, raise-splits, room-first, room-rest, raise-cuts}
-use Rattle.rules.proofs.Refine.{sound-room}
+use Rattle.rules.proofs.Raise.{raise-stops, raise-splits, room-rest, raise-cuts}
+use Rattle.rules.proofs.Refine.{sound-room, chain-path, chain-bound}
 use Rattle.rules.proofs.Relaxed.{sound-manifold, sound-bases}
 use Rattle.rules.proofs.Runs.{isEven, cut}
 use Rattle.rules.proofs.Settled.{nowhere}
@@ -89,7 +89,7 @@ raise-far {v} (suc k) (suc j) t u g h w F K l q M (across o r p) i R =
     let y : Work = cut v w x in
     let c = falls m F K t l o r .0 in
     let b = path-use F K c p in
-    let S = cut-splitting v w x F b (room-first (suc k) m R) .result in
+    let S = cut-splitting v w x F b (room-fewer (suc (suc k)) 1 m R (omega arith)) .result in
     let e : generation m s ≡ h = ap (generation m) (M .0) ∙ M .1 in
     let A = shortens v _ _ _ m (reached y) F K b x S l refl a in
     let B = shortens v _ _ _ m (reached y) F K b x S c refl p in
@@ -103,9 +103,6 @@ raise-far {v} (suc k) (suc j) t u g h w F K l q M (across o r p) i R =
     (raise-far k j t s g h y (S .manifold) (S .basesMeet K) (omega (arith, S .triangles)) (A .0 ∙ q) N (A .1 .2)
     (omega arith)
     (room-rest (suc k) v _ _ _ m (reached y) S R)))
-
-room-fewer : (s r : ℕ) (m : Topology) → Room s m → r ≤ s → Room r m
-room-fewer s r m R i = omega arith
 
 module _ (s : ℕ) (w : Work) (F : Manifold (reached w)) (K : BasesMeetIn nowhere (reached w))
     (R : Room s (reached w)) where
@@ -145,8 +142,7 @@ refine-is-kobbelt t n m S l e R i =
     let g : ℕ = generation (m .topology) t in
     let F = sound-manifold S in
     let K = sound-bases S in
-    let p = way g (m .topology) F K t l (omega arith) e in
-    let short = path-short F K l p in
+    let short = chain-bound t m S l e in
     let s : ℕ = splitsOf (m .topology) t in
-    raise-kobbelt s (atFirst m) F K (sound-room s (S .tables) R) n (suc g) t l p (omega arith) (omega arith)
-    (omega arith)
+    raise-kobbelt s (atFirst m) F K (sound-room s (S .tables) R) n (suc g) t l (chain-path t m S l e)
+    (omega arith) (omega arith) (omega arith)

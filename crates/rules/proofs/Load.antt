@@ -91,7 +91,14 @@ module _ (c : Cage) (m : Mesh) (A : TablesAgree m)
   }
 
   pub loaded-agree : TablesAgree (loaded c m)
-  loaded-agree = let L = loaded-loads in agree-on A (L .positionRoom) (L .cornerRoom) (L .linkRoom) (L .generationRoom)
+  loaded-agree =
+      let L = loaded-loads in
+      agree-on A (record {
+        positions = L .positionRoom;
+        corners = L .cornerRoom;
+        links = L .linkRoom;
+        generations = L .generationRoom;
+      })
 
   -- All triangles are even, so that there is no base.
   pub load-bases : BasesMeetIn nowhere (loaded c m .topology)

@@ -6,7 +6,7 @@ use mathlib.Core.List.{List, [], _∷_}
 use Prim.Native.Nat.{ℕ}
 use Rattle.rules.proofs.FirstThatHolds.{refuses, carries}
 use Rattle.rules.specs.Cage.{cageOf, loaded, sizesFit, cornersFit, coordinatesFit, sidesDiffer, fansFit}
-use Rattle.rules.specs.Calls.{Outcome, loadRefusal, loadCall, Test, _if_, firstOf, worked}
+use Rattle.rules.specs.Calls.{Outcome, loadRefusal, loadCall, _if_, firstOf, worked}
 use Rattle.rules.specs.Split.{atFirst}
 use Rattle.rules.specs.Tables.{Mesh, tablesAgree}
 

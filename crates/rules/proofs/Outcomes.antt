@@ -106,7 +106,7 @@ pub chain-counted : (t : ℕ) (m : Mesh) → refineCall t m .refusal ≡ 0
     → OddInChain (m .topology) t (chainOdd (m .topology) t)
 chain-counted t m z =
     let F = refine-found t m (judged-carried (refine-judged t m) z .0) in
-    chain-counts t m (F .sound) (F .inUse) (F .young) (F .evenEnd)
+    chain-counts t m (F .sound) (F .inUse) (F .evenEnd)
 
 pub chain-falls : (m : Mesh) → Sound m → (t : ℕ) → t < m .topology .triangles → generation (m .topology) t % 2 ≡ 1
     → link (m .topology) (3 * t) ≢ boundary → ChainFalls (m .topology) t

@@ -1,32 +1,12 @@
 -- Different numbers that pass a test: no more than all that pass, and as many only where they are all of them.
 use mathlib.Core.Path.{_≡_, refl, sym, _∙_, subst}
 use mathlib.Core.Bool.{Bool, true, false}
-use Prim.Native.Nat.{ℕ, zero, suc, _≤_, _<_}
+use Prim.Native.Nat.{ℕ, _≤_, _<_}
 use native.Mathlib.Omega.{arith}
-use native.Mathlib.Decide.{ℕ-discrete}
 use lib.Dec.{T, eqb}
 use Rattle.rules.proofs.Decide.{Decides, is-eq, is-any, bit-yes, bit-no}
-use Rattle.rules.proofs.Sums.{total-same, total-zero, total-swap, total-one, total-const}
+use Rattle.rules.proofs.Sums.{total-same, total-zero, total-swap, total-one, total-const, total-le, total-tight}
 use Rattle.rules.specs.Below.{any, total, bit, count}
-
-total-le : (n : ℕ) (f g : ℕ → ℕ) → ((h : ℕ) → h < n → f h ≤ g h) → total n f ≤ total n g
-unfolding total
-total-le zero f g e = omega arith
-total-le (suc n) f g e = let a = total-le n f g (λ h l. e h (omega arith)) in let b = e n (omega arith) in omega arith
-
--- Terms that are at most others and add up to as much are those.
-pub total-tight : (n : ℕ) (f g : ℕ → ℕ) → ((h : ℕ) → h < n → f h ≤ g h) → total n f ≡ total n g → (h : ℕ) → h < n
-    → f h ≡ g h
-unfolding total
-total-tight zero f g e s h l = absurd (omega arith)
-total-tight (suc n) f g e s h l =
-    let a = total-le n f g (λ k i. e k (omega arith)) in
-    let b = e n (omega arith) in
-    go (ℕ-discrete h n) (total-tight n f g (λ k i. e k (omega arith)) (omega arith) h) (omega arith)
-  where
-    go : Dec (h ≡ n) → (h < n → f h ≡ g h) → f n ≡ g n → f h ≡ g h
-    go (yes q) ih x = rw q x
-    go (no q) ih x = ih (omega arith)
 
 bit-le : (a b : Bool) → (T a → T b) → bit a ≤ bit b
 bit-le true true f = omega arith

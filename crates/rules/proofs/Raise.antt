@@ -1,17 +1,15 @@
 -- The loop of refine.
 use mathlib.Core.Path.{_≡_, refl, sym, ap, _∙_, subst}
-use mathlib.Core.Logic.{_≢_}
-use Prim.Native.Nat.{ℕ, zero, suc, _+_, _*_, _/_, _%_, _≤_, _<_}
+use Prim.Native.Nat.{ℕ, zero, suc, _+_, _*_, _%_, _≤_, _<_}
 use native.Mathlib.Omega.{arith}
-use native.Mathlib.Decide.{ℕ-discrete}
 use lib.ListN.{length}
 use borrow.Author.Tests.{lt-ltb, le-ltb}
 use Rattle.rules.proofs.Bases.{reached}
-use Rattle.rules.proofs.Chain.{Path, ends, across, falls, path-end, topOf, boundaryOf, cut-splitting, path-use}
-use Rattle.rules.proofs.Chain.{path-top, not-v, stays, lands, hit}
+use Rattle.rules.proofs.Chain.{Path, ends, path-end, topOf, boundaryOf, cut-splitting, path-use, path-top}
+use Rattle.rules.proofs.Chain.{shortens, across}
 use Rattle.rules.proofs.Cut.{CutResult}
 use Rattle.rules.proofs.Edges.{boundarySides}
-use Rattle.rules.proofs.FaceSplit.{Room}
+use Rattle.rules.proofs.FaceSplit.{Room, room-fewer}
 use Rattle.rules.proofs.Manifold.{Manifold, BasesMeetIn}
 use Rattle.rules.proofs.Past.{Past, past-on}
 use Rattle.rules.proofs.Places.{Places, places-on}
@@ -19,66 +17,7 @@ use Rattle.rules.proofs.Runs.{Splittable, isEven, cut, cut-face}
 use Rattle.rules.proofs.Settled.{nowhere, still-on}
 use Rattle.rules.specs.Promises.{Still, odds}
 use Rattle.rules.specs.Split.{Work, faceSplit, chainEndWithin, raise}
-use Rattle.rules.specs.Tables.{Topology, boundary, link, generation}
-
--- Chains of none or one rise; longer ones are one shorter and end at an even triangle.
-abbrev pub Shorter : Topology → Topology → ℕ → ℕ → Type 0
-Shorter m n x zero = generation m x < generation n x
-Shorter m n x (suc zero) = generation n x ≡ suc (generation m x)
-Shorter m n x (suc (suc j)) =
-    (generation n x ≡ generation m x) × ((w : ℕ) × (generation n w % 2 ≡ 0) × Path n x w (suc j))
-
-module _ (v g p r : ℕ) (m n : Topology) (F : Manifold m) (K : BasesMeetIn nowhere m) (b : v < m .triangles)
-    (fit : Splittable m v) (S : CutResult v g p r m n) where
-  -- A triangle further up is left.
-  pub left : (x : ℕ) → x < m .triangles → generation m x % 2 ≡ 1 → link m (3 * x) ≢ boundary
-      → link m (3 * x) / 3 ≢ v → generation n x ≡ generation m x
-  left x l o q ne = go (ℕ-discrete (generation n x) (generation m x))
-    where
-      go : Dec (generation n x ≡ generation m x) → generation n x ≡ generation m x
-      go (yes e) = e
-      go (no d) = absurd (ne (hit v g p r m n F K b fit S x l o q d))
-
-  not-end : (u : ℕ) → generation m u % 2 ≡ 1 → link m (3 * u) ≢ boundary → u ≢ v
-  not-end = not-v v g p r m n F K b fit S
-
-  shorter-on : (x k : ℕ) → x < m .triangles → generation m x % 2 ≡ 1 → link m (3 * x) ≢ boundary
-      → link m (3 * x) / 3 ≢ v → Shorter m n (link m (3 * x) / 3) (suc k) → Shorter m n x (suc (suc k))
-  shorter-on x zero l o q ne a =
-      let e : generation n x ≡ generation m x = left x l o q ne in
-      (e, lands v g p r m n F K b fit S x l o q e (λ z. omega arith))
-  shorter-on x (suc k) l o q ne a =
-      let e : generation n x ≡ generation m x = left x l o q ne in
-      let s : link n (3 * x) ≡ link m (3 * x) = stays v g p r m n F K b fit S x l q e (a .0) in (
-        e,
-        (
-          a .1 .0,
-          a .1 .1,
-          across {t = x} (omega arith) (λ z. q (sym s ∙ z))
-              (subst (λ (z : ℕ). Path n (z / 3) (a .1 .0) (suc k)) (sym s) (a .1 .2)),
-        ),
-      )
-
-  rises-itself : (x : ℕ) → x ≡ v → generation m x < generation n x
-  rises-itself x e = rw e (S .own)
-
-  rises-by-one : (x : ℕ) → x < m .triangles → generation m x % 2 ≡ 1 → link m (3 * x) ≢ boundary
-      → link m (3 * x) / 3 ≡ v → generation n x ≡ suc (generation m x)
-  rises-by-one x l o q e = S .turns x l (not-end x o q) o q e
-
-  pub shortens : {x w k : ℕ} → x < m .triangles → w ≡ v → Path m x w k → Shorter m n x k
-  shortens {x} l e (ends f) = rises-itself x e
-  shortens {x} l e (across o q p) = shortens-on x l o q e refl p
-    where
-      shortens-on : {u w k : ℕ} (x : ℕ) → x < m .triangles → generation m x % 2 ≡ 1 → link m (3 * x) ≢ boundary
-          → w ≡ v → link m (3 * x) / 3 ≡ u → Path m u w k → Shorter m n x (suc k)
-      shortens-on x l o q e i (ends f) = rises-by-one x l o q (i ∙ e)
-      shortens-on x l o q e i (across {t = u} {k = k} o′ q′ p) =
-          shorter-on x k l o q (λ z. not-end u o′ q′ (sym i ∙ z))
-          (subst (λ (y : ℕ). Shorter m n y (suc k)) (sym i)
-          (shortens-on u (subst (λ (y : ℕ). y < m .triangles) i (falls m F K x l o q .0)) o′ q′ e refl p))
-
--- ---- the loop
+use Rattle.rules.specs.Tables.{Topology, generation}
 
 pub raise-stops : (n g t : ℕ) (d : Work) → g < generation (reached d) t → raise n g t d ≡ d
 unfolding raise
@@ -164,13 +103,6 @@ module _ (t top v : ℕ) (d : Work) (x : Splittable (reached d) v) (F : Manifold
         places = places-on (X .places) (I .places);
       }
 
-pub room-first : (s : ℕ) (m : Topology) → Room (suc s) m → Room 1 m
-room-first s m R = record {
-  corners = omega (arith, R .corners);
-  links = omega (arith, R .links);
-  generations = omega (arith, R .generations);
-}
-
 pub room-rest : (s v g p r : ℕ) (m n : Topology) → CutResult v g p r m n → Room (suc s) m → Room s n
 room-rest s v g p r m n S R = record {
   corners = omega (arith, R .corners, S .triangles, S .corners);
@@ -203,7 +135,7 @@ raise-chain zero (suc n) t v d x F K l p i R =
     (one-split t (generation (reached d) t) v d x F K b (path-high F K l p x) R up (λ o. one))
 raise-chain (suc k) (suc n) t v d x F K l p i R =
     let b = path-use F K l p in
-    let R₁ : Room 1 (reached d) = room-first (suc k) (reached d) R in
+    let R₁ : Room 1 (reached d) = room-fewer (suc (suc k)) 1 (reached d) R (omega arith) in
     let S = cut-splitting v d x F b R₁ .result in
     let m : Topology = reached d in
     let N : Topology = reached (cut v d x) in

@@ -3,16 +3,15 @@ use mathlib.Core.Path.{_≡_, refl, sym, _∙_, subst}
 use mathlib.Core.Bool.{Bool, true, false}
 use Prim.Native.Nat.{ℕ, zero, suc, _+_, _*_, _/_, _%_, _≤_, _<_, max}
 use native.Mathlib.Omega.{arith}
-use lib.ListN.{length}
 use Rattle.rules.proofs.Bases.{reached}
 use Rattle.rules.proofs.Carried.{RefineFound}
-use Rattle.rules.proofs.Chain.{Path, ends, across, path-end, path-use, topOf, path-top, path-short, path-fit}
-use Rattle.rules.proofs.Chain.{way}
-use Rattle.rules.proofs.FaceSplit.{Room, Splitting, face-splitting}
+use Rattle.rules.proofs.Chain.{Path, ends, across, path-end, path-use, topOf, path-top, path-fit, Shorter}
+use Rattle.rules.proofs.Chain.{shortens}
+use Rattle.rules.proofs.FaceSplit.{Room, Splitting, face-splitting, room-fewer}
 use Rattle.rules.proofs.Manifold.{Manifold, BasesMeetIn}
-use Rattle.rules.proofs.Raise.{Shorter, shortens, raise-stops, raise-splits, room-first, room-rest}
-use Rattle.rules.proofs.Refine.{sound-room}
-use Rattle.rules.proofs.Relaxed.{sound-manifold, sound-bases, agree-on}
+use Rattle.rules.proofs.Raise.{raise-stops, raise-splits, room-rest}
+use Rattle.rules.proofs.Refine.{sound-room, chain-path, chain-bound}
+use Rattle.rules.proofs.Relaxed.{sound-manifold, sound-bases, agree-on, SameSlots}
 use Rattle.rules.proofs.Runs.{Splittable, isEven}
 use Rattle.rules.proofs.Settled.{nowhere}
 use Rattle.rules.specs.Calls.{splitsOf}
@@ -82,7 +81,8 @@ pub ahead-splitting : {k g t : ℕ} {w : Work} → Ahead (suc k) g t w →
     Splitting v (suc (generation (reached w) v)) 1 0 w (faceSplit v w)
 ahead-splitting {k} {t = t} {w = w} A =
     let E = ahead-end A in
-    face-splitting (chainEnd (reached w) t) w (A .manifold) (E .inUse) (room-first k (reached w) (A .room)) (E .even)
+    face-splitting (chainEnd (reached w) t) w (A .manifold) (E .inUse)
+    (room-fewer (suc k) 1 (reached w) (A .room) (omega arith)) (E .even)
 
 rising-on : (k n g t : ℕ) (m x : Topology) → Manifold x → BasesMeetIn nowhere x → t < x .triangles
     → generation m t ≡ g → max 1 n ≡ suc k → Shorter m x t n → Rising k g t x
@@ -125,13 +125,6 @@ raise-is-split-ends {g} {t} (suc k) (suc n) w i A =
     raise-splits n g t (chainEnd (reached w) t) w (isEven (ahead-end A .even)) (omega (arith, A .rising .0)) refl
     ∙ raise-is-split-ends k n _ (omega arith) (ahead-on A)
 
--- What the loop of refine keeps: the tables keep their slots.
-pub record SameSlots (m n : Mesh) : Type 0 where
-  pub positions : length (n .positions) ≡ length (m .positions)
-  pub corners : length (n .topology .corners) ≡ length (m .topology .corners)
-  pub links : length (n .topology .links) ≡ length (m .topology .links)
-  pub generations : length (n .topology .generations) ≡ length (m .topology .generations)
-
 -- A flip is counted once, so that a face split counts three flips at most.
 pub settle-counts : (s : ℕ) (w : Work) → settle s w .flips ≤ w .flips + 1
 unfolding settle
@@ -170,12 +163,8 @@ pub record NextSplit (v : ℕ) (w : Work) : Type 0 where
   pub room : RoomFor 1 (w .mesh)
 
 module _ {t : ℕ} {m : Mesh} (R : RefineFound t m) where
-  chain : Path (m .topology) t (chainEnd (m .topology) t) (chainOdd (m .topology) t)
-  chain =
-      way _ (m .topology) (sound-manifold (R .sound)) (sound-bases (R .sound)) t (R .inUse) (omega arith) (R .evenEnd)
-
   short : 2 * chainOdd (m .topology) t ≤ generation (m .topology) t + 1
-  short = path-short (sound-manifold (R .sound)) (sound-bases (R .sound)) (R .inUse) chain
+  short = chain-bound t m (R .sound) (R .inUse) (R .evenEnd)
 
   ahead : Ahead (splitsOf (m .topology) t) (generation (m .topology) t) t (atFirst m)
   ahead = record {
@@ -188,7 +177,11 @@ module _ {t : ℕ} {m : Mesh} (R : RefineFound t m) where
     where
       go : (k : ℕ) → splitsOf (m .topology) t ≡ k → Rising k (generation (m .topology) t) t (m .topology)
       go zero e = absurd (omega arith)
-      go (suc k) e = (refl, record { odd = chainOdd (m .topology) t; path = chain; splits = e })
+      go (suc k) e = (refl, record {
+        odd = chainOdd (m .topology) t;
+        path = chain-path t m (R .sound) (R .inUse) (R .evenEnd);
+        splits = e;
+      })
 
   -- Where nothing is refused, refine is as many face splits as t takes.
   pub refine-is-split-ends : refine t (atFirst m) ≡ splitEnds (splitsOf (m .topology) t) t (atFirst m)
@@ -233,9 +226,8 @@ module _ {t : ℕ} {m : Mesh} (R : RefineFound t m) where
       pub refining-next : NextSplit (chainEnd (reached w) t) w
       refining-next =
           let E = ahead-end ahead-now in
-          let L = N .slots in
           record {
-            tables = agree-on (R .sound .tables) (L .positions) (L .corners) (L .links) (L .generations);
+            tables = agree-on (R .sound .tables) (N .slots);
             inUse = E .inUse;
             young = omega (arith, E .young, R .young);
             room = record {

@@ -12,7 +12,7 @@ use Rattle.rules.proofs.Past.{Past, past-same, past-on}
 use Rattle.rules.proofs.Settling.{Same, settling-child, settling-bases, settling-same, settling-past}
 use Rattle.rules.proofs.Settling.{settling-generation, settling-flips, settling-waits, Follow, settling-follow}
 use Rattle.rules.proofs.Settling.{settling-spread, settling-meets, same-all}
-use Rattle.rules.proofs.Sides.{renameTwo, rename-a, rename-b, rename-else}
+use Rattle.rules.proofs.Sides.{renameTwo, rename-a, rename-b, rename-else, by-rename}
 use Rattle.rules.specs.Promises.{Still, Written}
 use Rattle.rules.specs.Tables.{Topology, sides, boundary, link, generation}
 
@@ -298,8 +298,7 @@ settling-still c m n F (flipped u B S) = record {
       S .links h l (not-c (h / 3) e) (not-u (h / 3) e)
       ∙ rename-else (3 * c + 1) (3 * u) (3 * u + 1) (3 * c) (link m h) (omega arith) (omega arith);
   shift = λ h l e.
-      slide h (S .links h l (not-c (h / 3) e) (not-u (h / 3) e)) (ℕ-discrete (link m h) (3 * c + 1))
-      (ℕ-discrete (link m h) (3 * u + 1));
+      slide h (S .links h l (not-c (h / 3) e) (not-u (h / 3) e));
 }
   where
     to-slot : (h x : ℕ) → link n h ≡ 3 * x → generation n x ≢ generation m x
@@ -309,19 +308,13 @@ settling-still c m n F (flipped u B S) = record {
         inr (inr (λ z. w (subst (λ (y : ℕ). generation n y ≡ generation m y) q z)))
 
     slide : (h : ℕ) → link n h ≡ renameTwo (3 * c + 1) (3 * u) (3 * u + 1) (3 * c) (link m h)
-        → Dec (link m h ≡ 3 * c + 1) → Dec (link m h ≡ 3 * u + 1)
         → (link n h ≡ link m h) ⊎ Written m n (link n h / 3)
-    slide h k (yes a) b =
-        to-slot h u
-        (k ∙ ap (renameTwo (3 * c + 1) (3 * u) (3 * u + 1) (3 * c)) a ∙ rename-a (3 * c + 1) (3 * u) (3 * u + 1)
-        (3 * c))
-        (λ z. omega (arith, S .generationU, B .same))
-    slide h k (no a) (yes b) =
-        to-slot h c
-        (k ∙ ap (renameTwo (3 * c + 1) (3 * u) (3 * u + 1) (3 * c)) b ∙ rename-b (3 * c + 1) (3 * u) (3 * u + 1)
-        (3 * c) (omega (arith, B .differ)))
-        (λ z. omega (arith, S .generationS))
-    slide h k (no a) (no b) = inl (k ∙ rename-else (3 * c + 1) (3 * u) (3 * u + 1) (3 * c) (link m h) a b)
+    slide h =
+        by-rename (3 * c + 1) (3 * u) (3 * u + 1) (3 * c)
+        (λ z. link n h ≡ z → (link n h ≡ link m h) ⊎ Written m n (link n h / 3)) (omega (arith, B .differ)) (link m h)
+        (λ _ e. to-slot h u e (λ z. omega (arith, S .generationU, B .same)))
+        (λ _ e. to-slot h c e (λ z. omega (arith, S .generationS)))
+        (λ _ _ e. inl e)
 
     up : (x : ℕ) → Dec (x ≡ c) → Dec (x ≡ u) → generation m x ≤ generation n x
     up x (yes e) d = rw e (omega (arith, S .generationS))

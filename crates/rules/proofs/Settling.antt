@@ -8,9 +8,9 @@ use lib.ListN.{length}
 use Rattle.rules.proofs.Bases.{Child, Settling, kept, flipped, boundary-not-base, not-child}
 use Rattle.rules.proofs.FlipKeeps.{BasesMeet}
 use Rattle.rules.proofs.FlipRead.{Flips}
-use Rattle.rules.proofs.Manifold.{Partnered, Manifold, Base, BasesMeetIn, partnered, partnered-with}
+use Rattle.rules.proofs.Manifold.{Partnered, Manifold, Base, BasesMeetIn, partnered, partnered-with, few}
 use Rattle.rules.proofs.Past.{Past, past-same}
-use Rattle.rules.proofs.Sides.{renameTwo, rename-a, rename-b, rename-else, rename-far}
+use Rattle.rules.proofs.Sides.{renameTwo, rename-a, rename-b, rename-else, rename-far, by-rename}
 use Rattle.rules.specs.Tables.{Topology, sides, origin, boundary, link, generation}
 
 -- ---- a flip, seen from a side of another triangle
@@ -180,7 +180,7 @@ pub settling-follow : (c x t : ℕ) (m n : Topology) → Manifold m → Settling
     → generation m x ≢ generation m c → Follow x t m → Follow x t n
 settling-follow c x t m n F (kept y) l e f = f
 settling-follow c x t m n F (flipped u B S) l e f = (
-  λ q. gone (ℕ-discrete (link m (3 * x)) (3 * c + 1)) (ℕ-discrete (link m (3 * x)) (3 * u + 1)) q,
+  λ q. inner (sym k ∙ q),
   go (ℕ-discrete (link n (3 * x) / 3) c) (ℕ-discrete (link n (3 * x) / 3) u),
 )
   where
@@ -193,29 +193,10 @@ settling-follow c x t m n F (flipped u B S) l e f = (
     k : link n (3 * x) ≡ renameTwo (3 * c + 1) (3 * u) (3 * u + 1) (3 * c) (link m (3 * x))
     k = S .links (3 * x) (omega arith) (let w = xc in omega arith) (let w = xu in omega arith)
 
-    gone : Dec (link m (3 * x) ≡ 3 * c + 1) → Dec (link m (3 * x) ≡ 3 * u + 1) → link n (3 * x) ≢ boundary
-    gone (yes y) d q =
-        omega (
-          arith,
-          sym k ∙ q,
-          F .slots,
-          F .generationRoom,
-          B .useU,
-          ap (renameTwo (3 * c + 1) (3 * u) (3 * u + 1) (3 * c)) y ∙ rename-a (3 * c + 1) (3 * u) (3 * u + 1) (3 * c),
-        )
-    gone (no y) (yes z) q =
-        omega (
-          arith,
-          sym k ∙ q,
-          F .slots,
-          F .generationRoom,
-          B .useS,
-          ap
-              (renameTwo (3 * c + 1) (3 * u) (3 * u + 1) (3 * c)) z ∙ rename-b (3 * c + 1) (3 * u) (3 * u + 1) (3 * c)
-              (omega (arith, B .differ)),
-        )
-    gone (no y) (no z) q =
-        f .0 (sym (rename-else (3 * c + 1) (3 * u) (3 * u + 1) (3 * c) (link m (3 * x)) y z) ∙ sym k ∙ q)
+    inner : renameTwo (3 * c + 1) (3 * u) (3 * u + 1) (3 * c) (link m (3 * x)) ≢ boundary
+    inner =
+        by-rename (3 * c + 1) (3 * u) (3 * u + 1) (3 * c) (λ z. z ≢ boundary) (omega (arith, B .differ))
+        (link m (3 * x)) (λ _. omega (arith, few m F, B .useU)) (λ _. omega (arith, few m F, B .useS)) (λ _ _. f .0)
 
     near : link n (3 * x) / 3 ≢ c → link n (3 * x) / 3 ≢ u → link n (3 * x) ≡ link m (3 * x)
     near i j = far c u m n B S (3 * x) (omega arith) (let w = xc in omega arith) (let w = xu in omega arith) i j

@@ -59,6 +59,16 @@ module _ (a a′ b b′ : ℕ) where
   unfolding renameTwo
   rename-else h n k = rw (ne-eqb h a n, ne-eqb h b k, renameTwo)
 
+  -- A fact of the new name of h, by cases.
+  pub by-rename : (P : ℕ → Type 0) → a ≢ b → (h : ℕ) → (h ≡ a → P a′) → (h ≡ b → P b′) → (h ≢ a → h ≢ b → P h)
+      → P (renameTwo a a′ b b′ h)
+  by-rename P n h x y z = go (ℕ-discrete h a) (ℕ-discrete h b)
+    where
+      go : Dec (h ≡ a) → Dec (h ≡ b) → P (renameTwo a a′ b b′ h)
+      go (yes e) d = subst P (sym (ap (renameTwo a a′ b b′) e ∙ rename-a)) (x e)
+      go (no e) (yes f) = subst P (sym (ap (renameTwo a a′ b b′) f ∙ rename-b n)) (y f)
+      go (no e) (no f) = subst P (sym (rename-else h e f)) (z e f)
+
 -- ---- links renamed
 
 -- Links that are mutual, and two sides a and b whose names change: writing the new names at their partners renames
@@ -170,12 +180,9 @@ row-else l t a b c d u x y z n r = (
 -- A name that is neither of the new ones is an old one.
 pub rename-far : (a a′ b b′ h : ℕ) → a ≢ b → renameTwo a a′ b b′ h ≢ a′ → renameTwo a a′ b b′ h ≢ b′
     → renameTwo a a′ b b′ h ≡ h
-rename-far a a′ b b′ h n x y = go (ℕ-discrete h a) (ℕ-discrete h b)
-  where
-    go : Dec (h ≡ a) → Dec (h ≡ b) → renameTwo a a′ b b′ h ≡ h
-    go (yes e) d = absurd (x (ap (renameTwo a a′ b b′) e ∙ rename-a a a′ b b′))
-    go (no e) (yes f) = absurd (y (ap (renameTwo a a′ b b′) f ∙ rename-b a a′ b b′ n))
-    go (no e) (no f) = rename-else a a′ b b′ h e f
+rename-far a a′ b b′ h n =
+    by-rename a a′ b b′ (λ k. k ≢ a′ → k ≢ b′ → k ≡ h) n h (λ _ x y. absurd (x refl)) (λ _ x y. absurd (y refl))
+    (λ _ _ x y. refl)
 
 -- A fact of each slot: v, the two new ones, or another.
 pub by-slot : (v f n : ℕ) (P : ℕ → Type 0) → n ≡ f + 2 → P v → P f → P (f + 1) → ((x : ℕ) → x < f → x ≢ v → P x)

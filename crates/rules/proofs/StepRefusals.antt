@@ -11,7 +11,7 @@ use Rattle.rules.proofs.FirstThatHolds.{refuses, carries}
 use Rattle.rules.proofs.SoundTest.{tables-agree-is, sound-is}
 use Rattle.rules.specs.Below.{any}
 use Rattle.rules.specs.Calls.{outcomeOf, zeroPoint, worked, roomFor, closedEven, wholeStepRefusal, wholeStepCall}
-use Rattle.rules.specs.Calls.{Test, _if_, firstOf}
+use Rattle.rules.specs.Calls.{_if_, firstOf}
 use Rattle.rules.specs.Ring.{ring}
 use Rattle.rules.specs.Sound.{Sound, isSound}
 use Rattle.rules.specs.Step.{wholeStep}

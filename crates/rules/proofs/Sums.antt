@@ -2,7 +2,7 @@
 use mathlib.Core.Path.{_≡_, refl, sym, ap, ap₂, _∙_}
 use mathlib.Core.Logic.{_≢_}
 use mathlib.Core.Bool.{Bool, true, false}
-use Prim.Native.Nat.{ℕ, zero, suc, _+_, _*_, _<_}
+use Prim.Native.Nat.{ℕ, zero, suc, _+_, _*_, _<_, _≤_}
 use native.Mathlib.Omega.{arith}
 use native.Mathlib.Decide.{ℕ-discrete}
 use lib.Dec.{eqb}
@@ -105,11 +105,25 @@ total-two n f =
     let a : suc n ≡ n + 1 = omega arith in
     ap (λ (x : ℕ). total x f) e ∙ ap (λ (x : ℕ). total n f + f n + f x) a
 
-pub zero-each : (n : ℕ) (f : ℕ → ℕ) → total n f ≡ 0 → (h : ℕ) → h < n → f h ≡ 0
+pub total-le : (n : ℕ) (f g : ℕ → ℕ) → ((h : ℕ) → h < n → f h ≤ g h) → total n f ≤ total n g
 unfolding total
-zero-each zero f e h l = absurd (omega arith)
-zero-each (suc n) f e h l = go (ℕ-discrete h n) (zero-each n f (omega arith) h)
+total-le zero f g e = omega arith
+total-le (suc n) f g e = let a = total-le n f g (λ h l. e h (omega arith)) in let b = e n (omega arith) in omega arith
+
+-- Terms that are at most others and add up to as much are those.
+pub total-tight : (n : ℕ) (f g : ℕ → ℕ) → ((h : ℕ) → h < n → f h ≤ g h) → total n f ≡ total n g → (h : ℕ) → h < n
+    → f h ≡ g h
+unfolding total
+total-tight zero f g e s h l = absurd (omega arith)
+total-tight (suc n) f g e s h l =
+    let a = total-le n f g (λ k i. e k (omega arith)) in
+    let b = e n (omega arith) in
+    go (ℕ-discrete h n) (total-tight n f g (λ k i. e k (omega arith)) (omega arith) h) (omega arith)
   where
-    go : Dec (h ≡ n) → (h < n → f h ≡ 0) → f h ≡ 0
-    go (yes q) ih = rw q (omega arith)
-    go (no q) ih = ih (omega arith)
+    go : Dec (h ≡ n) → (h < n → f h ≡ g h) → f n ≡ g n → f h ≡ g h
+    go (yes q) ih x = rw q x
+    go (no q) ih x = ih (omega arith)
+
+pub zero-each : (n : ℕ) (f : ℕ → ℕ) → total n f ≡ 0 → (h : ℕ) → h < n → f h ≡ 0
+zero-each n f e h l =
+    sym (total-tight n (λ _. 0) f (λ k i. omega arith) (total-zero n (λ _. 0) (λ k i. refl) ∙ sym e) h l)
