@@ -22,7 +22,7 @@ use Rattle.rules.specs.Cage.{Cage, cageOf, partner, loaded, sizesFit, cornersFi
 use Rattle.rules.specs.Conditions.{SizesFit, SidesDiffer}
 use Rattle.rules.specs.Numbers.{numberAt, signed, inRange}
 use Rattle.rules.specs.Sound.{hasOneFan}
-use Rattle.rules.specs.Tables.{Mesh, TablesAgree, tablesAgree, topologyOf, link}
+use Rattle.rules.specs.Tables.{Mesh, TablesAgree, tablesAgree, topologyOf}
 use Rattle.soundness.specs.Walks.{CornersInUse, TellsFans}
 use Rattle.cage.specs.Answers.{Refuses}
 use Rattle.cage.specs.Decoded.{decoded, Readable, Sized, Holds}
@@ -42,7 +42,8 @@ module _ (v f : ℕ) (origins partners : List ℕ) (M : Matched (decoded v f ori
   joined : (h : ℕ) → h < 3 * f → Joined (topologyOf v f origins partners []) h
   joined h l = go (getD partners h 0) refl (M .match h l)
     where
-      go : (k : ℕ) → getD partners h 0 ≡ k → Matches (decoded v f origins) h k → Joined (topologyOf v f origins partners []) h
+      go : (k : ℕ) → getD partners h 0 ≡ k → Matches (decoded v f origins) h k
+          → Joined (topologyOf v f origins partners []) h
       go k e (alone n) = inl e
       go k e (only O u) =
           inr (pair (topologyOf v f origins partners []) h k e
@@ -75,7 +76,8 @@ pub record Fits (bytes : List ℕ) (v f : ℕ) (origins : List ℕ) : Type 0 whe
   pub corners : cornersFit (decoded v f origins) ≡ true
   pub coordinates : all (3 * v) (coordinateFits bytes) ≡ true
 
-pub decode-read : {bytes : List ℕ} {v f : ℕ} (before : List ℕ) {origins : List ℕ} → Sized bytes v f → 3 * f ≤ length before
+pub decode-read : {bytes : List ℕ} {v f : ℕ} (before : List ℕ) {origins : List ℕ} → Sized bytes v f
+    → 3 * f ≤ length before
     → origins ≡ fill (3 * f) (λ i. numberAt bytes (8 + 12 * v + 4 * i)) before → Read bytes v f origins
 unfolding cageOf
 decode-read {bytes} {v} {f} before Z room e =
@@ -166,11 +168,16 @@ module _ {bytes : List ℕ} {v f : ℕ} {origins : List ℕ} (F : Fits bytes v f
         let E : SameSides (topologyOf v f origins partners []) (loaded c m .topology) =
         record {
           triangles = sym (Z .triangles) ∙ sym (L .triangles);
-          corner = λ h l. let i : h < 3 * c .triangles = omega (arith, Z .triangles) in holds .origin h i ∙ sym (L .corners h i);
-          link = λ h l. let i : h < 3 * c .triangles = omega (arith, Z .triangles) in holds .partner h i ∙ sym (L .links h i);
+          corner = λ h l.
+              let i : h < 3 * c .triangles = omega (arith, Z .triangles) in
+              holds .origin h i ∙ sym (L .corners h i);
+          link = λ h l.
+              let i : h < 3 * c .triangles = omega (arith, Z .triangles) in
+              holds .partner h i ∙ sym (L .links h i);
         } in
         ap (λ (n : ℕ). all n (hasOneFan (loaded c m .topology))) (Z .vertices)
-        ∙ sym (t [] (matched-glued v f origins partners M (F .corners) (Z .fewTriangles)) ∙ all-same v _ _ (λ x l. one-fan-same E x))
+        ∙ sym (t [] (matched-glued v f origins partners M (F .corners) (Z .fewTriangles))
+        ∙ all-same v _ _ (λ x l. one-fan-same E x))
 
     pub refuses-6 : TellsFans v f origins partners false → Refuses bytes 6
     refuses-6 t m A S =

@@ -4,7 +4,7 @@ use mathlib.Core.Bool.{Bool, true, false, not}
 use mathlib.Core.List.{List, [], _∷_}
 use mathlib.Core.Logic.{_≢_}
 use mathlib.Core.Path.{_≡_, refl, sym, _∙_}
-use Prim.Native.Nat.{ℕ, _+_, _*_, _<_}
+use Prim.Native.Nat.{ℕ, _+_, _<_}
 use native.Mathlib.Omega.{arith}
 use lib.Dec.{eqb, leb, ltb}
 use lib.ListN.{length}
@@ -81,7 +81,7 @@ module _ (t : ℕ) (m : Mesh) where
         → odd (generation (m .topology) (chainEnd (m .topology) t)) ≡ d → roomFor (splitsOf (m .topology) t) m ≡ e
         → firstOf (8 if a ∷ 9 if b ∷ 10 if d ∷ 11 if not e ∷ []) ≡ refineRefusal t m
     unfolding rest
-    by-tests a b d e = sym (passed ∙ rw (a, b, d, e) refl)
+    by-tests a b d e = sym (passed ∙ rw (e, d, b, a))
 
     pub refine-eight : leb (m .topology .triangles) t ≡ true → 8 ≡ refineRefusal t m
     refine-eight a = by-tests a refl refl refl

@@ -4,14 +4,14 @@ use mathlib.Core.Logic.{_≢_, inl, inr}
 use mathlib.Core.Bool.{Bool, _&&_}
 use Prim.Native.Nat.{ℕ, _+_, _*_, _/_, _<_}
 use native.Mathlib.Omega.{arith}
-use native.Mathlib.Decide.{ℕ-discrete, decLt}
+use native.Mathlib.Decide.{decLt}
 use lib.Dec.{eqb, ltb}
 use Rattle.rules.proofs.Bases.{Settling, kept, flipped}
 use Rattle.rules.proofs.Decide.{Decides, is-eq, is-lt, is-iff, is-same, bit-yes, bit-no, is-and}
 use Rattle.rules.proofs.FlipKeeps.{BasesMeet, meet-back}
 use Rattle.rules.proofs.FlipRead.{Flips}
 use Rattle.rules.proofs.Manifold.{Manifold, Joined, no-self, few, partnered-with}
-use Rattle.rules.proofs.Sides.{renameTwo, rename-a, rename-b, rename-else, by-rename}
+use Rattle.rules.proofs.Sides.{renameTwo, by-rename}
 use Rattle.rules.proofs.SplitRead.{Splits}
 use Rattle.rules.proofs.Sums.{total-same, total-change, total-zero, total-add, total-swap, total-one}
 use Rattle.rules.proofs.Sums.{total-const, total-change₂, row, total-rows, total-two, zero-each}

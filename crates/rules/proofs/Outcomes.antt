@@ -126,9 +126,11 @@ pub whole-step-makes : (m : Mesh) → wholeStepCall m .refusal ≡ 0
     → (wholeStepCall m ≡ worked (wholeStep m)) × StepMakes (generation (m .topology) 0) m (wholeStep m)
 whole-step-makes m z =
     let x = judged-carried (whole-step-judged m) z in
-    let F = step-found m (x .0) in
-    (x .1, subst (λ (g : ℕ). StepMakes g m (wholeStep m)) (sym (F .closed .all 0 (F .sound .someTriangle)))
-    (found-step F))
+    let F = step-found m (x .0) in (
+      x .1,
+      subst (λ (g : ℕ). StepMakes g m (wholeStep m)) (sym (F .closed .all 0 (F .sound .someTriangle)))
+          (found-step F),
+    )
 
 -- ---- queries
 

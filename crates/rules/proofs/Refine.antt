@@ -46,8 +46,8 @@ sound-room s A R = record {
   generations = R .triangles;
 }
 
--- The base chain of a triangle, where it ends at an even one. Its odd triangles are counted, and are at most half of the
--- generations up to that of the triangle.
+-- The base chain of a triangle, where it ends at an even one. Its odd triangles are counted, and are at most half of
+-- the generations up to that of the triangle.
 module _ (t : ℕ) (m : Mesh) (S : Sound m) (b : t < m .topology .triangles)
     (even : generation (m .topology) (chainEnd (m .topology) t) % 2 ≡ 0) where
   pub chain-path : Path (m .topology) t (chainEnd (m .topology) t) (chainOdd (m .topology) t)

@@ -177,11 +177,14 @@ module _ {t : ℕ} {m : Mesh} (R : RefineFound t m) where
     where
       go : (k : ℕ) → splitsOf (m .topology) t ≡ k → Rising k (generation (m .topology) t) t (m .topology)
       go zero e = absurd (omega arith)
-      go (suc k) e = (refl, record {
-        odd = chainOdd (m .topology) t;
-        path = chain-path t m (R .sound) (R .inUse) (R .evenEnd);
-        splits = e;
-      })
+      go (suc k) e = (
+        refl,
+        record {
+          odd = chainOdd (m .topology) t;
+          path = chain-path t m (R .sound) (R .inUse) (R .evenEnd);
+          splits = e;
+        },
+      )
 
   -- Where nothing is refused, refine is as many face splits as t takes.
   pub refine-is-split-ends : refine t (atFirst m) ≡ splitEnds (splitsOf (m .topology) t) t (atFirst m)

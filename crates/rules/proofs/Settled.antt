@@ -12,7 +12,7 @@ use Rattle.rules.proofs.Past.{Past, past-same, past-on}
 use Rattle.rules.proofs.Settling.{Same, settling-child, settling-bases, settling-same, settling-past}
 use Rattle.rules.proofs.Settling.{settling-generation, settling-flips, settling-waits, Follow, settling-follow}
 use Rattle.rules.proofs.Settling.{settling-spread, settling-meets, same-all}
-use Rattle.rules.proofs.Sides.{renameTwo, rename-a, rename-b, rename-else, by-rename}
+use Rattle.rules.proofs.Sides.{renameTwo, rename-else, by-rename}
 use Rattle.rules.specs.Promises.{Still, Written}
 use Rattle.rules.specs.Tables.{Topology, sides, boundary, link, generation}
 

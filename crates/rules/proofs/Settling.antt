@@ -10,7 +10,7 @@ use Rattle.rules.proofs.FlipKeeps.{BasesMeet}
 use Rattle.rules.proofs.FlipRead.{Flips}
 use Rattle.rules.proofs.Manifold.{Partnered, Manifold, Base, BasesMeetIn, partnered, partnered-with, few}
 use Rattle.rules.proofs.Past.{Past, past-same}
-use Rattle.rules.proofs.Sides.{renameTwo, rename-a, rename-b, rename-else, rename-far, by-rename}
+use Rattle.rules.proofs.Sides.{renameTwo, rename-else, rename-far, by-rename}
 use Rattle.rules.specs.Tables.{Topology, sides, origin, boundary, link, generation}
 
 -- ---- a flip, seen from a side of another triangle

@@ -266,21 +266,20 @@ module _ (t : ℕ) (m n : Topology) (F : Manifold m) (b : t < m .triangles) (eve
         first = 3 * t + 2;
         inUse = omega (arith, S .triangles);
         out = S .cornersT .2;
-        all = by-new (λ k. origin n k ≡ m .vertices → Turns n (3 * t + 2) k)
-            (
-              (λ q. absurd (omega (arith, S .cornersT .0))),
-              (λ q. absurd (omega (arith, S .cornersT .1))),
-              (λ q. here),
-            ) (
-              (λ q. absurd (omega (arith, S .cornersF .0))),
-              (λ q. absurd (omega (arith, S .cornersF .1))),
-              (λ q. go-on here (rotate₂ n t ∙ S .linksT .1) (omega arith)),
-            ) (
-              (λ q. absurd (omega (arith, S .cornersE .0))),
-              (λ q. absurd (omega (arith, S .cornersE .1))),
-              (λ q. go-on (go-on here (rotate₂ n t ∙ S .linksT .1) (omega arith)) (rotate₂ n f ∙ S .linksF .1)
-                  (omega arith)),
-            )
+        all = by-new (λ k. origin n k ≡ m .vertices → Turns n (3 * t + 2) k) (
+          (λ q. absurd (omega (arith, S .cornersT .0))),
+          (λ q. absurd (omega (arith, S .cornersT .1))),
+          (λ q. here),
+        ) (
+          (λ q. absurd (omega (arith, S .cornersF .0))),
+          (λ q. absurd (omega (arith, S .cornersF .1))),
+          (λ q. go-on here (rotate₂ n t ∙ S .linksT .1) (omega arith)),
+        ) (
+          (λ q. absurd (omega (arith, S .cornersE .0))),
+          (λ q. absurd (omega (arith, S .cornersE .1))),
+          (λ q. go-on (go-on here (rotate₂ n t ∙ S .linksT .1) (omega arith)) (rotate₂ n f ∙ S .linksF .1)
+              (omega arith)),
+        )
             (λ h l i q. absurd (omega (arith, S .corners h l i, F .corner h l)));
       }
 

@@ -102,6 +102,9 @@ module _ (m : Mesh) (S : Sound m) (C : ClosedEven (m .topology)) (young : C .com
   unfolding w g f
   range i l = go (decLt (i / 3) (m .topology .vertices))
     where
+      room-there : 3 * reached w .vertices ≤ length (w .mesh .positions)
+      room-there = omega (arith, M .places .size, M .vertices, slots m S C R)
+
       go : Dec (i / 3 < m .topology .vertices)
           → InRange (getD (moveVertices (m .topology .vertices) m (w .mesh .positions)) i (pos 0))
       go (yes q) =
@@ -110,8 +113,7 @@ module _ (m : Mesh) (S : Sound m) (C : ClosedEven (m .topology)) (young : C .com
           (subst InRange (sym (moved-to (i / 3) (i % 3) q (omega arith))) (moved-range (i / 3) (i % 3) q (omega arith)))
       go (no q) =
           subst InRange (sym (move-else (m .topology .vertices) m (w .mesh .positions) i (omega arith)))
-          (M .places .range (let p = M .places .size in let v = M .vertices in let s = slots m S C R in omega arith) (S .range)
-          i l)
+          (M .places .range room-there (S .range) i l)
 
   pub step-makes : StepMakes (C .common) m (wholeStep m)
   unfolding wholeStep w g f
@@ -140,7 +142,8 @@ module _ (m : Mesh) (S : Sound m) (C : ClosedEven (m .topology)) (young : C .com
         vertices = v;
         triangles = omega arith;
         edges =
-            omega (arith, M .boundaryCount, edges-boundary (m .topology) (sound-manifold S), edges-boundary (reached w) (M .manifold));
+            let old = edges-boundary (m .topology) (sound-manifold S) in
+            omega (arith, M .boundaryCount, old, edges-boundary (reached w) (M .manifold));
         generations = λ x l. let u = up x l in omega arith;
         moved = moved-to;
         placed = λ x k l i.

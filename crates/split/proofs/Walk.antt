@@ -38,14 +38,16 @@ module _ {m : Topology} {t : ℕ} where
       pub walk-even : generation m end % 2 ≡ 0 → _≡_ {A = Chain} (record { odd = odd; end = end }) (chainOf m t)
       unfolding chainOddWithin chainEndWithin
       walk-even e =
-          rw (← add-zero odd) (stops (suc k) 0 w (rw (even-test _ e, chainOddWithin)) (rw (even-test _ e, chainEndWithin)))
+          rw (← add-zero odd)
+          (stops (suc k) 0 w (rw (even-test _ e, chainOddWithin)) (rw (even-test _ e, chainEndWithin)))
 
       module _ (o : generation m end % 2 ≡ 1) where
         pub walk-boundary : link m (3 * end) ≡ boundary
             → _≡_ {A = Chain} (record { odd = odd + 1; end = end }) (chainOf m t)
         unfolding chainOddWithin chainEndWithin
         walk-boundary e =
-            stops (suc k) 1 w (rw (odd-test _ o, eq-eqb _ _ e, chainOddWithin)) (rw (odd-test _ o, eq-eqb _ _ e, chainEndWithin))
+            stops (suc k) 1 w (rw (odd-test _ o, eq-eqb _ _ e, chainOddWithin))
+            (rw (odd-test _ o, eq-eqb _ _ e, chainEndWithin))
 
         pub walk-on : link m (3 * end) ≢ boundary → Walking m t (odd + 1) (link m (3 * end) / 3) k
         unfolding chainOddWithin chainEndWithin

@@ -7,7 +7,8 @@ ghost use lib.ListN.{length, getD};
 ghost use Rattle.points.specs.Axes.{eachAxis};
 ghost use Rattle.rules.specs.Tables.{Topology, meshOf, coordinate, putThree, relink};
 ghost use Rattle.tables.specs.declared.Counts.{Counts};
-ghost use Rattle.tables.specs.Lent.{topologyNow, TrianglesAgree, VerticesAgree, triangleAt, entries, put, putPoint};
+ghost use Rattle.tables.specs.Lent.{topologyNow, TrianglesAgree, VerticesAgree};
+ghost use Rattle.tables.specs.Lent.{triangleAt, entries, put, putPoint};
 
 // The slots in use: they are the first of their tables.
 #[repr(C)]

@@ -29,15 +29,19 @@ agree c =
     sym (c .tables-agree .ensures (at .vertices) (at .triangles))
 
 fit : (c : tie.After-sizes-fit)
-    → let at = c .before .before .before .before .before .before .before .before .before .before .before .before .before in
+    → let at =
+    c .before .before .before .before .before .before .before .before .before .before .before .before .before in
     sizesFit (at .args .cage .now) (mesh at) ≡ c .sizes-fit .result
 fit c =
-    let at = c .before .before .before .before .before .before .before .before .before .before .before .before .before .args in
+    let at =
+    c .before .before .before .before .before .before .before .before .before .before .before .before .before .args in
     sym (c .sizes-fit .ensures (at .vertices) (at .triangles) (at .corners .now) (at .links .now))
 
 -- What is known where both are passed.
 known : (c : tie.Else2)
-    → let at = c .before .before .before .before .before .before .before .before .before .before .before .before .before .before in
+    → let at =
+    c .before .before .before .before .before .before .before .before .before .before .before .before .before
+    .before in
     TablesAgree (mesh at) × SizesFit (at .args .cage .now) (mesh at)
 known c =
     let at-else = c .before .before .before .before in (
