@@ -10,7 +10,7 @@ use Rattle.rules.proofs.Cut.{CutResult}
 use Rattle.rules.proofs.Decide.{odd-test, even-test}
 use Rattle.rules.proofs.FaceSplit.{Room, Splitting, face-splitting}
 use Rattle.rules.proofs.Manifold.{Partnered, Manifold, level, BasesMeetIn, level₀, partnered}
-use Rattle.rules.proofs.Runs.{Splittable, isEven, cut}
+use Rattle.rules.proofs.Runs.{Splittable, isEven, cut, even-of}
 use Rattle.rules.proofs.Settled.{nowhere}
 use Rattle.rules.proofs.Settling.{Follow}
 use Rattle.rules.specs.Conditions.{OddInChain, atEven, onward}
@@ -66,13 +66,10 @@ goes m t = go (ℕ-discrete (generation m t % 2) 1) (ℕ-discrete (link m (3 * t
     go (yes o) (yes e) = boundaryHere o e
     go (yes o) (no e) = furtherOn o e
 
-end-face : (n : ℕ) (m : Topology) (t : ℕ) → generation m t % 2 ≡ 0 → chainEndWithin n m t ≡ t
-unfolding chainEndWithin
-end-face zero m t e = refl
-end-face (suc n) m t e = rw (even-test (generation m t) e, chainEndWithin)
-
 pub end-here : (n : ℕ) (m : Topology) (t : ℕ) → Splittable m t → chainEndWithin n m t ≡ t
-end-here n m t (isEven e) = end-face n m t e
+unfolding chainEndWithin
+end-here zero m t x = refl
+end-here (suc n) m t x = rw (even-test (generation m t) (even-of x), chainEndWithin)
 
 end-on : (n : ℕ) (m : Topology) (t v : ℕ) → generation m t % 2 ≡ 1 → link m (3 * t) ≢ boundary
     → chainEndWithin n m (link m (3 * t) / 3) ≡ v → chainEndWithin (suc n) m t ≡ v
@@ -120,7 +117,7 @@ path-use {m} F K l (across {t = t} o r p) = path-use F K (falls m F K t l o r .0
 below-sum : (a b c d : ℕ) → b + (1 + d) ≡ c → a ≤ b → a ≤ c
 below-sum a b c d e i = omega arith
 
-pub path-top : {m : Topology} {u t v k : ℕ} → Manifold m → BasesMeetIn nowhere m → t < m .triangles
+path-top : {m : Topology} {u t v k : ℕ} → Manifold m → BasesMeetIn nowhere m → t < m .triangles
     → generation m t % 2 ≡ 1 → link m (3 * t) ≢ boundary → link m (3 * t) / 3 ≡ u → Path m u v k
     → (x : Splittable m v) → topOf m v x ≤ generation m t
 path-top {m} {t = t} F K l o r e (ends {t = u} f) x =
@@ -130,6 +127,10 @@ path-top {m} {t = t} F K l o r e (across {t = u} {v = v} o′ r′ p) x =
     below-sum (topOf m v x) (generation m u) (generation m t) (generation m u % 2)
     (subst (λ (y : ℕ). generation m y + (1 + generation m y % 2) ≡ generation m t) e (falls m F K t l o r .1))
     (path-top F K (subst (λ (y : ℕ). y < m .triangles) e (falls m F K t l o r .0)) o′ r′ refl p x)
+
+pub path-high : {m : Topology} {t v k : ℕ} → Manifold m → BasesMeetIn nowhere m → t < m .triangles → Path m t v (suc k)
+    → (x : Splittable m v) → topOf m v x ≤ generation m t
+path-high F K l (across {t = t} o r p) x = path-top {t = t} F K l o r refl p x
 
 short-on : (k g h : ℕ) → h + (1 + h % 2) ≡ g → g % 2 ≡ 1 → 2 * k ≤ h + 1 → 2 * suc k ≤ g + 1
 short-on k g h e o i = omega arith
@@ -146,11 +147,8 @@ path-fit (ends f) = f
 path-fit (across o r p) = path-fit p
 
 -- A path to an even triangle counts the odd triangles of the chain.
-end-counts : {m : Topology} {v : ℕ} → Splittable m v → OddInChain m v 0
-end-counts (isEven e) = atEven e
-
 pub path-counts : {m : Topology} {t v k : ℕ} → Path m t v k → OddInChain m t k
-path-counts (ends f) = end-counts f
+path-counts (ends f) = atEven (even-of f)
 path-counts (across o r p) = onward o r (path-counts p)
 
 pub way : (n : ℕ) (m : Topology) → Manifold m → BasesMeetIn nowhere m → (t : ℕ) → t < m .triangles
@@ -190,10 +188,7 @@ module _ (v g p r : ℕ) (m n : Topology) (F : Manifold m) (K : BasesMeetIn nowh
     (fit : Splittable m v) (S : CutResult v g p r m n) where
   -- A base chain that goes on does not go on from v, unless v is even.
   not-v : (x : ℕ) → generation m x % 2 ≡ 1 → link m (3 * x) ≢ boundary → x ≢ v
-  not-v x o q e = go fit
-    where
-      go : Splittable m v → ⊥
-      go (isEven f) = omega (arith, ap (λ (y : ℕ). generation m y) e)
+  not-v x o q e = omega (arith, even-of fit, ap (generation m) e)
 
   -- x and its base's partner are left: the base goes on meeting it.
   pub stays : (x : ℕ) → x < m .triangles → link m (3 * x) ≢ boundary → generation n x ≡ generation m x

@@ -14,7 +14,7 @@ use Rattle.rules.proofs.Manifold.{Manifold, Joined, no-self, few, partn
 use Rattle.rules.proofs.Sides.{renameTwo, by-rename}
 use Rattle.rules.proofs.SplitRead.{Splits}
 use Rattle.rules.proofs.Sums.{total-same, total-change, total-zero, total-add, total-swap, total-one}
-use Rattle.rules.proofs.Sums.{total-const, total-change₂, row, total-rows, total-two, zero-each}
+use Rattle.rules.proofs.Sums.{total-const, total-change₂, row, total-rows, total-two, zero-each, row-same}
 use Rattle.rules.specs.Below.{total, bit, count}
 use Rattle.rules.specs.History.{edges}
 use Rattle.rules.specs.Tables.{Topology, sides, boundary, link}
@@ -129,6 +129,10 @@ boundary-bit : (m : Topology) (h k : ℕ) → link m h ≡ k → boundaryBit m h
 unfolding boundaryBit
 boundary-bit m h k e = ap (λ (x : ℕ). bit (eqb x boundary)) e
 
+same-bit : (m n : Topology) (h k : ℕ) → link n h ≡ link m k → boundaryBit n h ≡ boundaryBit m k
+unfolding boundaryBit
+same-bit m n h k e = ap (λ (x : ℕ). bit (eqb x boundary)) e
+
 linked-bit : (m : Topology) (h k : ℕ) → link m h ≡ k → k ≢ boundary → boundaryBit m h ≡ 0
 linked-bit m h k e n = boundary-bit m h k e ∙ bit-no (is-eq k boundary) n
 
@@ -153,9 +157,9 @@ split-boundary t m n F b S =
     let f₂ = linked-bit n (3 * f + 2) (3 * t + 1) (S .linksF .2) (omega arith) in
     let e₁ = linked-bit n (3 * e + 1) (3 * t + 2) (S .linksE .1) (omega arith) in
     let e₂ = linked-bit n (3 * e + 2) (3 * f + 1) (S .linksE .2) (omega arith) in
-    let t₀ : boundaryBit n (3 * t) ≡ boundaryBit m (3 * t) = same (3 * t) (3 * t) (S .linksT .0) in
-    let f₀ : boundaryBit n (3 * f) ≡ boundaryBit m (3 * t + 1) = same (3 * f) (3 * t + 1) (S .linksF .0) in
-    let e₀ : boundaryBit n (3 * e) ≡ boundaryBit m (3 * t + 2) = same (3 * e) (3 * t + 2) (S .linksE .0) in
+    let t₀ : boundaryBit n (3 * t) ≡ boundaryBit m (3 * t) = same-bit m n (3 * t) (3 * t) (S .linksT .0) in
+    let f₀ : boundaryBit n (3 * f) ≡ boundaryBit m (3 * t + 1) = same-bit m n (3 * f) (3 * t + 1) (S .linksF .0) in
+    let e₀ : boundaryBit n (3 * e) ≡ boundaryBit m (3 * t + 2) = same-bit m n (3 * e) (3 * t + 2) (S .linksE .0) in
     let c : total f (row (boundaryBit n)) + row (boundaryBit m) t
     ≡ total f (row (boundaryBit m)) + row (boundaryBit n) t =
     total-change f t (row (boundaryBit m)) (row (boundaryBit n)) b (λ x l i. far x l i) in
@@ -164,9 +168,6 @@ split-boundary t m n F b S =
     ap (λ (x : ℕ). total x (row (boundaryBit n))) (S .triangles) ∙ total-two f (row (boundaryBit n)) in
     boundary-rows n ∙ omega (arith, boundary-rows m)
   where
-    same : (h k : ℕ) → link n h ≡ link m k → boundaryBit n h ≡ boundaryBit m k
-    same h k e = boundary-bit n h (link m k) e ∙ sym (boundary-bit m k (link m k) refl)
-
     one : (h : ℕ) → h < sides m → h / 3 ≢ t → boundaryBit m h ≡ boundaryBit n h
     one h l i =
         let q : 3 * m .triangles < boundary = few m F in
@@ -180,10 +181,8 @@ split-boundary t m n F b S =
 
     far : (x : ℕ) → x < m .triangles → x ≢ t → row (boundaryBit m) x ≡ row (boundaryBit n) x
     far x l i =
-        let a = one (3 * x) (omega arith) (omega arith) in
-        let b′ = one (3 * x + 1) (omega arith) (omega arith) in
-        let c = one (3 * x + 2) (omega arith) (omega arith) in
-        omega arith
+        row-same (boundaryBit m) (boundaryBit n) x (one (3 * x) (omega arith) (omega arith))
+        (one (3 * x + 1) (omega arith) (omega arith)) (one (3 * x + 2) (omega arith) (omega arith))
 
 pub flip-boundary : (s u : ℕ) (m n : Topology) → Manifold m → BasesMeet s u m → Flips s u m n
     → boundarySides n ≡ boundarySides m
@@ -192,12 +191,12 @@ flip-boundary s u m n F B S =
     let bs = B .useS in
     let bu = B .useU in
     let q : 3 * f < boundary = few m F in
-    let s₀ : boundaryBit n (3 * s) ≡ boundaryBit m (3 * u + 1) = same (3 * s) (3 * u + 1) (S .linksS .0) in
+    let s₀ : boundaryBit n (3 * s) ≡ boundaryBit m (3 * u + 1) = same-bit m n (3 * s) (3 * u + 1) (S .linksS .0) in
     let s₁ = linked-bit n (3 * s + 1) (3 * u + 1) (S .linksS .1) (omega arith) in
-    let s₂ : boundaryBit n (3 * s + 2) ≡ boundaryBit m (3 * s + 2) = same (3 * s + 2) (3 * s + 2) (S .linksS .2) in
-    let u₀ : boundaryBit n (3 * u) ≡ boundaryBit m (3 * s + 1) = same (3 * u) (3 * s + 1) (S .linksU .0) in
+    let s₂ : boundaryBit n (3 * s + 2) ≡ boundaryBit m (3 * s + 2) = same-bit m n (3 * s + 2) (3 * s + 2) (S .linksS .2) in
+    let u₀ : boundaryBit n (3 * u) ≡ boundaryBit m (3 * s + 1) = same-bit m n (3 * u) (3 * s + 1) (S .linksU .0) in
     let u₁ = linked-bit n (3 * u + 1) (3 * s + 1) (S .linksU .1) (omega arith) in
-    let u₂ : boundaryBit n (3 * u + 2) ≡ boundaryBit m (3 * u + 2) = same (3 * u + 2) (3 * u + 2) (S .linksU .2) in
+    let u₂ : boundaryBit n (3 * u + 2) ≡ boundaryBit m (3 * u + 2) = same-bit m n (3 * u + 2) (3 * u + 2) (S .linksU .2) in
     let a₀ = linked-bit m (3 * s) (3 * u) (B .meet) (omega arith) in
     let b₀ = linked-bit m (3 * u) (3 * s) (meet-back s u m n F B S) (omega arith) in
     let c : total f (row (boundaryBit n)) + row (boundaryBit m) s + row (boundaryBit m) u
@@ -207,9 +206,6 @@ flip-boundary s u m n F B S =
     ap (λ (x : ℕ). total x (row (boundaryBit n))) (S .triangles) in
     boundary-rows n ∙ omega (arith, boundary-rows m)
   where
-    same : (h k : ℕ) → link n h ≡ link m k → boundaryBit n h ≡ boundaryBit m k
-    same h k e = boundary-bit n h (link m k) e ∙ sym (boundary-bit m k (link m k) refl)
-
     one : (h : ℕ) → h < sides m → h / 3 ≢ s → h / 3 ≢ u → boundaryBit m h ≡ boundaryBit n h
     one h l i j =
         let q : 3 * m .triangles < boundary = few m F in
@@ -223,10 +219,9 @@ flip-boundary s u m n F B S =
 
     far : (x : ℕ) → x < m .triangles → x ≢ s → x ≢ u → row (boundaryBit m) x ≡ row (boundaryBit n) x
     far x l i j =
-        let a = one (3 * x) (omega arith) (omega arith) (omega arith) in
-        let b′ = one (3 * x + 1) (omega arith) (omega arith) (omega arith) in
-        let c = one (3 * x + 2) (omega arith) (omega arith) (omega arith) in
-        omega arith
+        row-same (boundaryBit m) (boundaryBit n) x (one (3 * x) (omega arith) (omega arith) (omega arith))
+        (one (3 * x + 1) (omega arith) (omega arith) (omega arith))
+        (one (3 * x + 2) (omega arith) (omega arith) (omega arith))
 
 pub settling-boundary : (c : ℕ) (m n : Topology) → Manifold m → Settling c m n → boundarySides n ≡ boundarySides m
 settling-boundary c m n F (kept x) = refl

@@ -5,8 +5,8 @@ use native.Mathlib.Omega.{arith}
 use lib.ListN.{length}
 use borrow.Author.Tests.{lt-ltb, le-ltb}
 use Rattle.rules.proofs.Bases.{reached}
-use Rattle.rules.proofs.Chain.{Path, ends, path-end, topOf, boundaryOf, cut-splitting, path-use, path-top}
-use Rattle.rules.proofs.Chain.{shortens, across}
+use Rattle.rules.proofs.Chain.{Path, ends, path-end, topOf, boundaryOf, cut-splitting, path-use, shortens}
+use Rattle.rules.proofs.Chain.{across, path-high}
 use Rattle.rules.proofs.Cut.{CutResult}
 use Rattle.rules.proofs.Edges.{boundarySides}
 use Rattle.rules.proofs.FaceSplit.{Room, room-fewer}
@@ -109,10 +109,6 @@ room-rest s v g p r m n S R = record {
   links = omega (arith, R .links, S .triangles, S .links);
   generations = omega (arith, R .generations, S .triangles, S .generations);
 }
-
-path-high : {m : Topology} {t v k : ℕ} → Manifold m → BasesMeetIn nowhere m → t < m .triangles → Path m t v (suc k)
-    → (x : Splittable m v) → topOf m v x ≤ generation m t
-path-high F K l (across {t = t} o r p) x = path-top {t = t} F K l o r refl p x
 
 pub raise-chain : (k n t v : ℕ) (d : Work) (x : Splittable (reached d) v) → Manifold (reached d)
     → BasesMeetIn nowhere (reached d) → t < reached d .triangles → Path (reached d) t v (suc k) → suc k ≤ n

@@ -5,14 +5,14 @@ use Prim.Native.Nat.{ℕ, zero, suc, _+_, _*_, _/_, _%_, _≤_, _<_, max}
 use native.Mathlib.Omega.{arith}
 use Rattle.rules.proofs.Bases.{reached}
 use Rattle.rules.proofs.Carried.{RefineFound}
-use Rattle.rules.proofs.Chain.{Path, ends, across, path-end, path-use, topOf, path-top, path-fit, Shorter}
-use Rattle.rules.proofs.Chain.{shortens}
+use Rattle.rules.proofs.Chain.{Path, ends, across, path-end, path-use, topOf, path-fit, Shorter, shortens}
+use Rattle.rules.proofs.Chain.{path-high}
 use Rattle.rules.proofs.FaceSplit.{Room, Splitting, face-splitting, room-fewer}
 use Rattle.rules.proofs.Manifold.{Manifold, BasesMeetIn}
 use Rattle.rules.proofs.Raise.{raise-stops, raise-splits, room-rest}
 use Rattle.rules.proofs.Refine.{sound-room, chain-path, chain-bound}
 use Rattle.rules.proofs.Relaxed.{sound-manifold, sound-bases, agree-on, SameSlots}
-use Rattle.rules.proofs.Runs.{Splittable, isEven}
+use Rattle.rules.proofs.Runs.{Splittable, isEven, even-of}
 use Rattle.rules.proofs.Settled.{nowhere}
 use Rattle.rules.specs.Calls.{splitsOf}
 use Rattle.rules.specs.Conditions.{RoomFor}
@@ -46,9 +46,6 @@ pub record Ahead (k g t : ℕ) (w : Work) : Type 0 where
   pub room : Room k (reached w)
   pub rising : Rising k g t (reached w)
 
-even-of : {m : Topology} {v : ℕ} → Splittable m v → generation m v % 2 ≡ 0
-even-of (isEven e) = e
-
 -- The end of the chain of t: what is split next.
 pub record End (g v : ℕ) (m : Topology) : Type 0 where
   pub inUse : v < m .triangles
@@ -58,7 +55,8 @@ pub record End (g v : ℕ) (m : Topology) : Type 0 where
 path-young : {m : Topology} {t v k : ℕ} → Manifold m → BasesMeetIn nowhere m → t < m .triangles → Path m t v k
     → generation m v ≤ generation m t
 path-young F K l (ends e) = omega arith
-path-young {m} {v = v} F K l (across {t = t} o r p) = below (path-fit p) (path-top {t = t} F K l o r refl p)
+path-young {m} {t} {v} F K l (across o r p) =
+    below (path-fit p) (path-high F K l (across {t = t} o r p))
   where
     below : (x : Splittable m v) → ((x : Splittable m v) → topOf m v x ≤ generation m t)
         → generation m v ≤ generation m t
@@ -163,9 +161,6 @@ pub record NextSplit (v : ℕ) (w : Work) : Type 0 where
   pub room : RoomFor 1 (w .mesh)
 
 module _ {t : ℕ} {m : Mesh} (R : RefineFound t m) where
-  short : 2 * chainOdd (m .topology) t ≤ generation (m .topology) t + 1
-  short = chain-bound t m (R .sound) (R .inUse) (R .evenEnd)
-
   ahead : Ahead (splitsOf (m .topology) t) (generation (m .topology) t) t (atFirst m)
   ahead = record {
     manifold = sound-manifold (R .sound);
@@ -190,10 +185,11 @@ module _ {t : ℕ} {m : Mesh} (R : RefineFound t m) where
   pub refine-is-split-ends : refine t (atFirst m) ≡ splitEnds (splitsOf (m .topology) t) t (atFirst m)
   unfolding refine
   refine-is-split-ends =
-      raise-is-split-ends (splitsOf (m .topology) t) _ (atFirst m) (omega (arith, short)) ahead
+      raise-is-split-ends (splitsOf (m .topology) t) _ (atFirst m)
+      (omega (arith, chain-bound t m (R .sound) (R .inUse) (R .evenEnd))) ahead
 
   pub few-splits : splitsOf (m .topology) t ≤ 10
-  few-splits = omega (arith, short, R .young)
+  few-splits = omega (arith, chain-bound t m (R .sound) (R .inUse) (R .evenEnd), R .young)
 
   pub refining-begins : Refining t m (atFirst m)
   refining-begins = record {

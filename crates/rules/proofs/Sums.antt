@@ -84,6 +84,10 @@ total-change₂ n i j f g l k ne e =
 abbrev pub row : (ℕ → ℕ) → ℕ → ℕ
 row f t = f (3 * t) + f (3 * t + 1) + f (3 * t + 2)
 
+pub row-same : (f g : ℕ → ℕ) (t : ℕ) → f (3 * t) ≡ g (3 * t) → f (3 * t + 1) ≡ g (3 * t + 1)
+    → f (3 * t + 2) ≡ g (3 * t + 2) → row f t ≡ row g t
+row-same f g t a b c = omega arith
+
 pub total-rows : (n : ℕ) (f : ℕ → ℕ) → total (3 * n) f ≡ total n (row f)
 unfolding total
 total-rows zero f = refl
