@@ -193,10 +193,12 @@ flip-boundary s u m n F B S =
     let q : 3 * f < boundary = few m F in
     let s₀ : boundaryBit n (3 * s) ≡ boundaryBit m (3 * u + 1) = same-bit m n (3 * s) (3 * u + 1) (S .linksS .0) in
     let s₁ = linked-bit n (3 * s + 1) (3 * u + 1) (S .linksS .1) (omega arith) in
-    let s₂ : boundaryBit n (3 * s + 2) ≡ boundaryBit m (3 * s + 2) = same-bit m n (3 * s + 2) (3 * s + 2) (S .linksS .2) in
+    let s₂ : boundaryBit n (3 * s + 2) ≡ boundaryBit m (3 * s + 2) =
+    same-bit m n (3 * s + 2) (3 * s + 2) (S .linksS .2) in
     let u₀ : boundaryBit n (3 * u) ≡ boundaryBit m (3 * s + 1) = same-bit m n (3 * u) (3 * s + 1) (S .linksU .0) in
     let u₁ = linked-bit n (3 * u + 1) (3 * s + 1) (S .linksU .1) (omega arith) in
-    let u₂ : boundaryBit n (3 * u + 2) ≡ boundaryBit m (3 * u + 2) = same-bit m n (3 * u + 2) (3 * u + 2) (S .linksU .2) in
+    let u₂ : boundaryBit n (3 * u + 2) ≡ boundaryBit m (3 * u + 2) =
+    same-bit m n (3 * u + 2) (3 * u + 2) (S .linksU .2) in
     let a₀ = linked-bit m (3 * s) (3 * u) (B .meet) (omega arith) in
     let b₀ = linked-bit m (3 * u) (3 * s) (meet-back s u m n F B S) (omega arith) in
     let c : total f (row (boundaryBit n)) + row (boundaryBit m) s + row (boundaryBit m) u

@@ -8,7 +8,7 @@ use native.Mathlib.Omega.{arith}
 use lib.ListN.{length, getD}
 use lib.IntN.{pos}
 use Rattle.rules.proofs.Bases.{Settles, boundary-not-base, reached, settle-settles, settling-manifold}
-use Rattle.rules.proofs.Cut.{Cut, CutResult, Onto, cut-settled}
+use Rattle.rules.proofs.Cut.{Cut, CutResult, Onto, cut-settled, Spread}
 use Rattle.rules.proofs.Edges.{split-boundary}
 use Rattle.rules.proofs.Manifold.{Partnered, Manifold, Base, no-self, partnered}
 use Rattle.rules.proofs.Odds.{split-odds, settling-odds}
@@ -103,9 +103,7 @@ module _ (v : ℕ) (m n : Topology) (F : Manifold m) (b : v < m .triangles) (eve
         mine = mine;
         spread =
             by-slot v f (n .triangles)
-            (λ x. ((x < m .triangles) × (x ≢ v) × (generation n x ≡ generation m x)) ⊎ ((generation n x ≡ suc
-            (generation m v)) ⊎ (generation n x ≡ suc (suc (generation m v)))))
-            w
+            (Spread v (suc (generation m v)) m n) w
             (inr (inl (S .generationT))) (inr (inl (S .generationF))) (inr (inl (S .generationE))) (λ x l i. inl
             (l, i, S .generations x l i));
         generations = S .generations;

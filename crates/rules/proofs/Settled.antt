@@ -7,6 +7,7 @@ use native.Mathlib.Omega.{arith}
 use native.Mathlib.Decide.{ℕ-discrete, decLe}
 use Rattle.rules.proofs.Bases.{Child, Settling, kept, flipped, settling-manifold}
 use Rattle.rules.proofs.Edges.{boundarySides, settling-boundary}
+use Rattle.rules.proofs.Entries.{Each, Some, each-both, some-with}
 use Rattle.rules.proofs.Manifold.{Manifold, BasesMeetIn}
 use Rattle.rules.proofs.Past.{Past, past-same, past-on}
 use Rattle.rules.proofs.Settling.{Same, settling-child, settling-bases, settling-same, settling-past}
@@ -25,16 +26,13 @@ abbrev pub nowhere : ℕ → Type 0
 nowhere x = ⊥
 
 abbrev pub Among : List ℕ → ℕ → Type 0
-Among [] x = ⊥
-Among (c ∷ cs) x = (x ≡ c) ⊎ Among cs x
+Among cs x = Some (λ c. x ≡ c) cs
 
 abbrev pub Children : ℕ → ℕ → Topology → List ℕ → Type 0
-Children p g m [] = Unit {0}
-Children p g m (c ∷ cs) = Child p g c m × Children p g m cs
+Children p g m cs = Each (λ c. Child p g c m) cs
 
 abbrev pub Without : ℕ → List ℕ → Type 0
-Without c [] = Unit {0}
-Without c (d ∷ cs) = (d ≢ c) × Without c cs
+Without c cs = Each (λ d. d ≢ c) cs
 
 abbrev pub Distinct : List ℕ → Type 0
 Distinct [] = Unit {0}
@@ -42,16 +40,13 @@ Distinct (c ∷ cs) = Without c cs × Distinct cs
 
 -- The base of x meets the base of one of them.
 abbrev pub Met : ℕ → Topology → List ℕ → Type 0
-Met x m [] = ⊥
-Met x m (c ∷ cs) = (link m (3 * c) ≡ 3 * x) ⊎ Met x m cs
+Met x m cs = Some (λ c. link m (3 * c) ≡ 3 * x) cs
 
 -- ---- one outcome and the children still to come
 
 pub children-on : (p g c : ℕ) (m k : Topology) (cs : List ℕ) → Settling c m k → Child p g c m → Children p g m cs
     → Without c cs → Children p g k cs
-children-on p g c m k [] o C D w = tt
-children-on p g c m k (d ∷ cs) o C D w =
-    (settling-child p g c d m k o C (D .0) (w .0), children-on p g c m k cs o C (D .1) (w .1))
+children-on p g c m k cs o C = each-both (λ d. settling-child p g c d m k o C) cs
 
 waits-on : (p g c x : ℕ) (m k : Topology) (cs : List ℕ) → Manifold m → Settling c m k → Child p g c m
     → Children p g m cs → Without c cs → x < m .triangles → Met x m cs
@@ -66,9 +61,9 @@ waits-on p g c x m k (d ∷ cs) F o C D w l (inr e) =
 
 met-back : (p g c x : ℕ) (m k : Topology) (cs : List ℕ) → Settling c m k → Child p g c m → Children p g m cs
     → Without c cs → generation k x % 2 ≡ 1 → Met x k cs → Met x m cs
-met-back p g c x m k [] o C D w i e = absurd e
-met-back p g c x m k (d ∷ cs) o C D w i (inl e) = inl (settling-meets p g c d x m k o C (D .0) (w .0) i e)
-met-back p g c x m k (d ∷ cs) o C D w i (inr e) = inr (met-back p g c x m k cs o C (D .1) (w .1) i e)
+met-back p g c x m k cs o C D w i =
+    some-with (λ (d : ℕ) (K : Child p g d m × (d ≢ c)). settling-meets p g c d x m k o C (K .0) (K .1) i) cs
+    (each-both (λ d K ne. (K, ne)) cs D w)
 
 -- ---- all of them
 
@@ -215,6 +210,11 @@ settled-follow p g x t (then {c = c} {cs = cs} {m = m} {k = k} {n = n} o s) F K 
 
 -- ---- what is not written: a triangle whose generation has not changed
 
+-- It is none whose generation has.
+pub unchanged-not : (m n : Topology) {x c : ℕ} → generation n c ≢ generation m c → generation n x ≡ generation m x
+    → x ≢ c
+unchanged-not m n w e q = w (subst (λ (y : ℕ). generation n y ≡ generation m y) q e)
+
 pub still-all : (m : Topology) → Still m m
 still-all m = record {
   grows = omega arith;
@@ -322,14 +322,10 @@ settling-still c m n F (flipped u B S) = record {
     up x (no e) (no f) = omega (arith, S .generations x e f)
 
     not-c : (x : ℕ) → generation n x ≡ generation m x → x ≢ c
-    not-c x e q =
-        let z : generation n c ≡ generation m c = subst (λ (y : ℕ). generation n y ≡ generation m y) q e in
-        omega (arith, S .generationS)
+    not-c x = unchanged-not m n (λ z. omega (arith, S .generationS))
 
     not-u : (x : ℕ) → generation n x ≡ generation m x → x ≢ u
-    not-u x e q =
-        let z : generation n u ≡ generation m u = subst (λ (y : ℕ). generation n y ≡ generation m y) q e in
-        omega (arith, S .generationU, B .same)
+    not-u x = unchanged-not m n (λ z. omega (arith, S .generationU, B .same))
 
     away : (h : ℕ)
         → (link m h ≡ boundary) ⊎ ((link m h < sides m) × (generation n (link m h / 3) ≡ generation m (link m h / 3)))

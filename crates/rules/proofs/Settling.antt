@@ -134,12 +134,15 @@ pub settling-past : (c b : ℕ) (m n : Topology) → Settling c m n → m .trian
 settling-past c b m n (kept x) i = past-same b m
 settling-past c b m n (flipped u B S) i = S .past b i
 
--- A triangle of another generation is left.
+-- A triangle of another generation is not flipped, and left.
+not-flipped : (s u : ℕ) (m : Topology) → BasesMeet s u m → {x : ℕ} → generation m x ≢ generation m s → (x ≢ s) × (x ≢ u)
+not-flipped s u m B e = ((λ q. e (ap (generation m) q)), (λ q. e (ap (generation m) q ∙ B .same)))
+
 pub settling-generation : (c x : ℕ) (m n : Topology) → Settling c m n → generation m x ≢ generation m c
     → generation n x ≡ generation m x
 settling-generation c x m n (kept y) e = refl
 settling-generation c x m n (flipped u B S) e =
-    S .generations x (λ q. e (ap (λ (y : ℕ). generation m y) q)) (λ q. e (ap (λ (y : ℕ). generation m y) q ∙ B .same))
+    S .generations x (not-flipped c u m B e .0) (not-flipped c u m B e .1)
 
 -- The child whose base meets the base of t flips it.
 pub settling-flips : (p g c t : ℕ) (m n : Topology) → Settling c m n → Child p g c m → link m (3 * c) ≡ 3 * t
@@ -185,10 +188,10 @@ settling-follow c x t m n F (flipped u B S) l e f = (
 )
   where
     xc : x ≢ c
-    xc q = e (ap (λ (y : ℕ). generation m y) q)
+    xc = not-flipped c u m B e .0
 
     xu : x ≢ u
-    xu q = e (ap (λ (y : ℕ). generation m y) q ∙ B .same)
+    xu = not-flipped c u m B e .1
 
     k : link n (3 * x) ≡ renameTwo (3 * c + 1) (3 * u) (3 * u + 1) (3 * c) (link m (3 * x))
     k = S .links (3 * x) (omega arith) (let w = xc in omega arith) (let w = xu in omega arith)

@@ -8,6 +8,7 @@ use lib.ListN.{length, getD, drop, length-set}
 use lib.IntN.{ℤ, pos, negℤ, _+ℤ_}
 use lib.Signed.{_≤ℤ_}
 use Rattle.rules.proofs.Differences.{its, nat, add, neg, at-most, at-most-gives}
+use Rattle.rules.proofs.Entries.{Each}
 use Rattle.rules.proofs.Past.{drop-put}
 use Rattle.rules.proofs.Rounding.{moved-in-range}
 use Rattle.rules.proofs.Sides.{length-put, put-else, put-at}
@@ -55,10 +56,6 @@ module _ (m : Mesh) (v k : ℕ) (three : k < 3) where
       go (no e) ih = ih (omega arith)
 
 -- ---- sums over a ring
-
-abbrev pub Each : (ℕ → Type 0) → List ℕ → Type 0
-Each P [] = Unit {0}
-Each P (x ∷ xs) = P x × Each P xs
 
 -- A sum of coordinates in range lies between the limits, as many times as there are summands.
 sum-range : (m : Mesh) (k : ℕ) (vs : List ℕ) → Each (λ v. InRange (coordinate m v k)) vs

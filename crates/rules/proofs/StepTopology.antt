@@ -9,6 +9,7 @@ use lib.ListN.{length, getD}
 use lib.IntN.{ℤ, pos}
 use Rattle.rules.proofs.Bases.{reached}
 use Rattle.rules.proofs.Chain.{falls}
+use Rattle.rules.proofs.Cut.{Spread}
 use Rattle.rules.proofs.Edges.{boundarySides, no-boundary}
 use Rattle.rules.proofs.FaceSplit.{Room, face-positions, face-splitting}
 use Rattle.rules.proofs.Manifold.{Manifold, BasesMeetIn}
@@ -47,8 +48,7 @@ pub record Midway (g i : ℕ) (d e : Work) : Type 0 where
 ready-on : (g i : ℕ) (d e n : Topology) (x : ℕ)
     → (x < e .triangles → (x < i) ⊎ (d .triangles ≤ x) → (generation e x ≡ suc g) ⊎ (generation e x ≡ suc (suc g)))
     → generation e i ≡ g → (x < suc i) ⊎ (d .triangles ≤ x)
-    → ((x < e .triangles) × (x ≢ i) × (generation n x ≡ generation e x)) ⊎ ((generation n x ≡ suc
-    (generation e i)) ⊎ (generation n x ≡ suc (suc (generation e i))))
+    → Spread i (suc (generation e i)) e n x
     → (generation n x ≡ suc g) ⊎ (generation n x ≡ suc (suc g))
 ready-on g i d e n x r q w (inr (inl z)) = inl (z ∙ ap suc q)
 ready-on g i d e n x r q w (inr (inr z)) = inr (z ∙ ap (λ (y : ℕ). suc (suc y)) q)
