@@ -9,10 +9,10 @@ use lib.Dec.{eqb, ltb}
 use Rattle.rules.proofs.Bases.{Settling, kept, flipped}
 use Rattle.rules.proofs.Decide.{Decides, is-eq, is-lt, is-iff, is-same, bit-yes, bit-no, is-and}
 use Rattle.rules.proofs.FlipKeeps.{BasesMeet, meet-back}
-use Rattle.rules.proofs.FlipRead.{Flips}
+use Rattle.rules.proofs.FlipRead.{Flips, flipName}
 use Rattle.rules.proofs.Manifold.{Manifold, Joined, no-self, few, partnered-with}
 use Rattle.rules.proofs.Sides.{renameTwo, by-rename}
-use Rattle.rules.proofs.SplitRead.{Splits}
+use Rattle.rules.proofs.SplitRead.{Splits, splitName}
 use Rattle.rules.proofs.Sums.{total-same, total-change, total-zero, total-add, total-swap, total-one}
 use Rattle.rules.proofs.Sums.{total-const, total-change₂, row, total-rows, total-two, zero-each, row-same}
 use Rattle.rules.specs.Below.{total, bit, count}
@@ -174,7 +174,7 @@ split-boundary t m n F b S =
         let q′ : 3 * (m .triangles + 1) < boundary = omega (arith, F .slots, F .generationRoom) in
         boundary-bit m h (link m h) refl
         ∙ sym
-        (boundary-bit n h (renameTwo (3 * t + 1) (3 * m .triangles) (3 * t + 2) (3 * (m .triangles + 1)) (link m h))
+        (boundary-bit n h (splitName t (m .triangles) (link m h))
         (S .links h l i)
         ∙ rename-boundary (3 * t + 1) (3 * m .triangles) (3 * t + 2) (3 * (m .triangles + 1)) (link m h)
         (omega arith) (omega arith) (omega arith) (omega arith) (omega arith))
@@ -215,7 +215,7 @@ flip-boundary s u m n F B S =
         let bu = B .useU in
         let ne = B .differ in
         boundary-bit m h (link m h) refl
-        ∙ sym (boundary-bit n h (renameTwo (3 * s + 1) (3 * u) (3 * u + 1) (3 * s) (link m h)) (S .links h l i j)
+        ∙ sym (boundary-bit n h (flipName s u (link m h)) (S .links h l i j)
         ∙ rename-boundary (3 * s + 1) (3 * u) (3 * u + 1) (3 * s) (link m h) (omega arith) (omega arith)
         (omega arith) (omega arith) (omega arith))
 

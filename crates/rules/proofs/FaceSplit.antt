@@ -15,9 +15,9 @@ use Rattle.rules.proofs.Odds.{split-odds, settling-odds}
 use Rattle.rules.proofs.Places.{Places, places-new}
 use Rattle.rules.proofs.Rounding.{third-in-range}
 use Rattle.rules.proofs.Settled.{Settled, done, then, Among, Children, Distinct, children-on}
-use Rattle.rules.proofs.Sides.{renameTwo, rename-a, rename-b, rename-else, by-triangle, by-slot}
+use Rattle.rules.proofs.Sides.{by-triangle, by-slot}
 use Rattle.rules.proofs.SplitKeeps.{split-manifold}
-use Rattle.rules.proofs.SplitRead.{Splits, split-splits}
+use Rattle.rules.proofs.SplitRead.{Splits, split-splits, splitName, split-name₁, split-name₂, split-name-else}
 use Rattle.rules.specs.Numbers.{InRange}
 use Rattle.rules.specs.Promises.{odds}
 use Rattle.rules.specs.Split.{Work, split, flip, withSplit, withFlip, centre, splitPlaced, settle, settleAll}
@@ -108,18 +108,13 @@ module _ (v : ℕ) (m n : Topology) (F : Manifold m) (b : v < m .triangles) (eve
             (l, i, S .generations x l i));
         generations = S .generations;
         corners = S .corners;
-        links = λ h l i j.
-            S .links h l i ∙ rename-else (3 * v + 1) (3 * f) (3 * v + 2) (3 * e) (link m h) (omega arith) (omega arith);
+        links = λ h l i j. S .links h l i ∙ split-name-else v f (link m h) (omega arith) (omega arith);
         into =
             λ h l i. by-triangle
             (λ k. link m h ≡ k → k / 3 ≡ v → Onto (v ∷ m .triangles ∷ (m .triangles + 1) ∷ []) (link n h)) v
-            (λ q _. inl (S .links h l i ∙ ap (renameTwo (3 * v + 1) (3 * f) (3 * v + 2) (3 * e)) q ∙ rename-else
-            (3 * v + 1) (3 * f) (3 * v + 2) (3 * e) (3 * v) (omega arith) (omega arith)))
-            (λ q _. inr (inl (S .links h l i ∙ ap (renameTwo (3 * v + 1) (3 * f) (3 * v + 2) (3 * e)) q ∙ rename-a
-            (3 * v + 1) (3 * f) (3 * v + 2) (3 * e))))
-            (λ q _. inr (inr (inl
-            (S .links h l i ∙ ap (renameTwo (3 * v + 1) (3 * f) (3 * v + 2) (3 * e)) q
-            ∙ rename-b (3 * v + 1) (3 * f) (3 * v + 2) (3 * e) (omega arith)))))
+            (λ q _. inl (renamed h l i q (split-name-else v f (3 * v) (omega arith) (omega arith))))
+            (λ q _. inr (inl (renamed h l i q (split-name₁ v f))))
+            (λ q _. inr (inr (inl (renamed h l i q (split-name₂ v f)))))
             (λ k x _ y. absurd (x y)) (link m h) refl;
         bases =
             λ h l x. by-slot v f (n .triangles)
@@ -131,6 +126,10 @@ module _ (v : ℕ) (m n : Topology) (F : Manifold m) (b : v < m .triangles) (eve
         past = λ b i. S .past b (omega arith);
       }
     where
+      renamed : (h : ℕ) → h < sides m → h / 3 ≢ v → {k j : ℕ} → link m h ≡ k → splitName v (m .triangles) k ≡ j
+          → link n h ≡ j
+      renamed h l i q e = S .links h l i ∙ ap (splitName v (m .triangles)) q ∙ e
+
       mine : (x : ℕ) → x < m .triangles → Among (v ∷ m .triangles ∷ (m .triangles + 1) ∷ []) x → x ≡ v
       mine x l (inl q) = q
       mine x l (inr (inl q)) = absurd (omega arith)

@@ -3,11 +3,11 @@ use mathlib.Core.Path.{_≡_, refl, sym, ap, _∙_, subst}
 use mathlib.Core.Logic.{_≢_, inr}
 use Prim.Native.Nat.{ℕ, _+_, _*_, _/_, _%_, _<_, min}
 use native.Mathlib.Omega.{arith}
-use Rattle.rules.proofs.FlipRead.{Flips}
+use Rattle.rules.proofs.FlipRead.{Flips, flipName, flip-name-else}
 use Rattle.rules.proofs.Manifold.{Partnered, Manifold, level, Joined, level₀, level₁, level₂, target₀, target₁}
 use Rattle.rules.proofs.Manifold.{target₂, rotate₀, rotate₁, rotate₂, pair, no-self, partnered-with}
 use Rattle.rules.proofs.Renaming.{Renames, linked, fan-map}
-use Rattle.rules.proofs.Sides.{previous-lt, renameTwo, rename-a, rename-b, rename-else, by-triangle}
+use Rattle.rules.proofs.Sides.{previous-lt, rename-a, rename-b, by-triangle}
 use Rattle.rules.specs.Sound.{Turns, here, turn}
 use Rattle.rules.specs.Tables.{Topology, sides, next, previous, origin, target, boundary, link, rotate}
 use Rattle.rules.specs.Tables.{generation}
@@ -24,7 +24,7 @@ pub record BasesMeet (s u : ℕ) (m : Topology) : Type 0 where
 
 module _ (s u : ℕ) (m n : Topology) (F : Manifold m) (B : BasesMeet s u m) (S : Flips s u m n) where
   r : ℕ → ℕ
-  r = renameTwo (3 * s + 1) (3 * u) (3 * u + 1) (3 * s)
+  r = flipName s u
 
   r-s : r (3 * s + 1) ≡ 3 * u
   unfolding r
@@ -36,7 +36,7 @@ module _ (s u : ℕ) (m n : Topology) (F : Manifold m) (B : BasesMeet s u m) (S 
 
   r-else : (h : ℕ) → h ≢ 3 * s + 1 → h ≢ 3 * u + 1 → r h ≡ h
   unfolding r
-  r-else = rename-else (3 * s + 1) (3 * u) (3 * u + 1) (3 * s)
+  r-else = flip-name-else s u
 
   -- A fact of an old side and its new name.
   by-name : (P : ℕ → ℕ → Type 0)

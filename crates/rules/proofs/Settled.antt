@@ -2,18 +2,18 @@
 use mathlib.Core.Path.{_≡_, refl, sym, ap, _∙_, subst}
 use mathlib.Core.Logic.{_≢_, _⊎_, inl, inr}
 use mathlib.Core.List.{List, [], _∷_}
-use Prim.Native.Nat.{ℕ, suc, _+_, _*_, _/_, _%_, _≤_, _<_}
+use Prim.Native.Nat.{ℕ, suc, _*_, _/_, _%_, _≤_, _<_}
 use native.Mathlib.Omega.{arith}
 use native.Mathlib.Decide.{ℕ-discrete, decLe}
 use Rattle.rules.proofs.Bases.{Child, Settling, kept, flipped, settling-manifold}
 use Rattle.rules.proofs.Edges.{boundarySides, settling-boundary}
 use Rattle.rules.proofs.Entries.{Each, Some, each-both, some-with}
+use Rattle.rules.proofs.FlipRead.{flipName, flip-name-else, by-flip-name}
 use Rattle.rules.proofs.Manifold.{Manifold, BasesMeetIn}
 use Rattle.rules.proofs.Past.{Past, past-same, past-on}
 use Rattle.rules.proofs.Settling.{Same, settling-child, settling-bases, settling-same, settling-past}
 use Rattle.rules.proofs.Settling.{settling-generation, settling-flips, settling-waits, Follow, settling-follow}
 use Rattle.rules.proofs.Settling.{settling-spread, settling-meets, same-all}
-use Rattle.rules.proofs.Sides.{renameTwo, rename-else, by-rename}
 use Rattle.rules.specs.Promises.{Still, Written}
 use Rattle.rules.specs.Tables.{Topology, sides, boundary, link, generation}
 
@@ -296,7 +296,7 @@ settling-still c m n F (flipped u B S) = record {
   links = λ h l e f.
       let d = away h f in
       S .links h l (not-c (h / 3) e) (not-u (h / 3) e)
-      ∙ rename-else (3 * c + 1) (3 * u) (3 * u + 1) (3 * c) (link m h) (omega arith) (omega arith);
+      ∙ flip-name-else c u (link m h) (omega arith) (omega arith);
   shift = λ h l e.
       slide h (S .links h l (not-c (h / 3) e) (not-u (h / 3) e));
 }
@@ -307,11 +307,10 @@ settling-still c m n F (flipped u B S) = record {
         let q : link n h / 3 ≡ x = omega arith in
         inr (inr (λ z. w (subst (λ (y : ℕ). generation n y ≡ generation m y) q z)))
 
-    slide : (h : ℕ) → link n h ≡ renameTwo (3 * c + 1) (3 * u) (3 * u + 1) (3 * c) (link m h)
+    slide : (h : ℕ) → link n h ≡ flipName c u (link m h)
         → (link n h ≡ link m h) ⊎ Written m n (link n h / 3)
     slide h =
-        by-rename (3 * c + 1) (3 * u) (3 * u + 1) (3 * c)
-        (λ z. link n h ≡ z → (link n h ≡ link m h) ⊎ Written m n (link n h / 3)) (omega (arith, B .differ)) (link m h)
+        by-flip-name c u (λ z. link n h ≡ z → (link n h ≡ link m h) ⊎ Written m n (link n h / 3)) (B .differ) (link m h)
         (λ _ e. to-slot h u e (λ z. omega (arith, S .generationU, B .same)))
         (λ _ e. to-slot h c e (λ z. omega (arith, S .generationS)))
         (λ _ _ e. inl e)

@@ -7,10 +7,9 @@ use native.Mathlib.Decide.{ℕ-discrete}
 use lib.ListN.{length}
 use Rattle.rules.proofs.Bases.{Child, Settling, kept, flipped, boundary-not-base, not-child}
 use Rattle.rules.proofs.FlipKeeps.{BasesMeet}
-use Rattle.rules.proofs.FlipRead.{Flips}
+use Rattle.rules.proofs.FlipRead.{Flips, flipName, flip-name-else, by-flip-name}
 use Rattle.rules.proofs.Manifold.{Partnered, Manifold, Base, BasesMeetIn, partnered, partnered-with, few}
 use Rattle.rules.proofs.Past.{Past, past-same}
-use Rattle.rules.proofs.Sides.{renameTwo, rename-else, rename-far, by-rename}
 use Rattle.rules.specs.Tables.{Topology, sides, origin, boundary, link, generation}
 
 -- ---- a flip, seen from a side of another triangle
@@ -32,9 +31,9 @@ module _ (s u : ℕ) (m n : Topology) (B : BasesMeet s u m) (S : Flips s u m n) 
   -- A link that does not lead into the two is an old one.
   far : (h : ℕ) → h < sides m → h / 3 ≢ s → h / 3 ≢ u → link n h / 3 ≢ s → link n h / 3 ≢ u → link n h ≡ link m h
   far h l i j x y =
-      let e = S .links h l i j in
-      e ∙ rename-far (3 * s + 1) (3 * u) (3 * u + 1) (3 * s) (link m h) (omega (arith, B .differ))
-      (λ q. y (omega (arith, q))) (λ q. x (omega (arith, q)))
+      by-flip-name s u (λ z. link n h ≡ z → link n h ≡ link m h) (B .differ) (link m h)
+      (λ _ e. absurd (y (omega arith)))
+      (λ _ e. absurd (x (omega arith))) (λ _ _ e. e) (S .links h l i j)
 
   pub meets-base : (h : ℕ) → h < sides m → h / 3 ≢ s → h / 3 ≢ u → Base n (link n h)
       → (link n h ≡ link m h) × Base m (link m h)
@@ -170,8 +169,8 @@ settling-waits p g c d t m n F (flipped u B S) C D ne l e =
     let tu : t ≢ u = λ q. ne (omega (arith, sym bd ∙ ap (λ (x : ℕ). link m (3 * x)) q ∙ bc)) in
     let tc : t ≢ c = λ q. du (omega (arith, sym bd ∙ ap (λ (x : ℕ). link m (3 * x)) q ∙ B .meet)) in (
       S .links (3 * d) ld (omega arith) (omega arith)
-          ∙ ap (renameTwo (3 * c + 1) (3 * u) (3 * u + 1) (3 * c)) e
-          ∙ rename-else (3 * c + 1) (3 * u) (3 * u + 1) (3 * c) (3 * t) (omega arith) (omega arith),
+          ∙ ap (flipName c u) e
+          ∙ flip-name-else c u (3 * t) (omega arith) (omega arith),
       S .generations t tc tu,
     )
 
@@ -193,13 +192,13 @@ settling-follow c x t m n F (flipped u B S) l e f = (
     xu : x ≢ u
     xu = not-flipped c u m B e .1
 
-    k : link n (3 * x) ≡ renameTwo (3 * c + 1) (3 * u) (3 * u + 1) (3 * c) (link m (3 * x))
+    k : link n (3 * x) ≡ flipName c u (link m (3 * x))
     k = S .links (3 * x) (omega arith) (let w = xc in omega arith) (let w = xu in omega arith)
 
-    inner : renameTwo (3 * c + 1) (3 * u) (3 * u + 1) (3 * c) (link m (3 * x)) ≢ boundary
+    inner : flipName c u (link m (3 * x)) ≢ boundary
     inner =
-        by-rename (3 * c + 1) (3 * u) (3 * u + 1) (3 * c) (λ z. z ≢ boundary) (omega (arith, B .differ))
-        (link m (3 * x)) (λ _. omega (arith, few m F, B .useU)) (λ _. omega (arith, few m F, B .useS)) (λ _ _. f .0)
+        by-flip-name c u (λ z. z ≢ boundary) (B .differ) (link m (3 * x)) (λ _. omega (arith, few m F, B .useU))
+        (λ _. omega (arith, few m F, B .useS)) (λ _ _. f .0)
 
     near : link n (3 * x) / 3 ≢ c → link n (3 * x) / 3 ≢ u → link n (3 * x) ≡ link m (3 * x)
     near i j = far c u m n B S (3 * x) (omega arith) (let w = xc in omega arith) (let w = xu in omega arith) i j

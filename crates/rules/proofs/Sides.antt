@@ -177,13 +177,6 @@ row-else l t a b c d u x y z n r = (
   put-else l t a b c d (3 * u + 2) (omega arith) ∙ r .2,
 )
 
--- A name that is neither of the new ones is an old one.
-pub rename-far : (a a′ b b′ h : ℕ) → a ≢ b → renameTwo a a′ b b′ h ≢ a′ → renameTwo a a′ b b′ h ≢ b′
-    → renameTwo a a′ b b′ h ≡ h
-rename-far a a′ b b′ h n =
-    by-rename a a′ b b′ (λ k. k ≢ a′ → k ≢ b′ → k ≡ h) n h (λ _ x y. absurd (x refl)) (λ _ x y. absurd (y refl))
-    (λ _ _ x y. refl)
-
 -- A fact of each slot: v, the two new ones, or another.
 pub by-slot : (v f n : ℕ) (P : ℕ → Type 0) → n ≡ f + 2 → P v → P f → P (f + 1) → ((x : ℕ) → x < f → x ≢ v → P x)
     → (x : ℕ) → x < n → P x

@@ -8,8 +8,8 @@ use lib.ListN.{length}
 use Rattle.rules.proofs.Manifold.{Manifold, level, Joined, level₀, level₁, level₂, target₀, target₁, target₂}
 use Rattle.rules.proofs.Manifold.{rotate₀, rotate₁, rotate₂, pair, no-self}
 use Rattle.rules.proofs.Renaming.{Renames, linked, fan-map}
-use Rattle.rules.proofs.Sides.{previous-lt, renameTwo, rename-a, rename-b, rename-else, by-triangle}
-use Rattle.rules.proofs.SplitRead.{Splits}
+use Rattle.rules.proofs.Sides.{previous-lt, by-triangle}
+use Rattle.rules.proofs.SplitRead.{Splits, splitName, split-name₁, split-name₂, split-name-else}
 use Rattle.rules.specs.Sound.{OneFan, Turns, here, turn}
 use Rattle.rules.specs.Tables.{Topology, sides, next, previous, origin, target, boundary, link, rotate}
 use Rattle.rules.specs.Tables.{generation}
@@ -17,19 +17,19 @@ use Rattle.rules.specs.Tables.{generation}
 module _ (t : ℕ) (m n : Topology) (F : Manifold m) (b : t < m .triangles) (even : generation m t % 2 ≡ 0)
     (S : Splits t m n) where
   r : ℕ → ℕ
-  r = renameTwo (3 * t + 1) (3 * m .triangles) (3 * t + 2) (3 * (m .triangles + 1))
+  r = splitName t (m .triangles)
 
   r₁ : r (3 * t + 1) ≡ 3 * m .triangles
   unfolding r
-  r₁ = rename-a (3 * t + 1) (3 * m .triangles) (3 * t + 2) (3 * (m .triangles + 1))
+  r₁ = split-name₁ t (m .triangles)
 
   r₂ : r (3 * t + 2) ≡ 3 * (m .triangles + 1)
   unfolding r
-  r₂ = rename-b (3 * t + 1) (3 * m .triangles) (3 * t + 2) (3 * (m .triangles + 1)) (omega arith)
+  r₂ = split-name₂ t (m .triangles)
 
   r-else : (h : ℕ) → h ≢ 3 * t + 1 → h ≢ 3 * t + 2 → r h ≡ h
   unfolding r
-  r-else = rename-else (3 * t + 1) (3 * m .triangles) (3 * t + 2) (3 * (m .triangles + 1))
+  r-else = split-name-else t (m .triangles)
 
   r₀ : r (3 * t) ≡ 3 * t
   r₀ = r-else (3 * t) (omega arith) (omega arith)

@@ -9,8 +9,23 @@ use lib.Seq.{getD-set-same, getD-set-other, lt-length-set, drop-set-lt}
 use Rattle.rules.proofs.Manifold.{Manifold, Joined}
 use Rattle.rules.proofs.Past.{Past, drop-put, drop-told, joined-below}
 use Rattle.rules.proofs.Sides.{renameTwo, Mutual, relinked, length-put, put-else, Row, put-row, row-else}
+use Rattle.rules.proofs.Sides.{rename-a, rename-b, rename-else}
 use Rattle.rules.specs.Split.{split}
 use Rattle.rules.specs.Tables.{Topology, sides, origin, boundary, link, generation, putThree}
+
+-- The names of the old sides after the split of t: its sides 1 and 2 become the bases of the new slots f and f + 1.
+abbrev pub splitName : ℕ → ℕ → ℕ → ℕ
+splitName t f = renameTwo (3 * t + 1) (3 * f) (3 * t + 2) (3 * (f + 1))
+
+module _ (t f : ℕ) where
+  pub split-name₁ : splitName t f (3 * t + 1) ≡ 3 * f
+  split-name₁ = rename-a (3 * t + 1) (3 * f) (3 * t + 2) (3 * (f + 1))
+
+  pub split-name₂ : splitName t f (3 * t + 2) ≡ 3 * (f + 1)
+  split-name₂ = rename-b (3 * t + 1) (3 * f) (3 * t + 2) (3 * (f + 1)) (omega arith)
+
+  pub split-name-else : (h : ℕ) → h ≢ 3 * t + 1 → h ≢ 3 * t + 2 → splitName t f h ≡ h
+  split-name-else = rename-else (3 * t + 1) (3 * f) (3 * t + 2) (3 * (f + 1))
 
 -- n is m with triangle t split: f and f + 1 are the two new slots.
 pub record Splits (t : ℕ) (m n : Topology) : Type 0 where
@@ -23,8 +38,7 @@ pub record Splits (t : ℕ) (m n : Topology) : Type 0 where
   pub linksT : Row (n .links) 0 t (link m (3 * t)) (3 * m .triangles + 2) (3 * (m .triangles + 1) + 1)
   pub linksF : Row (n .links) 0 (m .triangles) (link m (3 * t + 1)) (3 * (m .triangles + 1) + 2) (3 * t + 1)
   pub linksE : Row (n .links) 0 (m .triangles + 1) (link m (3 * t + 2)) (3 * t + 2) (3 * m .triangles + 1)
-  pub links : (h : ℕ) → h < sides m → h / 3 ≢ t
-      → link n h ≡ renameTwo (3 * t + 1) (3 * m .triangles) (3 * t + 2) (3 * (m .triangles + 1)) (link m h)
+  pub links : (h : ℕ) → h < sides m → h / 3 ≢ t → link n h ≡ splitName t (m .triangles) (link m h)
   pub generationT : generation n t ≡ suc (generation m t)
   pub generationF : generation n (m .triangles) ≡ suc (generation m t)
   pub generationE : generation n (m .triangles + 1) ≡ suc (generation m t)
