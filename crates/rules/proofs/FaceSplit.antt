@@ -18,6 +18,7 @@ use Rattle.rules.proofs.Settled.{Settled, done, then, Among, Children, 
 use Rattle.rules.proofs.Sides.{by-triangle, by-slot}
 use Rattle.rules.proofs.SplitKeeps.{split-manifold}
 use Rattle.rules.proofs.SplitRead.{Splits, split-splits, splitName, split-name₁, split-name₂, split-name-else}
+use Rattle.rules.proofs.SplitRead.{split-name₀}
 use Rattle.rules.specs.Numbers.{InRange}
 use Rattle.rules.specs.Promises.{odds}
 use Rattle.rules.specs.Split.{Work, split, flip, withSplit, withFlip, centre, splitPlaced, settle, settleAll}
@@ -112,7 +113,7 @@ module _ (v : ℕ) (m n : Topology) (F : Manifold m) (b : v < m .triangles) (eve
         into =
             λ h l i. by-triangle
             (λ k. link m h ≡ k → k / 3 ≡ v → Onto (v ∷ m .triangles ∷ (m .triangles + 1) ∷ []) (link n h)) v
-            (λ q _. inl (renamed h l i q (split-name-else v f (3 * v) (omega arith) (omega arith))))
+            (λ q _. inl (renamed h l i q (split-name₀ v f)))
             (λ q _. inr (inl (renamed h l i q (split-name₁ v f))))
             (λ q _. inr (inr (inl (renamed h l i q (split-name₂ v f)))))
             (λ k x _ y. absurd (x y)) (link m h) refl;

@@ -9,6 +9,7 @@ use lib.Seq.{getD-set-same, getD-set-other, lt-length-set, drop-set-lt}
 use Rattle.rules.proofs.Manifold.{Manifold}
 use Rattle.rules.proofs.Past.{Past, drop-put, drop-told, joined-below}
 use Rattle.rules.proofs.Sides.{renameTwo, relinked, put-else, Row, put-row, row-else, rename-else, by-rename}
+use Rattle.rules.proofs.Sides.{rename-a, rename-b}
 use Rattle.rules.proofs.SplitRead.{mutual-links}
 use Rattle.rules.specs.Split.{flip}
 use Rattle.rules.specs.Tables.{Topology, sides, origin, link, generation, putThree}
@@ -18,6 +19,12 @@ abbrev pub flipName : ℕ → ℕ → ℕ → ℕ
 flipName s u = renameTwo (3 * s + 1) (3 * u) (3 * u + 1) (3 * s)
 
 module _ (s u : ℕ) where
+  pub flip-name-s : flipName s u (3 * s + 1) ≡ 3 * u
+  flip-name-s = rename-a (3 * s + 1) (3 * u) (3 * u + 1) (3 * s)
+
+  pub flip-name-u : s ≢ u → flipName s u (3 * u + 1) ≡ 3 * s
+  flip-name-u ne = rename-b (3 * s + 1) (3 * u) (3 * u + 1) (3 * s) (omega arith)
+
   pub flip-name-else : (h : ℕ) → h ≢ 3 * s + 1 → h ≢ 3 * u + 1 → flipName s u h ≡ h
   flip-name-else = rename-else (3 * s + 1) (3 * u) (3 * u + 1) (3 * s)
 

@@ -18,6 +18,9 @@ abbrev pub splitName : ℕ → ℕ → ℕ → ℕ
 splitName t f = renameTwo (3 * t + 1) (3 * f) (3 * t + 2) (3 * (f + 1))
 
 module _ (t f : ℕ) where
+  pub split-name₀ : splitName t f (3 * t) ≡ 3 * t
+  split-name₀ = rename-else (3 * t + 1) (3 * f) (3 * t + 2) (3 * (f + 1)) (3 * t) (omega arith) (omega arith)
+
   pub split-name₁ : splitName t f (3 * t + 1) ≡ 3 * f
   split-name₁ = rename-a (3 * t + 1) (3 * f) (3 * t + 2) (3 * (f + 1))
 
