@@ -100,8 +100,8 @@ boundaryOf m v (isEven e) = 0
 
 pub cut-splitting : (v : ℕ) (d : Work) (x : Splittable (reached d) v) → Manifold (reached d)
     → v < reached d .triangles → Room 1 (reached d)
-    → Splitting v (topOf (reached d) v x) (1 + boundaryOf (reached d) v x) (2 * boundaryOf (reached d) v x) d (cut v
-    d x)
+    → Splitting v (topOf (reached d) v x) (1 + boundaryOf (reached d) v x) (2 * boundaryOf (reached d) v x) d
+    (cut v d x)
 cut-splitting v d (isEven e) F b R = face-splitting v d F b R e
 
 -- The end lies in use, and its children are not above t.
@@ -159,9 +159,10 @@ way zero m F K t l i z = ends {t = t} (isEven (omega arith))
 way (suc n) m F K t l i z = go (goes m t) (way n m F K (link m (3 * t) / 3)) z
   where
     go : Goes m t
-        → (link m (3 * t) / 3 < m .triangles → generation m (link m (3 * t) / 3) ≤ n → generation m
-        (chainEndWithin n m (link m (3 * t) / 3)) % 2 ≡ 0 → Path m (link m (3 * t) / 3)
-        (chainEndWithin n m (link m (3 * t) / 3)) (chainOddWithin n m (link m (3 * t) / 3)))
+        → (link m (3 * t) / 3 < m .triangles → generation m (link m (3 * t) / 3) ≤ n
+        → generation m (chainEndWithin n m (link m (3 * t) / 3)) % 2 ≡ 0
+        → Path m (link m (3 * t) / 3) (chainEndWithin n m (link m (3 * t) / 3))
+        (chainOddWithin n m (link m (3 * t) / 3)))
         → generation m (chainEndWithin (suc n) m t) % 2 ≡ 0
         → Path m t (chainEndWithin (suc n) m t) (chainOddWithin (suc n) m t)
     go (evenHere e) w z = rw (even-test (generation m t) e, chainOddWithin, chainEndWithin) (ends (isEven e))

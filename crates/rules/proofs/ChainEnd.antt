@@ -33,8 +33,8 @@ module _ (m : Topology) (F : Manifold m) (K : BasesMeetIn nowhere m) where
   end-decides (suc n) t l i = go (goes m t) (end-decides n (link m (3 * t) / 3))
     where
       go : Goes m t → (link m (3 * t) / 3 < m .triangles → generation m (link m (3 * t) / 3) ≤ n
-          → Decides (odd (generation m (chainEndWithin n m (link m (3 * t) / 3)))) (EndsAtBoundary m
-          (link m (3 * t) / 3)))
+          → Decides (odd (generation m (chainEndWithin n m (link m (3 * t) / 3))))
+          (EndsAtBoundary m (link m (3 * t) / 3)))
           → Decides (odd (generation m (chainEndWithin (suc n) m t))) (EndsAtBoundary m t)
       go (evenHere e) ih =
           rw (even-test (generation m t) e, chainEndWithin)

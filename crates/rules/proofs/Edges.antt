@@ -173,8 +173,7 @@ split-boundary t m n F b S =
         let q : 3 * m .triangles < boundary = few m F in
         let q′ : 3 * (m .triangles + 1) < boundary = omega (arith, F .slots, F .generationRoom) in
         boundary-bit m h (link m h) refl
-        ∙ sym
-        (boundary-bit n h (splitName t (m .triangles) (link m h))
+        ∙ sym (boundary-bit n h (splitName t (m .triangles) (link m h))
         (S .links h l i)
         ∙ rename-boundary (3 * t + 1) (3 * m .triangles) (3 * t + 2) (3 * (m .triangles + 1)) (link m h)
         (omega arith) (omega arith) (omega arith) (omega arith) (omega arith))

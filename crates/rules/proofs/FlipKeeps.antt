@@ -5,7 +5,7 @@ use Prim.Native.Nat.{ℕ, _+_, _*_, _/_, _%_, _<_, min}
 use native.Mathlib.Omega.{arith}
 use Rattle.rules.proofs.FlipRead.{Flips, flipName, flip-name-else, flip-name-s, flip-name-u}
 use Rattle.rules.proofs.Manifold.{Partnered, Manifold, level, Joined, level₀, level₁, level₂, target₀, target₁}
-use Rattle.rules.proofs.Manifold.{target₂, rotate₀, rotate₁, rotate₂, pair, no-self, partnered-with, few}
+use Rattle.rules.proofs.Manifold.{target₂, rotate₀, rotate₁, rotate₂, no-self, partnered-with, few, pair-both}
 use Rattle.rules.proofs.Renaming.{Renames, linked, fan-map}
 use Rattle.rules.proofs.Sides.{previous-lt, by-triangle}
 use Rattle.rules.specs.Sound.{Turns, here, turn}
@@ -205,22 +205,19 @@ module _ (s u : ℕ) (m n : Topology) (F : Manifold m) (B : BasesMeet s u m) (S 
       let t = B .differ in
       let gs = S .generationS in
       let gu = S .generationU in
+      let su = pair-both n (3 * s + 1) (3 * u + 1) (S .linksS .1) (S .linksU .1) (omega arith) (omega arith)
+      (S .cornersU .1 ∙ sym (target₁ n s ∙ S .cornersS .2)) (target₁ n u ∙ S .cornersU .2 ∙ sym (S .cornersS .1))
+      (omega (arith, level₁ n s, level₁ n u)) in
       by-new (λ k. Joined n k) (
-        old (3 * u + 1) (3 * s) (flip-name-u s u (B .differ)) (omega arith) (omega arith) (omega arith),
-        inr (pair n (3 * s + 1) (3 * u + 1) (S .linksS .1) (S .linksU .1) (omega arith)
-            (S .cornersU .1 ∙ sym (target₁ n s ∙ S .cornersS .2)) (target₁ n u ∙ S .cornersU .2 ∙ sym
-            (S .cornersS .1)) (omega (arith, level₁ n s, level₁ n u))),
+        old (3 * u + 1) (3 * s) (flip-name-u s u t) (omega arith) (omega arith) (omega arith),
+        inr (su .0),
         old (3 * s + 2) (3 * s + 2) (flip-name-else s u (3 * s + 2) (omega arith) (omega arith)) (omega arith)
-            (omega arith)
-            (omega arith),
+            (omega arith) (omega arith),
       ) (
         old (3 * s + 1) (3 * u) (flip-name-s s u) (omega arith) (omega arith) (omega arith),
-        inr (pair n (3 * u + 1) (3 * s + 1) (S .linksU .1) (S .linksS .1) (omega arith)
-            (S .cornersS .1 ∙ sym (target₁ n u ∙ S .cornersU .2)) (target₁ n s ∙ S .cornersS .2 ∙ sym
-            (S .cornersU .1)) (omega (arith, level₁ n s, level₁ n u))),
+        inr (su .1),
         old (3 * u + 2) (3 * u + 2) (flip-name-else s u (3 * u + 2) (omega arith) (omega arith)) (omega arith)
-            (omega arith)
-            (omega arith),
+            (omega arith) (omega arith),
       )
       (λ h l i j. old h h (flip-name-else s u h (omega arith) (omega arith)) l (omega arith) (omega arith))
 

@@ -113,8 +113,8 @@ module _ (s : ℕ) (w : Work) (F : Manifold (reached w)) (K : BasesMeetIn nowher
   raise-kobbelt zero j t l p a b i = absurd (omega arith)
   raise-kobbelt (suc n) zero t l p a b i = absurd (omega arith)
   raise-kobbelt (suc n) (suc j) t l (ends (isEven e)) a b i =
-      raise-cuts j t w (isEven e) F K l (room-fewer s 1 (reached w) R i) ∙ sym
-      (kobbelt-even (suc n) t w (omega arith) e)
+      raise-cuts j t w (isEven e) F K l (room-fewer s 1 (reached w) R i)
+      ∙ sym (kobbelt-even (suc n) t w (omega arith) e)
   raise-kobbelt (suc n) (suc j) t l (across o r (ends (isEven e))) a b i =
       let f = falls (reached w) F K t l o r .1 in
       let L = raise-near j t (generation (reached w) t) w F K l refl o r e (room-fewer s 1 (reached w) R i) in
@@ -128,8 +128,8 @@ module _ (s : ℕ) (w : Work) (F : Manifold (reached w)) (K : BasesMeetIn nowher
       let R′ = room-fewer s (suc (suc k)) (reached w) R (omega arith) in
       let L : MateSplit t y _ =
       raise-far (suc k) j t u _ _ w F K l refl (refl, refl) (across {t = t} o r q) (omega arith) R′ in
-      L .split ∙ sym (kobbelt-even n (mate t y) y (omega arith) (L .even)) ∙ sym
-      (kobbelt-far n t w o y (omega (arith, f .1)) I)
+      L .split ∙ sym (kobbelt-even n (mate t y) y (omega arith) (L .even))
+      ∙ sym (kobbelt-far n t w o y (omega (arith, f .1)) I)
 
 -- Where the base chain of t ends at an even triangle and there is room, refine is Kobbelt's procedure to any depth
 -- above the generation.

@@ -87,6 +87,10 @@ pub pair : (m : Topology) (a b : ℕ) → link m a ≡ b → link m b ≡ a → 
     → target m b ≡ origin m a → level m b ≡ level m a → Partnered m a
 pair m a b e f l o d v = record { inUse = rw e l; back = rw e f; from = rw e o; onto = rw e d; level = rw e v }
 
+pub pair-both : (m : Topology) (a b : ℕ) → link m a ≡ b → link m b ≡ a → a < sides m → b < sides m
+    → origin m b ≡ target m a → target m b ≡ origin m a → level m b ≡ level m a → Partnered m a × Partnered m b
+pair-both m a b e f k l o d v = (pair m a b e f l o d v, pair m b a f e k (sym d) (sym o) (sym v))
+
 -- A side that is not on the boundary has a partner.
 pub partnered : {m : Topology} {h : ℕ} → Joined m h → link m h ≢ boundary → Partnered m h
 partnered (inl e) n = absurd (n e)
@@ -109,8 +113,8 @@ no-self m h F b M e = go (ℕ-discrete (link m h) h) (ℕ-discrete (link m h) (n
     go (no x) (yes y) =
         let q : next (next h) ≡ previous h = omega arith in
         F .distinct (previous h) (previous-lt h (m .triangles) b)
-        (ap (λ (k : ℕ). origin m k) (sym q) ∙ ap (λ (k : ℕ). target m k) (sym y) ∙ M .onto ∙ ap
-        (λ (k : ℕ). origin m k) (sym (next-previous h)))
+        (ap (λ (k : ℕ). origin m k) (sym q) ∙ ap (λ (k : ℕ). target m k) (sym y) ∙ M .onto
+        ∙ ap (λ (k : ℕ). origin m k) (sym (next-previous h)))
     go (no x) (no y) =
         let q : link m h ≡ next (next h) = same-triangle h (link m h) e x y in
         F .distinct (next h) (next-lt h (m .triangles) b) (sym (M .from) ∙ ap (λ (k : ℕ). origin m k) q)

@@ -6,7 +6,7 @@ use native.Mathlib.Omega.{arith}
 use native.Mathlib.Decide.{ℕ-discrete}
 use lib.ListN.{length}
 use Rattle.rules.proofs.Manifold.{Manifold, level, Joined, level₀, level₁, level₂, target₀, target₁, target₂}
-use Rattle.rules.proofs.Manifold.{rotate₀, rotate₁, rotate₂, pair, no-self, few}
+use Rattle.rules.proofs.Manifold.{rotate₀, rotate₁, rotate₂, no-self, few, pair-both}
 use Rattle.rules.proofs.Renaming.{Renames, linked, fan-map}
 use Rattle.rules.proofs.Sides.{previous-lt, by-triangle}
 use Rattle.rules.proofs.SplitRead.{Splits, splitName, split-name₁, split-name₂, split-name-else, split-name₀}
@@ -95,31 +95,19 @@ module _ (t : ℕ) (m n : Topology) (F : Manifold m) (b : t < m .triangles) (eve
       let gT = S .generationT in
       let gF = S .generationF in
       let gE = S .generationE in
-      by-new (λ k. Joined n k) (
-        old (3 * t) (3 * t) (split-name₀ t (m .triangles)) (omega arith),
-        inr (pair n (3 * t + 1) (3 * f + 2) (S .linksT .1) (S .linksF .2) (omega arith)
-            (S .cornersF .2 ∙ sym (target₁ n t ∙ S .cornersT .2)) (target₂ n f ∙ S .cornersF .0 ∙ sym
-            (S .cornersT .1)) (omega (arith, level₂ n f, level₁ n t))),
-        inr (pair n (3 * t + 2) (3 * e + 1) (S .linksT .2) (S .linksE .1) (omega arith)
-            (S .cornersE .1 ∙ sym (target₂ n t ∙ S .cornersT .0)) (target₁ n e ∙ S .cornersE .2 ∙ sym
-            (S .cornersT .2)) (omega (arith, level₁ n e, level₂ n t))),
-      ) (
-        old (3 * t + 1) (3 * f) (split-name₁ t (m .triangles)) (omega arith),
-        inr (pair n (3 * f + 1) (3 * e + 2) (S .linksF .1) (S .linksE .2) (omega arith)
-            (S .cornersE .2 ∙ sym (target₁ n f ∙ S .cornersF .2)) (target₂ n e ∙ S .cornersE .0 ∙ sym
-            (S .cornersF .1)) (omega (arith, level₂ n e, level₁ n f))),
-        inr (pair n (3 * f + 2) (3 * t + 1) (S .linksF .2) (S .linksT .1) (omega arith)
-            (S .cornersT .1 ∙ sym (target₂ n f ∙ S .cornersF .0)) (target₁ n t ∙ S .cornersT .2 ∙ sym
-            (S .cornersF .2)) (omega (arith, level₁ n t, level₂ n f))),
-      ) (
-        old (3 * t + 2) (3 * e) (split-name₂ t (m .triangles)) (omega arith),
-        inr (pair n (3 * e + 1) (3 * t + 2) (S .linksE .1) (S .linksT .2) (omega arith)
-            (S .cornersT .2 ∙ sym (target₁ n e ∙ S .cornersE .2)) (target₂ n t ∙ S .cornersT .0 ∙ sym
-            (S .cornersE .1)) (omega (arith, level₂ n t, level₁ n e))),
-        inr (pair n (3 * e + 2) (3 * f + 1) (S .linksE .2) (S .linksF .1) (omega arith)
-            (S .cornersF .1 ∙ sym (target₂ n e ∙ S .cornersE .0)) (target₁ n f ∙ S .cornersF .2 ∙ sym
-            (S .cornersE .2)) (omega (arith, level₁ n f, level₂ n e))),
-      )
+      let tf = pair-both n (3 * t + 1) (3 * f + 2) (S .linksT .1) (S .linksF .2) (omega arith) (omega arith)
+      (S .cornersF .2 ∙ sym (target₁ n t ∙ S .cornersT .2)) (target₂ n f ∙ S .cornersF .0 ∙ sym (S .cornersT .1))
+      (omega (arith, level₂ n f, level₁ n t)) in
+      let te = pair-both n (3 * t + 2) (3 * e + 1) (S .linksT .2) (S .linksE .1) (omega arith) (omega arith)
+      (S .cornersE .1 ∙ sym (target₂ n t ∙ S .cornersT .0)) (target₁ n e ∙ S .cornersE .2 ∙ sym (S .cornersT .2))
+      (omega (arith, level₁ n e, level₂ n t)) in
+      let fe = pair-both n (3 * f + 1) (3 * e + 2) (S .linksF .1) (S .linksE .2) (omega arith) (omega arith)
+      (S .cornersE .2 ∙ sym (target₁ n f ∙ S .cornersF .2)) (target₂ n e ∙ S .cornersE .0 ∙ sym (S .cornersF .1))
+      (omega (arith, level₂ n e, level₁ n f)) in
+      by-new (λ k. Joined n k)
+      (old (3 * t) (3 * t) (split-name₀ t (m .triangles)) (omega arith), inr (tf .0), inr (te .0))
+      (old (3 * t + 1) (3 * f) (split-name₁ t (m .triangles)) (omega arith), inr (fe .0), inr (tf .1))
+      (old (3 * t + 2) (3 * e) (split-name₂ t (m .triangles)) (omega arith), inr (te .1), inr (fe .1))
       (λ h l i. old h h (split-name-else t (m .triangles) h (omega arith) (omega arith)) l)
 
   inA : origin m (3 * t) < m .vertices

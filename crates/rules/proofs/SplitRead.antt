@@ -63,8 +63,8 @@ pub rows : (l : List ℕ) (d t f e a₀ a₁ a₂ b₀ b₁ b₂ c₀ c₁ c₂ 
     → Row (putThree e (c₀, c₁, c₂) (putThree f (b₀, b₁, b₂) (putThree t (a₀, a₁, a₂) l))) d t a₀ a₁ a₂
     × Row (putThree e (c₀, c₁, c₂) (putThree f (b₀, b₁, b₂) (putThree t (a₀, a₁, a₂) l))) d f b₀ b₁ b₂
     × Row (putThree e (c₀, c₁, c₂) (putThree f (b₀, b₁, b₂) (putThree t (a₀, a₁, a₂) l))) d e c₀ c₁ c₂
-    × ((h : ℕ) → h / 3 ≢ t → h / 3 ≢ f → h / 3 ≢ e → getD
-    (putThree e (c₀, c₁, c₂) (putThree f (b₀, b₁, b₂) (putThree t (a₀, a₁, a₂) l))) h d ≡ getD l h d)
+    × ((h : ℕ) → h / 3 ≢ t → h / 3 ≢ f → h / 3 ≢ e
+    → getD (putThree e (c₀, c₁, c₂) (putThree f (b₀, b₁, b₂) (putThree t (a₀, a₁, a₂) l))) h d ≡ getD l h d)
 rows l d t f e a₀ a₁ a₂ b₀ b₁ b₂ c₀ c₁ c₂ p q r =
     let l₁ : List ℕ = putThree t (a₀, a₁, a₂) l in
     let l₂ : List ℕ = putThree f (b₀, b₁, b₂) l₁ in
@@ -164,8 +164,8 @@ module _ (t : ℕ) (m : Topology) (F : Manifold m) (b : t < m .triangles)
           }
         where
           drop-three : (l : List ℕ) (t c : ℕ) (x y z : ℕ × ℕ × ℕ) → t < m .triangles → m .triangles + 2 ≤ c
-              → drop (3 * c) (putThree (m .triangles + 1) z (putThree (m .triangles) y (putThree t x l))) ≡ drop
-              (3 * c) l
+              → drop (3 * c) (putThree (m .triangles + 1) z (putThree (m .triangles) y (putThree t x l)))
+              ≡ drop (3 * c) l
           drop-three l t c x y z i j =
               drop-put (putThree (m .triangles) y (putThree t x l)) (m .triangles + 1) c z (omega arith)
               ∙ drop-put (putThree t x l) (m .triangles) c y (omega arith)
