@@ -8,9 +8,9 @@ use Prim.Native.Nat.{ℕ, _+_, _<_}
 use native.Mathlib.Omega.{arith}
 use lib.Dec.{eqb, leb, ltb}
 use lib.ListN.{length}
-use Rattle.rules.proofs.CallRefusals.{no-vertex-room, load-judged}
-use Rattle.rules.proofs.Decide.{Decides}
-use Rattle.rules.proofs.FirstThatHolds.{refuses, carries, Judged, carried, refused}
+use Rattle.rules.proofs.CallRefusals.{no-vertex-room, load-judged, position-refusal-first}
+use Rattle.rules.proofs.Decide.{Decides, stable}
+use Rattle.rules.proofs.FirstThatHolds.{refuses, carries, Judged, carried, refused, none-hold}
 use Rattle.rules.proofs.SoundTest.{tables-agree-is, sound-is}
 use Rattle.rules.specs.Below.{any}
 use Rattle.rules.specs.Calls.{Test, _if_, firstOf, Outcome, outcomeOf, zeroPoint, splitsOf, roomFor, worked, loadCall}
@@ -178,10 +178,4 @@ module _ (v : ℕ) (m : Mesh) (r : ℕ) (e : r ≡ positionRefusal v m) where
     position-carried = carries m [] (positionRead v m) (positionRefusal v m) r e z
 
     pub position-agrees : TablesAgree m
-    unfolding positionRefusal
-    position-agrees = go (tablesAgree m) (tables-agree-is m) (sym e ∙ z)
-      where
-        go : (b : Bool) → Decides b (TablesAgree m)
-            → firstOf (1 if not b ∷ 7 if not (isSound m) ∷ 8 if leb (m .topology .vertices) v ∷ []) ≡ 0 → TablesAgree m
-        go true d q = d .holds tt
-        go false d q = absurd (omega arith)
+    position-agrees = stable (tables-agree-is m) (none-hold (position-refusal-first v m) (sym e ∙ z) tt .0)

@@ -52,7 +52,7 @@ module _ (s u : ℕ) (m n : Topology) (F : Manifold m) (B : BasesMeet s u m) (S 
       by-triangle (λ h. h / 3 ≢ s → h < sides n → P h) u (λ _ _. q .0) (λ _ _. q .1) (λ _ _. q .2)
       (λ h j i l. o h (omega arith) i j) h i)
 
-  -- The two triangles' corners: (A, B, P) and (B, A, Q)
+  -- The two triangles' corners: (A, B, P) and (B, A, Q).
   partneredS : Partnered m (3 * s)
   partneredS = partnered-with F (omega (arith, B .useS)) (B .meet) (omega (arith, B .useU))
 
