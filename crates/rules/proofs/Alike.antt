@@ -6,7 +6,7 @@ use Prim.Native.Nat.{ℕ, zero, suc, _*_, _<_}
 use native.Mathlib.Omega.{arith}
 use lib.Dec.{T, eqb, ltb, ltb→lt}
 use lib.ListN.{length}
-use Rattle.rules.proofs.Decide.{is-lt, is-self, is-and}
+use Rattle.rules.proofs.Decide.{is-self, is-lt, is-and}
 use Rattle.rules.proofs.Sides.{next-lt, previous-lt}
 use Rattle.rules.proofs.Sums.{total-same}
 use Rattle.rules.specs.Below.{all, lowest, bit, count}

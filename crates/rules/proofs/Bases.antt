@@ -5,10 +5,10 @@ use mathlib.Core.Bool.{Bool, true, false}
 use Prim.Native.Nat.{ℕ, _+_, _*_, _/_, _%_, _≤_, _<_}
 use native.Mathlib.Omega.{arith}
 use lib.ListN.{getD, List·getD-eq-default}
-use Rattle.rules.proofs.Decide.{Decides, is-eq, is-and, odd-is, when-true, when-false}
+use Rattle.rules.proofs.Decide.{Decides, is-eq, when-true, when-false, is-and, odd-is}
 use Rattle.rules.proofs.FlipKeeps.{BasesMeet, flip-manifold}
 use Rattle.rules.proofs.FlipRead.{Flips, flip-flips}
-use Rattle.rules.proofs.Manifold.{Partnered, Manifold, level, Base, level₀, no-self, partnered}
+use Rattle.rules.proofs.Manifold.{Partnered, Manifold, level, Base, level₀, partnered, no-self}
 use Rattle.rules.specs.Split.{Work, flip, withFlip, settle}
 use Rattle.rules.specs.Tables.{Topology, withTopology, sides, origin, boundary, link, generation, isBase}
 
@@ -23,6 +23,10 @@ boundary-not-base m F b =
     List·getD-eq-default (m .generations) 0 (omega (arith, F .slots)) in
     omega (arith, b .1)
 
+-- A side that is linked to a base has a partner.
+pub partnered-base : {m : Topology} {h : ℕ} → Manifold m → h < sides m → Base m (link m h) → Partnered m h
+partnered-base {m} {h} F l b = partnered (F .linked h l) (λ e. boundary-not-base m F (subst (Base m) e b))
+
 -- ---- a triangle just made, whose corner 2 is new: p is the number of the old vertices
 
 pub record Child (p g c : ℕ) (m : Topology) : Type 0 where
@@ -36,8 +40,7 @@ bases : (p g c : ℕ) (m : Topology) → Manifold m → Child p g c m → Base m
     → BasesMeet c (link m (3 * c) / 3) m
 bases p g c m F C b =
     let l : 3 * c < sides m = omega (arith, C .inUse) in
-    let M : Partnered m (3 * c) =
-    partnered (F .linked (3 * c) l) (λ e. boundary-not-base m F (subst (λ (x : ℕ). Base m x) e b)) in
+    let M : Partnered m (3 * c) = partnered-base F l b in
     let u : ℕ = link m (3 * c) / 3 in
     let e : link m (3 * c) ≡ 3 * u = omega (arith, b .0) in
     let i = M .inUse in

@@ -6,7 +6,7 @@ use Prim.Native.Nat.{ℕ, _*_, _≤_, _<_, min, max}
 use native.Mathlib.Omega.{arith}
 use native.Mathlib.Decide.{decLt}
 use lib.Dec.{ltb}
-use Rattle.rules.proofs.Decide.{Decides, is-eq, is-lt, is-iff, is-and, is-or, is-any, is-same, bit-yes, bit-no}
+use Rattle.rules.proofs.Decide.{Decides, is-eq, is-lt, is-iff, is-same, bit-yes, bit-no, is-and, is-or, is-any}
 use Rattle.rules.proofs.Load.{opposite-back, matches-opposite, partner-matches, loaded-loads}
 use Rattle.rules.proofs.Sides.{next-lt}
 use Rattle.rules.proofs.Sums.{total-same, total-zero, total-swap, total-one}

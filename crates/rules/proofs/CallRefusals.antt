@@ -10,8 +10,8 @@ use lib.Dec.{eqb, leb, ltb}
 use borrow.Author.Tests.{le-leb, lt-leb}
 use Rattle.rules.proofs.CageTests.{sizes-fit-is, corners-fit-is, coordinates-fit-is, sides-differ-is}
 use Rattle.rules.proofs.ChainEnd.{ends-at-boundary-is}
-use Rattle.rules.proofs.Decide.{Decides, is-eq, is-lt, is-le, is-not, is-iff, is-and, is-all, is-any, stable}
-use Rattle.rules.proofs.Decide.{even-is}
+use Rattle.rules.proofs.Decide.{Decides, is-eq, is-lt, is-le, is-not, is-iff, stable, is-and, even-is, is-all}
+use Rattle.rules.proofs.Decide.{is-any}
 use Rattle.rules.proofs.FirstThatHolds.{Judged, first-if, first-unless, judged, judged-refusal, judged-refused}
 use Rattle.rules.proofs.Load.{fans-fit-is}
 use Rattle.rules.proofs.Relaxed.{sound-manifold, sound-bases}

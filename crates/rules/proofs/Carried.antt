@@ -8,7 +8,7 @@ use Rattle.rules.proofs.CageTests.{sizes-fit-is, corners-fit-is, coordi
 use Rattle.rules.proofs.CallRefusals.{room-is, closed-even-is, load-refusal-first, refine-refusal-first}
 use Rattle.rules.proofs.CallRefusals.{whole-step-refusal-first}
 use Rattle.rules.proofs.ChainEnd.{ends-at-boundary-is}
-use Rattle.rules.proofs.Decide.{is-lt, is-not, even-is, stable}
+use Rattle.rules.proofs.Decide.{is-lt, is-not, stable, even-is}
 use Rattle.rules.proofs.FirstThatHolds.{none-hold}
 use Rattle.rules.proofs.Load.{fans-fit-is}
 use Rattle.rules.proofs.Refine.{Refined, refine-refined}

@@ -10,7 +10,7 @@ use Rattle.rules.proofs.Cut.{CutResult}
 use Rattle.rules.proofs.Decide.{odd-test, even-test}
 use Rattle.rules.proofs.FaceSplit.{Room, Splitting, face-splitting}
 use Rattle.rules.proofs.Manifold.{Partnered, Manifold, level, BasesMeetIn, level₀, partnered}
-use Rattle.rules.proofs.Runs.{Splittable, isEven, cut, even-of}
+use Rattle.rules.proofs.Runs.{Splittable, isEven, even-of, cut}
 use Rattle.rules.proofs.Settled.{nowhere}
 use Rattle.rules.proofs.Settling.{Follow}
 use Rattle.rules.specs.Conditions.{OddInChain, atEven, onward}

@@ -5,7 +5,7 @@ use Prim.Native.Nat.{ℕ, zero, suc, _*_, _/_, _%_, _≤_, _<_}
 use native.Mathlib.Omega.{arith}
 use lib.Dec.{eqb}
 use borrow.Author.Tests.{ne-eqb}
-use Rattle.rules.proofs.Chain.{falls, Goes, evenHere, boundaryHere, furtherOn, goes}
+use Rattle.rules.proofs.Chain.{Goes, evenHere, boundaryHere, furtherOn, falls, goes}
 use Rattle.rules.proofs.Decide.{Decides, odd-test, even-test}
 use Rattle.rules.proofs.Manifold.{Manifold, BasesMeetIn}
 use Rattle.rules.proofs.Settled.{nowhere}

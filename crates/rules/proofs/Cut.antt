@@ -7,7 +7,7 @@ use native.Mathlib.Omega.{arith}
 use native.Mathlib.Decide.{ℕ-discrete, decLt}
 use lib.ListN.{length}
 use lib.Dec.{T}
-use Rattle.rules.proofs.Bases.{boundary-not-base}
+use Rattle.rules.proofs.Bases.{partnered-base}
 use Rattle.rules.proofs.Edges.{boundarySides}
 use Rattle.rules.proofs.Entries.{Some, some-with, some-map}
 use Rattle.rules.proofs.Manifold.{Partnered, Manifold, level, Joined, Base, BasesMeetIn, level-of, level₀}
@@ -15,8 +15,8 @@ use Rattle.rules.proofs.Manifold.{partnered, partnered-with}
 use Rattle.rules.proofs.Past.{Past, past-on}
 use Rattle.rules.proofs.Settled.{Settled, nowhere, Among, Children, Distinct, Met, settled-manifold}
 use Rattle.rules.proofs.Settled.{settled-same, settled-boundary, settled-bases, settled-past, settled-generation}
-use Rattle.rules.proofs.Settled.{settled-spread, settled-flips, settled-moved, settled-follow, still-on}
-use Rattle.rules.proofs.Settled.{settled-still, unchanged-not}
+use Rattle.rules.proofs.Settled.{settled-spread, settled-flips, settled-moved, settled-follow, unchanged-not}
+use Rattle.rules.proofs.Settled.{still-on, settled-still}
 use Rattle.rules.proofs.Settling.{Same, Follow}
 use Rattle.rules.specs.Promises.{Still, Written}
 use Rattle.rules.specs.Tables.{Topology, sides, origin, boundary, link, generation}
@@ -106,7 +106,7 @@ module _ (v g : ℕ) (cs : List ℕ) (p r : ℕ) (m one n : Topology) (F : Manif
       O = C .manifold
 
       M : Partnered one h
-      M = partnered (O .linked h l) (λ w. boundary-not-base one O (subst (λ (z : ℕ). Base one z) w y))
+      M = partnered-base O l y
 
       old : (k : ℕ) → k < sides m → k / 3 ≢ v → Base one k → Base m k
       old k i j z = (z .0, sym (ap (λ (a : ℕ). a % 2) (C .generations (k / 3) (omega arith) j)) ∙ z .1)

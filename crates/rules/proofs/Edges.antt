@@ -10,11 +10,11 @@ use Rattle.rules.proofs.Bases.{Settling, kept, flipped}
 use Rattle.rules.proofs.Decide.{Decides, is-eq, is-lt, is-iff, is-same, bit-yes, bit-no, is-and}
 use Rattle.rules.proofs.FlipKeeps.{BasesMeet, meet-back}
 use Rattle.rules.proofs.FlipRead.{Flips, flipName}
-use Rattle.rules.proofs.Manifold.{Manifold, Joined, no-self, few, partnered-with}
+use Rattle.rules.proofs.Manifold.{Manifold, Joined, few, partnered-with, no-self}
 use Rattle.rules.proofs.Sides.{renameTwo, by-rename}
 use Rattle.rules.proofs.SplitRead.{Splits, splitName}
 use Rattle.rules.proofs.Sums.{total-same, total-change, total-zero, total-add, total-swap, total-one}
-use Rattle.rules.proofs.Sums.{total-const, total-change₂, row, total-rows, total-two, zero-each, row-same}
+use Rattle.rules.proofs.Sums.{total-const, total-change₂, row, row-same, total-rows, total-two, zero-each}
 use Rattle.rules.specs.Below.{total, bit, count}
 use Rattle.rules.specs.History.{edges}
 use Rattle.rules.specs.Tables.{Topology, sides, boundary, link}

@@ -8,17 +8,17 @@ use native.Mathlib.Omega.{arith}
 use lib.ListN.{length, getD}
 use lib.IntN.{pos}
 use Rattle.rules.proofs.Bases.{Settles, boundary-not-base, reached, settle-settles, settling-manifold}
-use Rattle.rules.proofs.Cut.{Cut, CutResult, Onto, cut-settled, Spread}
+use Rattle.rules.proofs.Cut.{Cut, CutResult, Onto, Spread, cut-settled}
 use Rattle.rules.proofs.Edges.{split-boundary}
-use Rattle.rules.proofs.Manifold.{Partnered, Manifold, Base, no-self, partnered}
+use Rattle.rules.proofs.Manifold.{Partnered, Manifold, Base, partnered, no-self}
 use Rattle.rules.proofs.Odds.{split-odds, settling-odds}
 use Rattle.rules.proofs.Places.{Places, places-new}
 use Rattle.rules.proofs.Rounding.{third-in-range}
 use Rattle.rules.proofs.Settled.{Settled, done, then, Among, Children, Distinct, children-on}
 use Rattle.rules.proofs.Sides.{by-triangle, by-slot}
 use Rattle.rules.proofs.SplitKeeps.{split-manifold}
-use Rattle.rules.proofs.SplitRead.{Splits, split-splits, splitName, split-name₁, split-name₂, split-name-else}
-use Rattle.rules.proofs.SplitRead.{split-name₀}
+use Rattle.rules.proofs.SplitRead.{Splits, splitName, split-name₀, split-name₁, split-name₂, split-name-else}
+use Rattle.rules.proofs.SplitRead.{split-splits}
 use Rattle.rules.specs.Numbers.{InRange}
 use Rattle.rules.specs.Promises.{odds}
 use Rattle.rules.specs.Split.{Work, split, flip, withSplit, withFlip, centre, splitPlaced, settle, settleAll}

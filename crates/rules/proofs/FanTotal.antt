@@ -4,7 +4,7 @@ use Prim.Native.Nat.{ℕ, _<_}
 use lib.Dec.{eqb}
 use lib.ListN.{length}
 use Rattle.rules.proofs.Decide.{Decides, is-eq, is-iff}
-use Rattle.rules.proofs.FanTest.{no-more-met, all-met, met-fan, all-counted, reach}
+use Rattle.rules.proofs.FanTest.{no-more-met, all-met, met-fan, reach, all-counted}
 use Rattle.rules.proofs.Fans.{Walked, Starts, walk-walked}
 use Rattle.rules.proofs.Pigeonhole.{counted-by-value}
 use Rattle.rules.proofs.Sums.{total-same, total-tight}

@@ -6,7 +6,7 @@ use mathlib.Core.List.{List, [], _∷_}
 use Prim.Native.Nat.{ℕ, zero, suc, _<_}
 use native.Mathlib.Omega.{arith}
 use lib.Dec.{T, ltb}
-use Rattle.rules.proofs.Decide.{Decides, is-not, stable, is-lt, is-and, is-self}
+use Rattle.rules.proofs.Decide.{Decides, is-self, is-lt, is-not, stable, is-and}
 use Rattle.rules.specs.Calls.{Outcome, outcomeOf, zeroPoint, unless}
 use Rattle.rules.specs.Conditions.{Condition, _when_, First, this, later, none}
 use Rattle.rules.specs.Tables.{Mesh}

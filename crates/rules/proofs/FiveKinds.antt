@@ -5,7 +5,7 @@ use mathlib.Core.Bool.{Bool, true, false}
 use Prim.Native.Nat.{ℕ, _+_, _/_, _%_, min}
 use native.Mathlib.Omega.{arith}
 use lib.Dec.{T, eqb}
-use Rattle.rules.proofs.Decide.{is-eq, odd-is, when-true, when-false}
+use Rattle.rules.proofs.Decide.{is-eq, when-true, when-false, odd-is}
 use Rattle.rules.specs.Sound.{Role, even, base, other, roleOf, fiveKinds}
 use Rattle.rules.specs.Tables.{odd}
 

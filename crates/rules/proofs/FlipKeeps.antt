@@ -3,9 +3,9 @@ use mathlib.Core.Path.{_≡_, refl, sym, ap, _∙_, subst}
 use mathlib.Core.Logic.{_≢_, inr}
 use Prim.Native.Nat.{ℕ, _+_, _*_, _/_, _%_, _<_, min}
 use native.Mathlib.Omega.{arith}
-use Rattle.rules.proofs.FlipRead.{Flips, flipName, flip-name-else, flip-name-s, flip-name-u}
+use Rattle.rules.proofs.FlipRead.{Flips, flipName, flip-name-s, flip-name-u, flip-name-else}
 use Rattle.rules.proofs.Manifold.{Partnered, Manifold, level, Joined, level₀, level₁, level₂, target₀, target₁}
-use Rattle.rules.proofs.Manifold.{target₂, rotate₀, rotate₁, rotate₂, no-self, partnered-with, few, pair-both}
+use Rattle.rules.proofs.Manifold.{target₂, rotate₀, rotate₁, rotate₂, pair-both, few, partnered-with, no-self}
 use Rattle.rules.proofs.Renaming.{Renames, linked, fan-map}
 use Rattle.rules.proofs.Sides.{previous-lt, by-triangle}
 use Rattle.rules.specs.Sound.{Turns, here, turn}

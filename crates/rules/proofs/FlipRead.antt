@@ -8,8 +8,8 @@ use lib.ListN.{length, set, length-set}
 use lib.Seq.{getD-set-same, getD-set-other, lt-length-set, drop-set-lt}
 use Rattle.rules.proofs.Manifold.{Manifold}
 use Rattle.rules.proofs.Past.{Past, drop-put, drop-told, joined-below}
-use Rattle.rules.proofs.Sides.{renameTwo, relinked, put-else, Row, put-row, row-else, rename-else, by-rename}
-use Rattle.rules.proofs.Sides.{rename-a, rename-b}
+use Rattle.rules.proofs.Sides.{renameTwo, rename-a, rename-b, rename-else, by-rename, relinked, put-else, Row}
+use Rattle.rules.proofs.Sides.{put-row, row-else}
 use Rattle.rules.proofs.SplitRead.{mutual-links}
 use Rattle.rules.specs.Split.{flip}
 use Rattle.rules.specs.Tables.{Topology, sides, origin, link, generation, putThree}

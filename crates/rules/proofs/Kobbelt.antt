@@ -5,10 +5,10 @@ use Prim.Native.Nat.{ℕ, zero, suc, _+_, _*_, _/_, _%_, _≤_, _<_, max}
 use native.Mathlib.Omega.{arith}
 use borrow.Author.Tests.{eq-eqb, ne-eqb}
 use Rattle.rules.proofs.Bases.{reached}
-use Rattle.rules.proofs.Chain.{Path, ends, across, falls, path-end, cut-splitting, path-use, path-fit, stays}
-use Rattle.rules.proofs.Chain.{Shorter, shortens}
+use Rattle.rules.proofs.Chain.{Path, ends, across, falls, path-end, cut-splitting, path-use, path-fit, Shorter}
+use Rattle.rules.proofs.Chain.{stays, shortens}
 use Rattle.rules.proofs.Decide.{odd-test, even-test}
-use Rattle.rules.proofs.FaceSplit.{Room, face-splitting, room-fewer}
+use Rattle.rules.proofs.FaceSplit.{Room, room-fewer, face-splitting}
 use Rattle.rules.proofs.Manifold.{Manifold, BasesMeetIn}
 use Rattle.rules.proofs.Raise.{raise-stops, raise-splits, room-rest, raise-cuts}
 use Rattle.rules.proofs.Refine.{sound-room, chain-path, chain-bound}

@@ -8,7 +8,7 @@ use native.Mathlib.Omega.{arith}
 use lib.ListN.{length, getD, drop}
 use lib.Dec.{ltb}
 use lib.IntN.{pos}
-use Rattle.rules.proofs.Decide.{Decides, Lowest, is-eq, is-and, is-all, lowest-is, is-lt, when-true, when-false}
+use Rattle.rules.proofs.Decide.{Decides, Lowest, is-eq, is-lt, when-true, when-false, is-and, is-all, lowest-is}
 use Rattle.rules.proofs.FanTest.{one-fan-is}
 use Rattle.rules.proofs.Fill.{length-fill, getD-fill, drop-fill}
 use Rattle.rules.proofs.Manifold.{Partnered, Manifold, level, Joined, BasesMeetIn, pair}

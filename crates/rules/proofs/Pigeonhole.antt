@@ -4,7 +4,7 @@ use mathlib.Core.Bool.{Bool, true, false}
 use Prim.Native.Nat.{ℕ, _≤_, _<_}
 use native.Mathlib.Omega.{arith}
 use lib.Dec.{T, eqb}
-use Rattle.rules.proofs.Decide.{Decides, is-eq, is-any, bit-yes, bit-no}
+use Rattle.rules.proofs.Decide.{Decides, is-eq, bit-yes, bit-no, is-any}
 use Rattle.rules.proofs.Sums.{total-same, total-zero, total-swap, total-one, total-const, total-le, total-tight}
 use Rattle.rules.specs.Below.{any, total, bit, count}
 

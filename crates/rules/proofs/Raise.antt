@@ -5,8 +5,8 @@ use native.Mathlib.Omega.{arith}
 use lib.ListN.{length}
 use borrow.Author.Tests.{lt-ltb, le-ltb}
 use Rattle.rules.proofs.Bases.{reached}
-use Rattle.rules.proofs.Chain.{Path, ends, path-end, topOf, boundaryOf, cut-splitting, path-use, shortens}
-use Rattle.rules.proofs.Chain.{path-high}
+use Rattle.rules.proofs.Chain.{Path, ends, path-end, topOf, boundaryOf, cut-splitting, path-use, path-high}
+use Rattle.rules.proofs.Chain.{shortens}
 use Rattle.rules.proofs.Cut.{CutResult}
 use Rattle.rules.proofs.Edges.{boundarySides}
 use Rattle.rules.proofs.FaceSplit.{Room, room-fewer}

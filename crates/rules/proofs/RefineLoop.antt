@@ -5,13 +5,13 @@ use Prim.Native.Nat.{ℕ, zero, suc, _+_, _*_, _/_, _%_, _≤_, _<_, max}
 use native.Mathlib.Omega.{arith}
 use Rattle.rules.proofs.Bases.{reached}
 use Rattle.rules.proofs.Carried.{RefineFound}
-use Rattle.rules.proofs.Chain.{Path, ends, across, path-end, path-use, topOf, path-fit, Shorter, shortens}
-use Rattle.rules.proofs.Chain.{path-high}
-use Rattle.rules.proofs.FaceSplit.{Room, Splitting, face-splitting, room-fewer}
+use Rattle.rules.proofs.Chain.{Path, ends, across, path-end, topOf, path-use, path-high, path-fit, Shorter}
+use Rattle.rules.proofs.Chain.{shortens}
+use Rattle.rules.proofs.FaceSplit.{Room, Splitting, room-fewer, face-splitting}
 use Rattle.rules.proofs.Manifold.{Manifold, BasesMeetIn}
 use Rattle.rules.proofs.Raise.{raise-stops, raise-splits, room-rest}
 use Rattle.rules.proofs.Refine.{sound-room, chain-path, chain-bound}
-use Rattle.rules.proofs.Relaxed.{sound-manifold, sound-bases, agree-on, SameSlots}
+use Rattle.rules.proofs.Relaxed.{SameSlots, sound-manifold, sound-bases, agree-on}
 use Rattle.rules.proofs.Runs.{Splittable, isEven, even-of}
 use Rattle.rules.proofs.Settled.{nowhere}
 use Rattle.rules.specs.Calls.{splitsOf}

@@ -11,9 +11,9 @@ use Rattle.rules.proofs.Entries.{Each, Some, each-both, some-with}
 use Rattle.rules.proofs.FlipRead.{flipName, flip-name-else, by-flip-name}
 use Rattle.rules.proofs.Manifold.{Manifold, BasesMeetIn}
 use Rattle.rules.proofs.Past.{Past, past-same, past-on}
-use Rattle.rules.proofs.Settling.{Same, settling-child, settling-bases, settling-same, settling-past}
+use Rattle.rules.proofs.Settling.{Same, settling-child, settling-bases, same-all, settling-same, settling-past}
 use Rattle.rules.proofs.Settling.{settling-generation, settling-flips, settling-waits, Follow, settling-follow}
-use Rattle.rules.proofs.Settling.{settling-spread, settling-meets, same-all}
+use Rattle.rules.proofs.Settling.{settling-spread, settling-meets}
 use Rattle.rules.specs.Promises.{Still, Written}
 use Rattle.rules.specs.Tables.{Topology, sides, boundary, link, generation}
 

@@ -5,10 +5,10 @@ use Prim.Native.Nat.{ℕ, suc, _+_, _*_, _/_, _%_, _≤_, _<_}
 use native.Mathlib.Omega.{arith}
 use native.Mathlib.Decide.{ℕ-discrete}
 use lib.ListN.{length}
-use Rattle.rules.proofs.Bases.{Child, Settling, kept, flipped, boundary-not-base, not-child}
+use Rattle.rules.proofs.Bases.{Child, Settling, kept, flipped, partnered-base, not-child}
 use Rattle.rules.proofs.FlipKeeps.{BasesMeet}
 use Rattle.rules.proofs.FlipRead.{Flips, flipName, flip-name-else, by-flip-name}
-use Rattle.rules.proofs.Manifold.{Partnered, Manifold, Base, BasesMeetIn, partnered, partnered-with, few}
+use Rattle.rules.proofs.Manifold.{Partnered, Manifold, Base, BasesMeetIn, few, partnered-with}
 use Rattle.rules.proofs.Past.{Past, past-same}
 use Rattle.rules.specs.Tables.{Topology, sides, origin, boundary, link, generation}
 
@@ -102,8 +102,7 @@ settling-bases p g c X m n F C (kept no-base) K = λ h l b d. go h l b d (K h l 
     go h l b d (inl (inr q)) = inl q
     go h l b d (inr (inl q)) =
         let e : link m h ≡ 3 * c = omega (arith, d .0) in
-        let M : Partnered m h =
-        partnered (F .linked h l) (λ w. boundary-not-base m F (subst (λ (x : ℕ). Base m x) w d)) in
+        let M : Partnered m h = partnered-base F l d in
         let f : link m (3 * c) ≡ h = ap (λ (x : ℕ). link m x) (sym e) ∙ M .back in
         absurd (no-base (subst (λ (x : ℕ). Base m x) (sym f) b))
     go h l b d (inr (inr q)) = inr q

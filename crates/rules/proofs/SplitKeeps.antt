@@ -6,10 +6,10 @@ use native.Mathlib.Omega.{arith}
 use native.Mathlib.Decide.{ℕ-discrete}
 use lib.ListN.{length}
 use Rattle.rules.proofs.Manifold.{Manifold, level, Joined, level₀, level₁, level₂, target₀, target₁, target₂}
-use Rattle.rules.proofs.Manifold.{rotate₀, rotate₁, rotate₂, no-self, few, pair-both}
+use Rattle.rules.proofs.Manifold.{rotate₀, rotate₁, rotate₂, pair-both, few, no-self}
 use Rattle.rules.proofs.Renaming.{Renames, linked, fan-map}
 use Rattle.rules.proofs.Sides.{previous-lt, by-triangle}
-use Rattle.rules.proofs.SplitRead.{Splits, splitName, split-name₁, split-name₂, split-name-else, split-name₀}
+use Rattle.rules.proofs.SplitRead.{Splits, splitName, split-name₀, split-name₁, split-name₂, split-name-else}
 use Rattle.rules.specs.Sound.{OneFan, Turns, here, turn}
 use Rattle.rules.specs.Tables.{Topology, sides, next, previous, origin, target, boundary, link, rotate}
 use Rattle.rules.specs.Tables.{generation}

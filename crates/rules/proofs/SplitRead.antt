@@ -8,8 +8,8 @@ use lib.ListN.{length, getD, set, drop, length-set}
 use lib.Seq.{getD-set-same, getD-set-other, lt-length-set, drop-set-lt}
 use Rattle.rules.proofs.Manifold.{Manifold, Joined}
 use Rattle.rules.proofs.Past.{Past, drop-put, drop-told, joined-below}
-use Rattle.rules.proofs.Sides.{renameTwo, Mutual, relinked, length-put, put-else, Row, put-row, row-else}
-use Rattle.rules.proofs.Sides.{rename-a, rename-b, rename-else}
+use Rattle.rules.proofs.Sides.{renameTwo, rename-a, rename-b, rename-else, Mutual, relinked, length-put}
+use Rattle.rules.proofs.Sides.{put-else, Row, put-row, row-else}
 use Rattle.rules.specs.Split.{split}
 use Rattle.rules.specs.Tables.{Topology, sides, origin, boundary, link, generation, putThree}
 

@@ -5,7 +5,7 @@ use native.Mathlib.Numerals.{add-one}
 use native.Mathlib.Omega.{arith}
 use Rattle.rules.proofs.Carried.{StepFound}
 use Rattle.rules.proofs.RefineLoop.{NextSplit}
-use Rattle.rules.proofs.Relaxed.{agree-on, SameSlots}
+use Rattle.rules.proofs.Relaxed.{SameSlots, agree-on}
 use Rattle.rules.proofs.StepTopology.{Midway}
 use Rattle.rules.proofs.WholeStep.{closed-none-odd, midway, next-split}
 use Rattle.rules.specs.Split.{Work, atFirst, faceSplit}

@@ -13,7 +13,7 @@ use Rattle.rules.proofs.Refine.{sound-room}
 use Rattle.rules.proofs.Relaxed.{sound-manifold, sound-bases, manifold-sound, agree-on}
 use Rattle.rules.proofs.RingVertices.{ring-coordinates, ring-some}
 use Rattle.rules.proofs.StepPositions.{length-move, move-else, move-past, move-at, moved-coordinate-in-range}
-use Rattle.rules.proofs.StepTopology.{Midway, refine-first, two-up, refine-even}
+use Rattle.rules.proofs.StepTopology.{Midway, refine-even, refine-first, two-up}
 use Rattle.rules.proofs.Sums.{total-zero}
 use Rattle.rules.specs.Conditions.{RoomFor, ClosedEven}
 use Rattle.rules.specs.Numbers.{InRange}
