@@ -1,12 +1,31 @@
-# test: the gate. run: the program refine on its tetrahedron. twin: refine beside a second implementation's model (needs cargo).
+# test     the gate
+# run      the program refine on its tetrahedron
+# lib      target/staticlib/librawplinth.a, for C and Rust to link with include/rawplinth.h
+# example  the example in C, built with the library and run
+# twin     the library and the program beside the second implementation (needs cargo)
+# soak     the same for SECONDS=N of random rounds, from SEED=N
 RT := $(shell command -v rt || echo /opt/rattle/bin/rt)
+SECONDS := 600
+SEED := 1
+CARGO = RAWPLINTH_LIB=$(CURDIR)/target/staticlib cargo
+TWIN = --release --quiet --manifest-path twin/Cargo.toml --target-dir target/twin
 
-.PHONY: test run twin
+.PHONY: test run lib example twin soak
 test:
 	bash .ci/run
 run:
 	@$(RT) check refine >/dev/null
 	@cd crates/refine/data && ../../../target/bin/refine
-twin:
+lib:
+	@$(RT) staticlib rawplinth >/dev/null
+example: lib
+	@$(CC) -std=c99 -Wall -Wextra -Wpedantic -Werror -Iinclude example/tetrahedron.c target/staticlib/librawplinth.a -o target/tetrahedron
+	@target/tetrahedron
+twin: lib
 	@$(RT) check refine >/dev/null
-	cd twin && cargo run --release -- --program ../target/bin/refine
+	$(CARGO) test $(TWIN)
+	$(CARGO) run $(TWIN) -- --program target/bin/refine
+	$(CARGO) run $(TWIN) -- --faults
+	$(CARGO) run $(TWIN)
+soak: lib
+	$(CARGO) run $(TWIN) -- --seconds $(SECONDS) --seed $(SEED)

@@ -1,10 +1,10 @@
 -- The first refusal of a call, found test by test.
-use borrow.Author.Tests.{not-true, not-false, lt-leb}
+use borrow.Author.Tests.{not-true, not-false, le-leb, lt-leb, lt-ltb, le-ltb}
 use mathlib.Core.Bool.{Bool, true, false, not}
 use mathlib.Core.List.{List, [], _∷_}
 use mathlib.Core.Logic.{_≢_}
 use mathlib.Core.Path.{_≡_, refl, sym, _∙_}
-use Prim.Native.Nat.{ℕ, _+_, _<_}
+use Prim.Native.Nat.{ℕ, _+_, _≤_, _<_}
 use native.Mathlib.Omega.{arith}
 use lib.Dec.{eqb, leb, ltb}
 use lib.ListN.{length}
@@ -14,8 +14,8 @@ use Rattle.rules.proofs.FirstThatHolds.{refuses, carries, Judged, carried, refu
 use Rattle.rules.proofs.SoundTest.{tables-agree-is, sound-is}
 use Rattle.rules.specs.Below.{any}
 use Rattle.rules.specs.Calls.{Test, _if_, firstOf, Outcome, outcomeOf, zeroPoint, splitsOf, roomFor, worked, loadCall}
-use Rattle.rules.specs.Calls.{refineRefusal, refineCall, closedEven, wholeStepRefusal, positionRefusal, positionRead}
-use Rattle.rules.specs.Calls.{positionCall}
+use Rattle.rules.specs.Calls.{refineRefusal, refineCall, closedEven, wholeStepRefusal, ringRefusal, ringRead, ringCall}
+use Rattle.rules.specs.Calls.{positionRefusal, positionRead, positionCall}
 use Rattle.rules.specs.Ring.{ring}
 use Rattle.rules.specs.Sound.{Sound, isSound}
 use Rattle.rules.specs.Split.{chainEnd, atFirst, refine}
@@ -122,6 +122,34 @@ standing-sound m r e z = go (tablesAgree m) (isSound m) (sound-is m) (sym e ∙ 
     go true false d q = absurd (omega arith)
     go false b d q = absurd (omega arith)
 
+-- ---- ring
+
+module _ (v : ℕ) (buffer : List ℕ) (m : Mesh) where
+  -- The refusal by the answers of its tests. A test that was not made stands for itself.
+  ring-by-tests : {a b d e : Bool} → tablesAgree m ≡ a → isSound m ≡ b → leb (m .topology .vertices) v ≡ d
+      → ltb (length buffer) (length (ring (m .topology) v)) ≡ e
+      → firstOf (1 if not a ∷ 7 if not b ∷ 8 if d ∷ 14 if e ∷ []) ≡ ringRefusal v buffer m
+  unfolding ringRefusal
+  ring-by-tests a b d e = rw (ringRefusal, a, b, d, e)
+
+  pub ring-one : tablesAgree m ≡ false → 1 ≡ ringRefusal v buffer m
+  ring-one a = ring-by-tests a refl refl refl
+
+  module _ (a : tablesAgree m ≡ true) where
+    pub ring-seven : isSound m ≡ false → 7 ≡ ringRefusal v buffer m
+    ring-seven b = ring-by-tests a b refl refl
+
+    module _ (b : isSound m ≡ true) where
+      pub ring-eight : m .topology .vertices ≤ v → 8 ≡ ringRefusal v buffer m
+      ring-eight l = ring-by-tests a b (le-leb _ _ l) refl
+
+      module _ (l : v < m .topology .vertices) where
+        pub ring-fourteen : length buffer < length (ring (m .topology) v) → 14 ≡ ringRefusal v buffer m
+        ring-fourteen k = ring-by-tests a b (lt-leb _ _ l) (lt-ltb _ _ k)
+
+        pub ring-none : length (ring (m .topology) v) ≤ length buffer → 0 ≡ ringRefusal v buffer m
+        ring-none k = ring-by-tests a b (lt-leb _ _ l) (le-ltb _ _ k)
+
 -- ---- position
 
 module _ (v : ℕ) (m : Mesh) where
@@ -166,6 +194,15 @@ module _ (t : ℕ) (m : Mesh) (r : ℕ) (e : r ≡ refineRefusal t m) where
   pub refine-carried : r ≡ 0 → worked (refine t (atFirst m)) ≡ refineCall t m
   unfolding refineCall
   refine-carried = carries m [] (worked (refine t (atFirst m))) (refineRefusal t m) r e
+
+module _ (v : ℕ) (buffer : List ℕ) (m : Mesh) (r : ℕ) (e : r ≡ ringRefusal v buffer m) where
+  pub ring-refused : r ≢ 0 → outcomeOf r 0 0 0 zeroPoint m buffer ≡ ringCall v buffer m
+  unfolding ringCall
+  ring-refused = refuses m buffer (ringRead v buffer m) (ringRefusal v buffer m) r e
+
+  pub ring-carried : r ≡ 0 → ringRead v buffer m ≡ ringCall v buffer m
+  unfolding ringCall
+  ring-carried = carries m buffer (ringRead v buffer m) (ringRefusal v buffer m) r e
 
 module _ (v : ℕ) (m : Mesh) (r : ℕ) (e : r ≡ positionRefusal v m) where
   pub position-refused : r ≢ 0 → outcomeOf r 0 0 0 zeroPoint m [] ≡ positionCall v m

@@ -1,10 +1,17 @@
 -- The answers of the calls, with what the lent slices hold afterwards, as outcomes of the rules.
-use Prim.Native.Nat.{ℕ}
+use Prim.Native.Nat.{ℕ, _*_, _≤_}
 use mathlib.Core.List.{List, []}
+use mathlib.Core.Path.{_≡_}
 use lib.IntN.{ℤ}
-use Rattle.rules.specs.Calls.{Outcome, outcomeOf, zeroPoint}
+use lib.ListN.{length}
+use Rattle.rules.specs.Calls.{Outcome, outcomeOf, zeroPoint, ringRefusal}
+use Rattle.rules.specs.Ring.{ring}
+use Rattle.rules.specs.Tables.{Mesh}
+use Rattle.rings.specs.Rings.{ringFrom, Walkable}
 use Rattle.tables.specs.Lent.{meshNow}
 use Rattle.mesh.specs.declared.Worked.{Worked}
+use Rattle.mesh.specs.declared.FoundRing.{FoundRing}
+use Rattle.mesh.specs.declared.RingRead.{RingRead}
 use Rattle.mesh.specs.declared.PositionRead.{PositionRead}
 
 -- Of a call that may write the tables.
@@ -12,6 +19,24 @@ abbrev pub workedOutcome : Worked → List ℤ → List ℕ → List ℕ → Lis
 workedOutcome a positions corners links generations =
     outcomeOf (a .refusal) (a .splits) (a .flips) 0 zeroPoint
     (meshNow (a .counts) positions corners links generations) []
+
+-- Of a call that reads a ring.
+abbrev pub ringOutcome : RingRead → List ℤ → List ℕ → List ℕ → List ℕ → List ℕ → Outcome
+ringOutcome a positions corners links generations buffer =
+    outcomeOf (a .refusal) 0 0 (a .length) zeroPoint (meshNow (a .counts) positions corners links generations) buffer
+
+-- A ring that can be written to a buffer with this room: the walk from its first side gives the ring of v.
+pub record Found (v room : ℕ) (m : Mesh) (a : FoundRing) : Type 0 where
+  pub walk : Walkable (m .topology .triangles) (a .first) (m .topology .links)
+  pub corners : 3 * m .topology .triangles ≤ length (m .topology .corners)
+  pub same : ring (m .topology) v ≡ ringFrom (m .topology) (a .first)
+  pub entries : a .length ≡ length (ring (m .topology) v)
+  pub fits : length (ring (m .topology) v) ≤ room
+
+-- Its refusal for such a buffer, or the ring where there is none.
+pub record FoundFor (v room : ℕ) (m : Mesh) (a : FoundRing) : Type 0 where
+  pub refused : (buffer : List ℕ) → length buffer ≡ room → a .refusal ≡ ringRefusal v buffer m
+  pub found : a .refusal ≡ 0 → Found v room m a
 
 -- Of a call that reads a position.
 abbrev pub positionOutcome : PositionRead → List ℤ → List ℕ → List ℕ → List ℕ → Outcome

@@ -6,11 +6,11 @@ ghost use mathlib.Core.List.{List, [], _∷_};
 ghost use mathlib.Core.Bool.{not};
 ghost use Prim.Native.Nat.{ℕ, _+_, _*_, max};
 ghost use lib.ListN.{length};
-ghost use Rattle.rules.specs.Calls.{firstOf, _if_, roomFor, loadCall, refineRefusal, refineCall, wholeStepCall, positionCall, positionRefusal};
+ghost use Rattle.rules.specs.Calls.{firstOf, _if_, roomFor, loadCall, refineRefusal, refineCall, wholeStepCall, ringCall, positionCall, positionRefusal};
 ghost use Rattle.rules.specs.Sound.{isSound};
 ghost use Rattle.rules.specs.Tables.{tablesAgree};
 ghost use Rattle.tables.specs.Lent.{meshNow};
-ghost use Rattle.mesh.specs.Answers.{workedOutcome, positionOutcome};
+ghost use Rattle.mesh.specs.Answers.{workedOutcome, FoundFor, ringOutcome, positionOutcome};
 
 // The answer of load, refine and the whole step: on a refusal all but its number and the counts is 0.
 #[repr(C)]
@@ -18,6 +18,14 @@ pub struct Worked {
     pub refusal: u32,
     pub splits: u32,
     pub flips: u32,
+    pub counts: Counts,
+}
+
+// The answer of ring.
+#[repr(C)]
+pub struct RingRead {
+    pub refusal: u32,
+    pub length: u32,
     pub counts: Counts,
 }
 
@@ -197,6 +205,109 @@ pub fn whole_step(
             vertices: answer.vertices,
             triangles: answer.triangles,
         },
+    }
+}
+
+// What is known of a ring before it is written: its refusal, or 0 with the side where it starts and its length.
+struct FoundRing {
+    refusal: u32,
+    first: u32,
+    length: u32,
+}
+
+// Finds the ring of vertex v for a buffer of so many entries.
+fn find_ring(
+    positions: &[i32],
+    corners: &[u32],
+    links: &[u32],
+    generations: &[u8],
+    counts: Counts,
+    v: u32,
+    room: usize,
+) -> FoundRing
+    ensures { λ r. ⌜ FoundFor v room (meshNow counts (now (positions .entry)) (now (corners .entry)) (now (links .entry)) (now (generations .entry))) r ⌝ }
+{
+    if !soundness::tables_agree(positions, corners, links, generations) {
+        return FoundRing {
+            refusal: 1,
+            first: 0,
+            length: 0,
+        };
+    }
+    let start = soundness::sound_start(
+        positions,
+        corners,
+        links,
+        generations,
+        counts.vertices,
+        counts.triangles,
+        v,
+    );
+    if start == 0 {
+        return FoundRing {
+            refusal: 7,
+            first: 0,
+            length: 0,
+        };
+    }
+    if counts.vertices <= v {
+        return FoundRing {
+            refusal: 8,
+            first: 0,
+            length: 0,
+        };
+    }
+    let first = start - 1;
+    let length = rings::ring_length(links, counts.triangles, first);
+    if room < length as usize {
+        return FoundRing {
+            refusal: 14,
+            first: 0,
+            length: 0,
+        };
+    }
+    FoundRing {
+        refusal: 0,
+        first,
+        length,
+    }
+}
+
+// Reads the ring of vertex v into the front of the buffer.
+pub fn ring(
+    positions: &[i32],
+    corners: &[u32],
+    links: &[u32],
+    generations: &[u8],
+    counts: Counts,
+    v: u32,
+    buffer: &mut [u32],
+) -> RingRead
+    ensures { λ r. ⌜
+        ringOutcome r (now (positions .entry)) (now (corners .entry)) (now (links .entry)) (now (generations .entry)) (now (buffer .exit))
+        ≡ ringCall v (now (buffer .entry)) (meshNow counts (now (positions .entry)) (now (corners .entry)) (now (links .entry)) (now (generations .entry))) ⌝ }
+{
+    let found = find_ring(
+        positions,
+        corners,
+        links,
+        generations,
+        counts,
+        v,
+        buffer.len(),
+    );
+    if found.refusal != 0 {
+        return RingRead {
+            refusal: found.refusal,
+            length: 0,
+            counts,
+        };
+    }
+    rings::write_ring(corners, links, counts.triangles, found.first, buffer);
+    RingRead {
+        refusal: 0,
+        length: found.length,
+        counts,
     }
 }
 

@@ -4,35 +4,19 @@ ghost use mathlib.Core.List.{List};
 ghost use Prim.Native.Nat.{ℕ, _+_, _*_, _/_, _≤_, _<_};
 ghost use lib.ListN.{length, getD};
 ghost use Rattle.rules.specs.Below.{fill};
-ghost use Rattle.rules.specs.Tables.{next, previous, topologyOf, meshOf};
+ghost use Rattle.rules.specs.Tables.{topologyOf, meshOf};
 ghost use Rattle.points.specs.Axes.{SumOfPoints};
 ghost use Rattle.rings.specs.Rings.{ringFrom, goesOn, Walkable, pointIn, Placed, ringSum};
 use points::Point;
 use points::Sum;
-
-// What a side without a partner links to.
-const BOUNDARY: u32 = 4294967295;
+use tables::BOUNDARY;
+use tables::sides::next;
+use tables::sides::previous;
 
 // How many entries a ring has, and the sum of their positions.
 pub struct RingSum {
     pub entries: u32,
     pub sum: Sum,
-}
-
-// The side after h in its triangle.
-fn next(h: u32) -> u32
-    requires { ⌜ h < 4294967295 ⌝ }
-    ensures { λ r. ⌜ r ≡ next h ⌝ }
-{
-    if h % 3 == 2 { h - 2 } else { h + 1 }
-}
-
-// The side before h in its triangle.
-fn previous(h: u32) -> u32
-    requires { ⌜ h < 4294967295 ⌝ }
-    ensures { λ r. ⌜ r ≡ previous h ⌝ }
-{
-    if h % 3 == 0 { h + 2 } else { h - 1 }
 }
 
 // Whether the walk from `first` goes on to side k after n sides.
@@ -52,8 +36,8 @@ pub fn ring_length(links: &[u32], triangles: u32, first: u32) -> u32
     let mut n: u32 = 0;
     let mut h = first;
     let entries = loop {
-        let p = previous(h);
-        let k = links[p as usize];
+        let p = previous(h as usize);
+        let k = links[p];
         n += 1;
         if k == BOUNDARY {
             break n + 1;
@@ -78,13 +62,13 @@ pub fn write_ring(corners: &[u32], links: &[u32], triangles: u32, first: u32, bu
     let mut n: u32 = 0;
     let mut h = first;
     loop {
-        let e = next(h);
-        buffer[n as usize] = corners[e as usize];
-        let p = previous(h);
-        let k = links[p as usize];
+        let e = next(h as usize);
+        buffer[n as usize] = corners[e];
+        let p = previous(h as usize);
+        let k = links[p];
         n += 1;
         if k == BOUNDARY {
-            buffer[n as usize] = corners[p as usize];
+            buffer[n as usize] = corners[p];
             break;
         }
         if !goes_on(triangles, first, n, k) {
@@ -122,14 +106,14 @@ pub fn ring_sum(
     let mut n: u32 = 0;
     let mut h = first;
     let total = loop {
-        let e = next(h);
-        sum = sum.plus(point_at(positions, corners[e as usize]));
-        let p = previous(h);
-        let k = links[p as usize];
+        let e = next(h as usize);
+        sum = sum.plus(point_at(positions, corners[e]));
+        let p = previous(h as usize);
+        let k = links[p];
         n += 1;
         if k == BOUNDARY {
             n += 1;
-            let all = sum.plus(point_at(positions, corners[p as usize]));
+            let all = sum.plus(point_at(positions, corners[p]));
             break RingSum {
                 entries: n,
                 sum: all,

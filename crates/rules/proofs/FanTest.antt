@@ -1,6 +1,6 @@
 -- The test for one fan says whether a vertex has one.
 use mathlib.Core.Path.{_≡_, sym, ap, _∙_, subst, subst₂}
-use mathlib.Core.Logic.{_≢_, _⊎_, inl, inr}
+use mathlib.Core.Logic.{_⊎_, inl, inr}
 use mathlib.Core.List.{List}
 use Prim.Native.Nat.{ℕ, zero, suc, _/_, _≤_, _<_}
 use native.Mathlib.Omega.{arith}
@@ -8,8 +8,8 @@ use native.Mathlib.Decide.{ℕ-discrete, decLe}
 use lib.ListN.{length}
 use lib.Dec.{T, eqb}
 use Rattle.rules.proofs.Decide.{Decides, is-eq, is-lt, is-iff, is-and}
-use Rattle.rules.proofs.Fans.{Walked, Starts, sideAt, Meets, walk-walked, first-side, first-in-use, fan-walked}
-use Rattle.rules.proofs.Fans.{fan-some}
+use Rattle.rules.proofs.Fans.{Walked, Inside, Starts, sideAt, Meets, walk-walked, first-side, first-in-use}
+use Rattle.rules.proofs.Fans.{fan-walked, fan-some}
 use Rattle.rules.proofs.Pigeonhole.{no-more, each-reached, as-many}
 use Rattle.rules.proofs.Renaming.{turns-trans}
 use Rattle.rules.proofs.Turning.{Glued, rotate-inner, before}
@@ -126,13 +126,27 @@ module _ (m : Topology) (G : Glued m) (v : ℕ) where
         y : Meets l h
         y = at h b o
 
-        go : (link m s ≡ boundary) ⊎ ((k : ℕ) → k < sides m → origin m k ≡ v → link m k ≢ boundary) → Turns m s h
+        go : (link m s ≡ boundary) ⊎ Inside m v → Turns m s h
         go (inl e) = rw (boundary-first m (f .first) l W G s x e) at (f .all h b o)
         go (inr n) =
             let p = before m G (f .first) (f .inUse) (n (f .first) (f .inUse) (f .out)) in
             let z = last m (f .first) l W (p .0) (at (p .0) (p .1) (p .2 ∙ f .out)) (p .3) in
             let r : rotate m (sideAt l (z .0)) ≡ f .first = ap (λ (k : ℕ). rotate m k) (z .2) ∙ p .3 in
             subst₂ (Turns m) (x .2) (y .2) (around m (f .first) l W (z .0) (z .1) r (x .0) (y .0) (x .1) (y .1))
+
+    -- It has one start.
+    pub one-start : (r : ℕ) → Starts m v r → s ≡ r
+    one-start r R = go (S .best) (R .best)
+      where
+        first : (k : ℕ) → Starts m v k → link m k ≡ boundary → f .first ≡ k
+        first k K = boundary-first m (f .first) l W G k (at k (K .inUse) (K .out))
+
+        go : (link m s ≡ boundary) ⊎ Inside m v → (link m r ≡ boundary) ⊎ Inside m v → s ≡ r
+        go (inl a) (inl b) = sym (first s S a) ∙ first r R b
+        go (inl a) (inr n) = absurd (n s (S .inUse) (S .out) a)
+        go (inr n) (inl b) = absurd (n r (R .inUse) (R .out) b)
+        go (inr n) (inr _) =
+            omega (arith, S .lowest n r (R .inUse) (R .out), R .lowest n s (S .inUse) (S .out))
 
   pub fan-met : OneFan m v → MeetsAll m v
   fan-met f =

@@ -207,13 +207,16 @@ walk-walked m G s l =
 
 -- ---- where the walk round v starts
 
+-- No side out of v is on the boundary.
+abbrev pub Inside : Topology → ℕ → Type 0
+Inside m v = (h : ℕ) → h < sides m → origin m h ≡ v → link m h ≢ boundary
+
 -- A side out of v: on the boundary if one is, and else the lowest.
 pub record Starts (m : Topology) (v s : ℕ) : Type 0 where
   pub inUse : s < sides m
   pub out : origin m s ≡ v
-  pub best : (link m s ≡ boundary) ⊎ ((h : ℕ) → h < sides m → origin m h ≡ v → link m h ≢ boundary)
-  pub lowest : ((h : ℕ) → h < sides m → origin m h ≡ v → link m h ≢ boundary) → (h : ℕ) → h < sides m → origin m h ≡ v
-      → s ≤ h
+  pub best : (link m s ≡ boundary) ⊎ Inside m v
+  pub lowest : Inside m v → (h : ℕ) → h < sides m → origin m h ≡ v → s ≤ h
 
 module _ (m : Topology) (v : ℕ) where
   outBoundary : ℕ → Bool
@@ -257,6 +260,15 @@ module _ (m : Topology) (v : ℕ) where
       go (yes q) = q
       go (no q) = absurd (B .none h (omega arith) (out-is h .passes o))
 
+  pick-none : (a b : ℕ) (c : Bool) → Decides c (a < sides m) → Lowest (sides m) outBoundary a → Lowest (sides m) out b
+      → ((h : ℕ) → h < sides m → origin m h ≢ v) → (elim c [ true ↦ a | false ↦ b ]) ≡ sides m
+  pick-none a b true d A B n = let l = d .holds tt in absurd (n a l (outBoundary-is a .holds (A .passes l) .0))
+  pick-none a b false d A B n = go (decLt b (sides m))
+    where
+      go : Dec (b < sides m) → b ≡ sides m
+      go (yes l) = absurd (n b l (out-is b .holds (B .passes l)))
+      go (no l) = omega (arith, B .most)
+
   -- The first side is such a start, where it is a side in use.
   pub first-side : firstSide m v < sides m → Starts m v (firstSide m v)
   unfolding firstSide outBoundary out
@@ -270,6 +282,13 @@ module _ (m : Topology) (v : ℕ) where
   first-in-use =
       pick-some (lowest (sides m) outBoundary) (lowest (sides m) out) (ltb (lowest (sides m) outBoundary) (sides m))
       (is-lt (lowest (sides m) outBoundary) (sides m)) (lowest-is (sides m) out)
+
+  -- It is past them where v has none.
+  pub first-none : ((h : ℕ) → h < sides m → origin m h ≢ v) → firstSide m v ≡ sides m
+  unfolding firstSide outBoundary out
+  first-none =
+      pick-none (lowest (sides m) outBoundary) (lowest (sides m) out) (ltb (lowest (sides m) outBoundary) (sides m))
+      (is-lt (lowest (sides m) outBoundary) (sides m)) (lowest-is (sides m) outBoundary) (lowest-is (sides m) out)
 
   -- The sides out of v, in the order of its ring, are a whole walk.
   pub fan-walked : Glued m → firstSide m v < sides m → Walked m (firstSide m v) (fan m v)

@@ -1,6 +1,6 @@
 -- The ring of a vertex of a sound mesh: what its walk meets, where it ends, and how many entries it has.
 use mathlib.Core.Path.{_≡_, refl, sym, ap, _∙_}
-use mathlib.Core.Logic.{_≢_, _⊎_, inl, inr}
+use mathlib.Core.Logic.{_⊎_, inl, inr}
 use mathlib.Core.Bool.{Bool, true, false}
 use mathlib.Core.List.{List, [], _∷_}
 use Prim.Native.Nat.{ℕ, zero, suc, _+_, _-_, _<_}
@@ -10,7 +10,7 @@ use lib.ListN.{length, getD}
 use lib.Dec.{eqb}
 use Rattle.rules.proofs.Decide.{is-eq, bit-yes, bit-no}
 use Rattle.rules.proofs.FanTest.{MeetsAll, last, all-counted, fan-met}
-use Rattle.rules.proofs.Fans.{Walked, Starts, sideAt, Meets, first-side, fan-walked}
+use Rattle.rules.proofs.Fans.{Walked, Inside, Starts, sideAt, Meets, first-side, fan-walked}
 use Rattle.rules.proofs.Relaxed.{sound-manifold}
 use Rattle.rules.proofs.Turning.{Glued, manifold-glued, rotate-inner, before}
 use Rattle.rules.specs.Below.{bit}
@@ -69,7 +69,7 @@ module _ (m : Topology) (G : Glued m) (v s : ℕ) (l : List ℕ) (S : Starts m v
   of-boundary : (i : ℕ) → suc i ≡ length l → OnBoundary m v → rotate m (sideAt l i) ≡ boundary
   of-boundary i e (h, u, o, b) = go (S .best) (W .ends i e)
     where
-      go : (link m s ≡ boundary) ⊎ ((k : ℕ) → k < sides m → origin m k ≡ v → link m k ≢ boundary)
+      go : (link m s ≡ boundary) ⊎ Inside m v
           → (rotate m (sideAt l i) ≡ s) ⊎ (rotate m (sideAt l i) ≡ boundary) → rotate m (sideAt l i) ≡ boundary
       go x (inr y) = y
       go (inr n) (inl y) = absurd (n h u o b)

@@ -1,6 +1,6 @@
 -- The walks by which fans are tested, and where they start.
-use Prim.Native.Nat.{ℕ, _+_, _-_, _*_, _≤_, _<_}
-use mathlib.Core.Bool.{Bool, _&&_}
+use Prim.Native.Nat.{ℕ, suc, _+_, _-_, _*_, _≤_, _<_}
+use mathlib.Core.Bool.{Bool, true, false, _&&_}
 use mathlib.Core.List.{List}
 use mathlib.Core.Logic.{_≢_, _⊎_}
 use mathlib.Core.Path.{_≡_}
@@ -9,6 +9,7 @@ use lib.ListN.{length, getD}
 use Rattle.rules.proofs.FanTotal.{walkLength}
 use Rattle.rules.specs.Below.{all, total}
 use Rattle.rules.proofs.Turning.{Glued}
+use Rattle.rules.specs.Ring.{firstSide}
 use Rattle.rules.specs.Sound.{hasOneFan}
 use Rattle.rules.specs.Tables.{Topology, topologyOf, sides, boundary}
 
@@ -57,7 +58,18 @@ walksMeetAll m starts =
     all (m .vertices) (λ v. ltb 0 (getD starts v 0))
     && eqb (total (m .vertices) (λ v. walkLength m (getD starts v 0 - 1))) (sides m)
 
--- r says whether each vertex has one fan, with whatever generations the triangles are glued.
+-- One more than the side where the ring of v starts, if it is to be told; else 0.
+abbrev pub startIf : Bool → Topology → ℕ → ℕ
+startIf told m v = elim told [ true ↦ suc (firstSide m v) | false ↦ 0 ]
+
+-- With whatever generations the triangles are glued, r tells the start of v's ring where each vertex has one fan.
+abbrev pub TellsStart : ℕ → ℕ → List ℕ → List ℕ → ℕ → ℕ → Type 0
+TellsStart vertices triangles corners links v r = (g : List ℕ) →
+    let m = topologyOf vertices triangles corners links g in
+    Glued m → r ≡ startIf (all vertices (hasOneFan m)) m v
+
+-- r says whether each vertex has one fan.
 abbrev pub TellsFans : ℕ → ℕ → List ℕ → List ℕ → Bool → Type 0
-TellsFans v f corners links r =
-    (g : List ℕ) → Glued (topologyOf v f corners links g) → r ≡ all v (hasOneFan (topologyOf v f corners links g))
+TellsFans vertices triangles corners links r = (g : List ℕ) →
+    let m = topologyOf vertices triangles corners links g in
+    Glued m → r ≡ all vertices (hasOneFan m)

@@ -9,12 +9,10 @@ ghost use Rattle.rules.specs.Numbers.{inRange};
 ghost use Rattle.rules.specs.Sound.{isSound};
 ghost use Rattle.rules.specs.Tables.{topologyOf, meshOf, tablesAgree};
 ghost use Rattle.soundness.specs.Parts.{countsFit};
+ghost use Rattle.soundness.specs.Walks.{startIf};
 
 pub mod sides;
 pub mod walks;
-
-// What a side without a partner links to.
-pub const BOUNDARY: u32 = 4294967295;
 
 // Whether the tables agree in their slots and keep to the maxima. The counts do not matter.
 pub fn tables_agree(positions: &[i32], corners: &[u32], links: &[u32], generations: &[u8]) -> bool
@@ -71,6 +69,34 @@ fn coordinates_fit(positions: &[i32], n: usize) -> bool
     true
 }
 
+// One more than the side where the ring of v starts; 0 where the tables are not sound.
+pub fn sound_start(
+    positions: &[i32],
+    corners: &[u32],
+    links: &[u32],
+    generations: &[u8],
+    vertices: u32,
+    triangles: u32,
+    v: u32,
+) -> u32
+    ensures { λ r. ⌜ (let m = topologyOf vertices triangles (now (corners .entry)) (now (links .entry)) (now (generations .entry)) in
+        r ≡ startIf (isSound (meshOf m (now (positions .entry)))) m v) ⌝ }
+{
+    if !tables_agree(positions, corners, links, generations) {
+        return 0;
+    }
+    if !counts_fit(positions, generations, vertices, triangles) {
+        return 0;
+    }
+    if !sides::triangles_fit(corners, links, generations, vertices, triangles) {
+        return 0;
+    }
+    if !coordinates_fit(positions, 3 * (vertices as usize)) {
+        return 0;
+    }
+    walks::fan_start(corners, links, triangles, vertices, v)
+}
+
 // Whether the tables are sound.
 pub fn is_sound(
     positions: &[i32],
@@ -84,17 +110,14 @@ pub fn is_sound(
         (topologyOf vertices triangles (now (corners .entry)) (now (links .entry)) (now (generations .entry)))
         (now (positions .entry))) ⌝ }
 {
-    if !tables_agree(positions, corners, links, generations) {
-        return false;
-    }
-    if !counts_fit(positions, generations, vertices, triangles) {
-        return false;
-    }
-    if !sides::triangles_fit(corners, links, generations, vertices, triangles) {
-        return false;
-    }
-    if !coordinates_fit(positions, 3 * (vertices as usize)) {
-        return false;
-    }
-    walks::fans(corners, links, triangles, vertices)
+    sound_start(
+        positions,
+        corners,
+        links,
+        generations,
+        vertices,
+        triangles,
+        0,
+    )
+        != 0
 }

@@ -1,5 +1,6 @@
 // The test of triangles: their generations, their sides, and the links between them.
-use super::BOUNDARY;
+use tables::BOUNDARY;
+use tables::sides::next;
 ghost use mathlib.Core.Path.{_≡_};
 ghost use mathlib.Core.List.{List};
 ghost use Prim.Native.Nat.{ℕ, _+_, _*_, _≤_, _<_};
@@ -40,14 +41,6 @@ pub fn five_kinds(g: u8, i: usize, h: u8, j: usize) -> bool
             },
         },
     }
-}
-
-// The side after h in its triangle.
-fn next(h: usize) -> usize
-    requires { ⌜ h < 4294967295 ⌝ }
-    ensures { λ r. ⌜ r ≡ next h ⌝ }
-{
-    if h % 3 == 2 { h - 2 } else { h + 1 }
 }
 
 // The side after side i of triangle t.

@@ -1,21 +1,14 @@
 // The test of fans: a walk round each vertex.
-use super::BOUNDARY;
+use tables::BOUNDARY;
+use tables::sides::previous;
 ghost use mathlib.Core.Path.{_≡_};
 ghost use mathlib.Core.List.{List};
 ghost use Prim.Native.Nat.{ℕ, _+_, _*_, _≤_, _<_};
 ghost use lib.ListN.{length, getD};
 ghost use Rattle.rules.proofs.FanTotal.{walkLength};
-ghost use Rattle.rules.specs.Tables.{previous, topologyOf};
+ghost use Rattle.rules.specs.Tables.{topologyOf};
 ghost use Rattle.soundness.specs.Walks.{CornersInUse, Zeroed, Kept, AllKept, StartsInUse};
-ghost use Rattle.soundness.specs.Walks.{walksMeetAll, TellsFans};
-
-// The side before h in its triangle.
-fn previous(h: usize) -> usize
-    requires { ⌜ h < 4294967295 ⌝ }
-    ensures { λ r. ⌜ r ≡ previous h ⌝ }
-{
-    if h % 3 == 0 { h + 2 } else { h - 1 }
-}
+ghost use Rattle.soundness.specs.Walks.{walksMeetAll, TellsStart, TellsFans};
 
 // The start of a vertex that had this start among the sides before h, once side h out of it, of this link, is seen.
 fn picked(start: u32, link: u32, h: u32) -> u32
@@ -89,58 +82,92 @@ fn walks_meet_all(links: &[u32], triangles: u32, vertices: u32, starts: &[u32]) 
     met == 3 * (triangles as usize)
 }
 
-// The test of fans, with a zero for each vertex lent to keep its start.
-fn fans_by(
+// One more than the side where the ring of v starts; 0 where some vertex has not one fan. A zero for each vertex is lent to
+// keep its start.
+fn fan_start_by(
     corners: &[u32],
     links: &[u32],
     triangles: u32,
     vertices: u32,
+    v: u32,
     starts: &mut [u32],
-) -> bool
+) -> u32
     requires { ⌜ CornersInUse vertices triangles (now corners) (now links) × Zeroed vertices (now starts) ⌝ }
-    ensures { λ r. ⌜ TellsFans vertices triangles (now (corners .entry)) (now (links .entry)) r ⌝ }
+    ensures { λ r. ⌜ TellsStart vertices triangles (now (corners .entry)) (now (links .entry)) v r ⌝ }
 {
     pick_starts(corners, links, triangles, vertices, starts);
-    walks_meet_all(links, triangles, vertices, starts)
+    if !walks_meet_all(links, triangles, vertices, starts) {
+        return 0;
+    }
+    if vertices <= v {
+        return 3 * triangles + 1;
+    }
+    starts[v as usize]
 }
 
-// The test of fans for up to 256 vertices.
-fn fans_within_256(corners: &[u32], links: &[u32], triangles: u32, vertices: u32) -> bool
+// The same for up to 256 vertices.
+fn fan_start_within_256(
+    corners: &[u32],
+    links: &[u32],
+    triangles: u32,
+    vertices: u32,
+    v: u32,
+) -> u32
     requires { ⌜ CornersInUse vertices triangles (now corners) (now links) × (vertices ≤ 256) ⌝ }
-    ensures { λ r. ⌜ TellsFans vertices triangles (now (corners .entry)) (now (links .entry)) r ⌝ }
+    ensures { λ r. ⌜ TellsStart vertices triangles (now (corners .entry)) (now (links .entry)) v r ⌝ }
 {
     let mut starts = [0u32; 256];
-    fans_by(corners, links, triangles, vertices, &mut starts)
+    fan_start_by(corners, links, triangles, vertices, v, &mut starts)
 }
 
-// The test of fans for up to 2048 vertices.
-fn fans_within_2048(corners: &[u32], links: &[u32], triangles: u32, vertices: u32) -> bool
+// The same for up to 2048 vertices.
+fn fan_start_within_2048(
+    corners: &[u32],
+    links: &[u32],
+    triangles: u32,
+    vertices: u32,
+    v: u32,
+) -> u32
     requires { ⌜ CornersInUse vertices triangles (now corners) (now links) × (vertices ≤ 2048) ⌝ }
-    ensures { λ r. ⌜ TellsFans vertices triangles (now (corners .entry)) (now (links .entry)) r ⌝ }
+    ensures { λ r. ⌜ TellsStart vertices triangles (now (corners .entry)) (now (links .entry)) v r ⌝ }
 {
     let mut starts = [0u32; 2048];
-    fans_by(corners, links, triangles, vertices, &mut starts)
+    fan_start_by(corners, links, triangles, vertices, v, &mut starts)
 }
 
-// The test of fans for up to 32768 vertices.
-fn fans_within_32768(corners: &[u32], links: &[u32], triangles: u32, vertices: u32) -> bool
+// The same for up to 32768 vertices.
+fn fan_start_within_32768(
+    corners: &[u32],
+    links: &[u32],
+    triangles: u32,
+    vertices: u32,
+    v: u32,
+) -> u32
     requires { ⌜ CornersInUse vertices triangles (now corners) (now links) × (vertices ≤ 32768) ⌝ }
-    ensures { λ r. ⌜ TellsFans vertices triangles (now (corners .entry)) (now (links .entry)) r ⌝ }
+    ensures { λ r. ⌜ TellsStart vertices triangles (now (corners .entry)) (now (links .entry)) v r ⌝ }
 {
     let mut starts = [0u32; 32768];
-    fans_by(corners, links, triangles, vertices, &mut starts)
+    fan_start_by(corners, links, triangles, vertices, v, &mut starts)
 }
 
-// Whether each vertex has one fan. A small mesh has little to clear.
+// The same for all. A small mesh has little to clear.
+pub fn fan_start(corners: &[u32], links: &[u32], triangles: u32, vertices: u32, v: u32) -> u32
+    requires { ⌜ CornersInUse vertices triangles (now corners) (now links) ⌝ }
+    ensures { λ r. ⌜ TellsStart vertices triangles (now (corners .entry)) (now (links .entry)) v r ⌝ }
+{
+    if vertices <= 256 {
+        return fan_start_within_256(corners, links, triangles, vertices, v);
+    }
+    if vertices <= 2048 {
+        return fan_start_within_2048(corners, links, triangles, vertices, v);
+    }
+    fan_start_within_32768(corners, links, triangles, vertices, v)
+}
+
+// Whether each vertex has one fan.
 pub fn fans(corners: &[u32], links: &[u32], triangles: u32, vertices: u32) -> bool
     requires { ⌜ CornersInUse vertices triangles (now corners) (now links) ⌝ }
     ensures { λ r. ⌜ TellsFans vertices triangles (now (corners .entry)) (now (links .entry)) r ⌝ }
 {
-    if vertices <= 256 {
-        return fans_within_256(corners, links, triangles, vertices);
-    }
-    if vertices <= 2048 {
-        return fans_within_2048(corners, links, triangles, vertices);
-    }
-    fans_within_32768(corners, links, triangles, vertices)
+    fan_start(corners, links, triangles, vertices, 0) != 0
 }

@@ -1,5 +1,6 @@
 // The whole step on sound tables: what it refuses, and its work.
 use split::Work;
+use tables::BOUNDARY;
 use tables::Counts;
 ghost use mathlib.Core.Bool.{true, not};
 ghost use mathlib.Core.List.{List};
@@ -28,9 +29,6 @@ pub struct Answer {
     pub splits: u32,
     pub flips: u32,
 }
-
-// What a side without a partner links to.
-const BOUNDARY: u32 = 4294967295;
 
 // Whether none of the first n sides is on the boundary.
 fn none_on_boundary(links: &[u32], n: usize) -> bool

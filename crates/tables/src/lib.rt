@@ -10,6 +10,8 @@ ghost use Rattle.tables.specs.declared.Counts.{Counts};
 ghost use Rattle.tables.specs.Lent.{topologyNow, TrianglesAgree, VerticesAgree};
 ghost use Rattle.tables.specs.Lent.{triangleAt, entries, put, putPoint};
 
+pub mod sides;
+
 // The slots in use: they are the first of their tables.
 #[repr(C)]
 pub struct Counts {

@@ -16,11 +16,11 @@ abbrev μ-loop : tie.MeasureT-loop
 loop-holds : tie.Need-loop-holds Inv-loop μ-loop
 loop-holds c = on-walk _ _ _ (omega arith)
 
+cast-previous : tie.Need-cast-previous Inv-loop μ-loop
+cast-previous c = omega arith
+
 previous-requires : tie.Need-previous-requires Inv-loop μ-loop
 previous-requires c κs = omega arith
-
-cast-k : tie.Need-cast-k Inv-loop μ-loop
-cast-k c = omega arith
 
 mul-k : tie.Need-mul-k Inv-loop μ-loop
 mul-k c = omega arith
@@ -66,8 +66,8 @@ ring-length-spec =
     Inv-loop
     μ-loop
     loop-holds
+    cast-previous
     previous-requires
-    cast-k
     mul-k
     shared-slice-read-k
     add-n

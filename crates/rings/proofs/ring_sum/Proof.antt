@@ -33,11 +33,11 @@ loop-holds c =
     let e = c .empty .ensures in
     (on-walk _ _ _ (omega arith), nothing-summed _ _ _ _ _ (e .1) (e .0))
 
+cast-next : tie.Need-cast-next Inv-loop μ-loop
+cast-next c = omega arith
+
 next-requires : tie.Need-next-requires Inv-loop μ-loop
 next-requires c κs = omega arith
-
-cast-point-at : tie.Need-cast-point-at Inv-loop μ-loop
-cast-point-at c = omega arith
 
 mul-point-at : tie.Need-mul-point-at Inv-loop μ-loop
 mul-point-at c = omega arith
@@ -55,11 +55,11 @@ plus-requires c κs =
     let head = c .before .before .before in
     (head .loop .n, omega arith, head .loop .inv .1 .range)
 
+cast-previous : tie.Need-cast-previous Inv-loop μ-loop
+cast-previous c = omega arith
+
 previous-requires : tie.Need-previous-requires Inv-loop μ-loop
 previous-requires c κs = omega arith
-
-cast-k : tie.Need-cast-k Inv-loop μ-loop
-cast-k c = omega arith
 
 mul-k : tie.Need-mul-k Inv-loop μ-loop
 mul-k c = omega arith
@@ -72,9 +72,6 @@ add-n c = omega arith
 
 add-n-2 : tie.Need-add-n-2 Inv-loop μ-loop
 add-n-2 c = omega arith
-
-cast-point-at-2 : tie.Need-cast-point-at-2 Inv-loop μ-loop
-cast-point-at-2 c = omega arith
 
 mul-point-at-2 : tie.Need-mul-point-at-2 Inv-loop μ-loop
 mul-point-at-2 c = omega arith
@@ -134,19 +131,18 @@ ring-sum-spec =
     μ-loop
     empty-requires
     loop-holds
+    cast-next
     next-requires
-    cast-point-at
     mul-point-at
     shared-slice-read-point-at
     point-at-requires
     plus-requires
+    cast-previous
     previous-requires
-    cast-k
     mul-k
     shared-slice-read-k
     add-n
     add-n-2
-    cast-point-at-2
     mul-point-at-2
     shared-slice-read-point-at-2
     point-at-requires-2

@@ -44,11 +44,11 @@ last c =
 loop-holds : tie.Need-loop-holds Inv-loop μ-loop
 loop-holds c = (on-walk _ _ _ (omega arith), unwritten _ _ _ _ _)
 
+cast-next : tie.Need-cast-next Inv-loop μ-loop
+cast-next c = omega arith
+
 next-requires : tie.Need-next-requires Inv-loop μ-loop
 next-requires c κs = omega arith
-
-cast-buffer : tie.Need-cast-buffer Inv-loop μ-loop
-cast-buffer c = omega arith
 
 mul-buffer : tie.Need-mul-buffer Inv-loop μ-loop
 mul-buffer c = omega arith
@@ -56,8 +56,8 @@ mul-buffer c = omega arith
 shared-slice-read-buffer : tie.Need-shared-slice-read-buffer Inv-loop μ-loop
 shared-slice-read-buffer c = omega arith
 
-cast-buffer-2 : tie.Need-cast-buffer-2 Inv-loop μ-loop
-cast-buffer-2 c = omega arith
+cast-buffer : tie.Need-cast-buffer Inv-loop μ-loop
+cast-buffer c = omega arith
 
 mul-buffer-2 : tie.Need-mul-buffer-2 Inv-loop μ-loop
 mul-buffer-2 c = omega arith
@@ -68,11 +68,11 @@ slice-write-buffer c =
     let fits = start .pre .1 in
     omega (arith, fits .2, entry (c .before) .has (fits .0) (fits .1), c .before .before .loop .inv .1 .size)
 
+cast-previous : tie.Need-cast-previous Inv-loop μ-loop
+cast-previous c = omega arith
+
 previous-requires : tie.Need-previous-requires Inv-loop μ-loop
 previous-requires c κs = omega arith
-
-cast-k : tie.Need-cast-k Inv-loop μ-loop
-cast-k c = omega arith
 
 mul-k : tie.Need-mul-k Inv-loop μ-loop
 mul-k c = omega arith
@@ -83,17 +83,14 @@ shared-slice-read-k c = omega arith
 add-n : tie.Need-add-n Inv-loop μ-loop
 add-n c = omega arith
 
-cast-buffer-3 : tie.Need-cast-buffer-3 Inv-loop μ-loop
-cast-buffer-3 c = omega arith
-
 mul-buffer-3 : tie.Need-mul-buffer-3 Inv-loop μ-loop
 mul-buffer-3 c = omega arith
 
 shared-slice-read-buffer-2 : tie.Need-shared-slice-read-buffer-2 Inv-loop μ-loop
 shared-slice-read-buffer-2 c = omega arith
 
-cast-buffer-4 : tie.Need-cast-buffer-4 Inv-loop μ-loop
-cast-buffer-4 c = omega arith
+cast-buffer-2 : tie.Need-cast-buffer-2 Inv-loop μ-loop
+cast-buffer-2 c = omega arith
 
 mul-buffer-4 : tie.Need-mul-buffer-4 Inv-loop μ-loop
 mul-buffer-4 c = omega arith
@@ -142,22 +139,21 @@ write-ring-spec =
     Inv-loop
     μ-loop
     loop-holds
+    cast-next
     next-requires
-    cast-buffer
     mul-buffer
     shared-slice-read-buffer
-    cast-buffer-2
+    cast-buffer
     mul-buffer-2
     slice-write-buffer
+    cast-previous
     previous-requires
-    cast-k
     mul-k
     shared-slice-read-k
     add-n
-    cast-buffer-3
     mul-buffer-3
     shared-slice-read-buffer-2
-    cast-buffer-4
+    cast-buffer-2
     mul-buffer-4
     slice-write-buffer-2
     goes-on-requires

@@ -1,0 +1,98 @@
+// The calls of crate mesh under the names by which a program in C or Rust links them (include/rawplinth.h). A slice is a
+// pointer and a length.
+use mesh::PositionRead;
+use mesh::RingRead;
+use mesh::Worked;
+use tables::Counts;
+ghost use mathlib.Core.Path.{_≡_};
+ghost use Rattle.rules.specs.Calls.{loadCall, refineCall, wholeStepCall, ringCall, positionCall};
+ghost use Rattle.tables.specs.Lent.{meshNow};
+ghost use Rattle.mesh.specs.Answers.{workedOutcome, ringOutcome, positionOutcome};
+
+// Loads a cage.
+#[no_mangle]
+pub extern "C" fn rawplinth_load(
+    positions: &mut [i32],
+    corners: &mut [u32],
+    links: &mut [u32],
+    generations: &mut [u8],
+    counts: Counts,
+    cage: &[u8],
+) -> Worked
+    ensures { λ r. ⌜ workedOutcome r (now (positions .exit)) (now (corners .exit)) (now (links .exit)) (now (generations .exit))
+        ≡ loadCall (now (cage .entry)) (meshNow counts (now (positions .entry)) (now (corners .entry)) (now (links .entry)) (now (generations .entry))) ⌝ }
+{
+    mesh::load(positions, corners, links, generations, counts, cage)
+}
+
+// Refines one triangle.
+#[no_mangle]
+pub extern "C" fn rawplinth_refine(
+    positions: &mut [i32],
+    corners: &mut [u32],
+    links: &mut [u32],
+    generations: &mut [u8],
+    counts: Counts,
+    triangle: u32,
+) -> Worked
+    ensures { λ r. ⌜ workedOutcome r (now (positions .exit)) (now (corners .exit)) (now (links .exit)) (now (generations .exit))
+        ≡ refineCall triangle (meshNow counts (now (positions .entry)) (now (corners .entry)) (now (links .entry)) (now (generations .entry))) ⌝ }
+{
+    mesh::refine(positions, corners, links, generations, counts, triangle)
+}
+
+// The whole smoothing step.
+#[no_mangle]
+pub extern "C" fn rawplinth_whole_step(
+    positions: &mut [i32],
+    corners: &mut [u32],
+    links: &mut [u32],
+    generations: &mut [u8],
+    counts: Counts,
+) -> Worked
+    ensures { λ r. ⌜ workedOutcome r (now (positions .exit)) (now (corners .exit)) (now (links .exit)) (now (generations .exit))
+        ≡ wholeStepCall (meshNow counts (now (positions .entry)) (now (corners .entry)) (now (links .entry)) (now (generations .entry))) ⌝ }
+{
+    mesh::whole_step(positions, corners, links, generations, counts)
+}
+
+// Reads the ring of a vertex.
+#[no_mangle]
+pub extern "C" fn rawplinth_ring(
+    positions: &[i32],
+    corners: &[u32],
+    links: &[u32],
+    generations: &[u8],
+    counts: Counts,
+    vertex: u32,
+    buffer: &mut [u32],
+) -> RingRead
+    ensures { λ r. ⌜ ringOutcome r (now (positions .entry)) (now (corners .entry)) (now (links .entry)) (now (generations .entry)) (now (buffer .exit))
+        ≡ ringCall vertex (now (buffer .entry)) (meshNow counts (now (positions .entry)) (now (corners .entry)) (now (links .entry)) (now (generations .entry))) ⌝ }
+{
+    mesh::ring(
+        positions,
+        corners,
+        links,
+        generations,
+        counts,
+        vertex,
+        buffer,
+    )
+}
+
+// Reads the position of a vertex.
+#[no_mangle]
+pub extern "C" fn rawplinth_position(
+    positions: &[i32],
+    corners: &[u32],
+    links: &[u32],
+    generations: &[u8],
+    counts: Counts,
+    vertex: u32,
+) -> PositionRead
+    ensures { λ r. ⌜ positionOutcome r (now (positions .entry)) (now (corners .entry)) (now (links .entry)) (now (generations .entry))
+        ≡ positionCall vertex (meshNow counts (now (positions .entry)) (now (corners .entry)) (now (links .entry)) (now (generations .entry))) ⌝ }
+{
+    mesh::position(positions, corners, links, generations, counts, vertex)
+}

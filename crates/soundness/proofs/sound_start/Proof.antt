@@ -1,0 +1,142 @@
+-- `soundness::sound_start` meets its contract: its parts are those of the test of the rules.
+use borrow.Author.Needs.{needs}
+use Prim.Native.Nat.{ℕ, _*_, _<_}
+use native.Mathlib.Omega.{arith}
+use mathlib.Core.Bool.{true}
+use mathlib.Core.Path.{_≡_}
+use Rattle.rules.proofs.Decide.{when-true}
+use Rattle.rules.proofs.SoundTest.{tables-agree-is}
+use Rattle.rules.specs.Below.{all}
+use Rattle.rules.specs.Tables.{Mesh, TablesAgree, topologyOf, meshOf, tablesAgree}
+use Rattle.soundness.specs.Parts.{countsFit, triangleFits}
+use Rattle.soundness.proofs.Answers.{refused, passed}
+use Rattle.soundness.proofs.Parts.{TriangleFits, triangles-are, CountsFit, counts-are, coordinateFits}
+use Rattle.soundness.proofs.Parts.{room, corners-in-use, sides-glued, parts}
+use Rattle.soundness.proofs.sound_start.Statement.{statement}
+use Rattle.soundness.proofs.sound_start.Tie as tie
+
+abbrev mesh : tie.Start → Mesh
+mesh c =
+    let args = c .args in
+    meshOf
+    (topologyOf (args .vertices) (args .triangles) (args .corners .now) (args .links .now) (args .generations .now))
+    (args .positions .now)
+
+-- The start, from the place after each test.
+abbrev from-1 : tie.Else1 → tie.Start
+from-1 c = c .before .before .before .before .before
+
+abbrev from-2 : tie.Else2 → tie.Start
+from-2 c = from-1 (c .before .before)
+
+abbrev from-3 : tie.Else3 → tie.Start
+from-3 c = from-2 (c .before .before)
+
+abbrev from-4 : tie.Else4 → tie.Start
+from-4 c = from-3 (c .before .before)
+
+-- What each test tells that is passed.
+agreed : (c : tie.Else1) → tablesAgree (mesh (from-1 c)) ≡ true
+agreed c =
+    let args = from-1 c .args in
+    passed (c .before .tables-agree .ensures (args .vertices) (args .triangles)) (c .if1 .left)
+
+counted : (c : tie.Else2) → countsFit (mesh (from-2 c)) ≡ true
+counted c =
+    let args = from-2 c .args in
+    passed (c .before .counts-fit .ensures (args .corners .now) (args .links .now)) (c .if2 .left)
+
+fitted : (c : tie.Else3) →
+    let t = mesh (from-3 c) .topology in
+    all (t .triangles) (triangleFits t) ≡ true
+fitted c = passed (c .before .triangles-fit .ensures) (c .if3 .left)
+
+placed : (c : tie.Else4) →
+    let m = mesh (from-4 c) in
+    all (3 * m .topology .vertices) (coordinateFits m) ≡ true
+placed c = passed (c .before .coordinates-fit .ensures) (c .if4 .left)
+
+agree : (c : tie.Else1) → TablesAgree (mesh (from-1 c))
+agree c = when-true (tables-agree-is (mesh (from-1 c))) (agreed c)
+
+counts : (c : tie.Else2) → CountsFit (mesh (from-2 c))
+counts c = when-true (counts-are (mesh (from-2 c))) (counted c)
+
+triangles : (c : tie.Else3) →
+    let t = mesh (from-3 c) .topology in
+    (x : ℕ) → x < t .triangles → TriangleFits t x
+triangles c = when-true (triangles-are (mesh (from-3 c) .topology)) (fitted c)
+
+tables-agree-requires : tie.Need-tables-agree-requires
+tables-agree-requires c κs = search needs
+
+returns : tie.Need-returns
+returns c =
+    let args = c .before .before .before .before .before .args in
+    let none = refused (c .before .tables-agree .ensures (args .vertices) (args .triangles)) (c .if1 .taken) in
+    rw (parts _, none)
+
+counts-fit-requires : tie.Need-counts-fit-requires
+counts-fit-requires c κs = search needs
+
+returns-2 : tie.Need-returns-2
+returns-2 c =
+    let else1 = c .before .before in
+    let args = from-1 else1 .args in
+    let none = refused (c .before .counts-fit .ensures (args .corners .now) (args .links .now)) (c .if2 .taken) in
+    rw (parts _, agreed else1, none)
+
+triangles-fit-requires : tie.Need-triangles-fit-requires
+triangles-fit-requires c κs = room (mesh (from-2 c)) (agree (c .before .before)) (counts c)
+
+returns-3 : tie.Need-returns-3
+returns-3 c =
+    let else2 = c .before .before in
+    let else1 = else2 .before .before in
+    let none = refused (c .before .triangles-fit .ensures) (c .if3 .taken) in
+    rw (parts _, agreed else1, counted else2, none)
+
+mul-coordinates-fit : tie.Need-mul-coordinates-fit
+mul-coordinates-fit c = search needs
+
+coordinates-fit-requires : tie.Need-coordinates-fit-requires
+coordinates-fit-requires c κs = omega (arith, counts (c .before .before) .vertexRoom)
+
+returns-4 : tie.Need-returns-4
+returns-4 c =
+    let else3 = c .before .before in
+    let else2 = else3 .before .before in
+    let else1 = else2 .before .before in
+    let none = refused (c .before .coordinates-fit .ensures) (c .if4 .taken) in
+    rw (parts _, agreed else1, counted else2, fitted else3, none)
+
+fan-start-requires : tie.Need-fan-start-requires
+fan-start-requires c κs =
+    let else3 = c .before .before in
+    let else2 = else3 .before .before in
+    corners-in-use (mesh (from-4 c)) (agree (else2 .before .before)) (counts else2) (triangles else3)
+
+returns-5 : tie.Need-returns-5
+returns-5 c =
+    let else4 = c .before in
+    let else3 = else4 .before .before in
+    let else2 = else3 .before .before in
+    let else1 = else2 .before .before in
+    rw (parts _, agreed else1, counted else2, fitted else3, placed else4)
+    (c .fan-start .ensures _ (sides-glued (mesh (from-4 else4)) (agree else1) (counts else2) (triangles else3)))
+
+pub sound-start-spec : {M : Type 1} → statement M
+sound-start-spec =
+    tie.close
+    (tie.spec
+    tables-agree-requires
+    returns
+    counts-fit-requires
+    returns-2
+    triangles-fit-requires
+    returns-3
+    mul-coordinates-fit
+    coordinates-fit-requires
+    returns-4
+    fan-start-requires
+    returns-5)

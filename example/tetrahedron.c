@@ -1,0 +1,56 @@
+/* Loads a tetrahedron, refines a triangle, and reads a ring and a position. */
+#include "rawplinth.h"
+
+#include <stdio.h>
+
+enum { VERTEX_SLOTS = 64, TRIANGLE_SLOTS = 128 };
+
+static int32_t positions[3 * VERTEX_SLOTS];
+static uint32_t corners[3 * TRIANGLE_SLOTS];
+static uint32_t links[3 * TRIANGLE_SLOTS];
+static uint8_t generations[TRIANGLE_SLOTS];
+
+/* The four tables with their lengths, as every call takes them. */
+#define TABLES                                                                                                             \
+    positions, 3 * VERTEX_SLOTS, corners, 3 * TRIANGLE_SLOTS, links, 3 * TRIANGLE_SLOTS, generations, TRIANGLE_SLOTS
+
+/* The sizes, the coordinates and the corners. */
+static const int32_t cage[] = {
+    4, 4,
+    0, 0, 0,  9216, 0, 0,  0, 9216, 0,  0, 0, 9216,
+    0, 1, 2,  0, 3, 1,  1, 3, 2,  2, 3, 0,
+};
+
+int main(void)
+{
+    rawplinth_counts counts = {0, 0};
+    uint8_t bytes[sizeof cage];
+    for (size_t i = 0; i < sizeof bytes; i++)
+        bytes[i] = (uint32_t)cage[i / 4] >> 8 * (i % 4) & 255;
+
+    rawplinth_worked done = rawplinth_load(TABLES, counts, bytes, sizeof bytes);
+    if (done.refusal != RAWPLINTH_OK)
+        return 1;
+    counts = done.counts;
+
+    done = rawplinth_refine(TABLES, counts, 0);
+    if (done.refusal != RAWPLINTH_OK)
+        return 1;
+    counts = done.counts;
+    printf("%u split, %u flips: %u vertices, %u triangles\n", done.splits, done.flips, counts.vertices, counts.triangles);
+
+    uint32_t ring[16];
+    rawplinth_ring_read read = rawplinth_ring(TABLES, counts, 4, ring, 16);
+    if (read.refusal != RAWPLINTH_OK)
+        return 1;
+    printf("ring of vertex 4:");
+    for (uint32_t i = 0; i < read.length; i++)
+        printf(" %u", ring[i]);
+
+    rawplinth_position_read at = rawplinth_position(TABLES, counts, 4);
+    printf("\nits position: %d %d %d\n", at.x, at.y, at.z);
+
+    done = rawplinth_refine(TABLES, counts, 99);
+    printf("triangle 99: refused with %u\n", done.refusal);
+    return 0;
+}

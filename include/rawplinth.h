@@ -1,0 +1,139 @@
+/* Rawplinth: root-three refinement of triangle meshes on tables that the caller lends.
+
+   Link with librawplinth.a (make lib). The library keeps nothing between calls, takes no memory but stack, and makes no
+   system call. */
+#ifndef RAWPLINTH_H
+#define RAWPLINTH_H
+
+#include <stddef.h>
+#include <stdint.h>
+
+#ifdef __cplusplus
+extern "C" {
+#endif
+
+/* What a side without a partner links to. */
+#define RAWPLINTH_BOUNDARY UINT32_C(4294967295)
+
+/* The most slots that tables may have. */
+#define RAWPLINTH_VERTEX_SLOTS 32768
+#define RAWPLINTH_TRIANGLE_SLOTS 65536
+
+/* How many vertices and triangles are in use. A fresh store has none. Every call takes the counts, and its answer has those
+   for the next call. */
+typedef struct {
+    uint32_t vertices;
+    uint32_t triangles;
+} rawplinth_counts;
+
+/* The refusals. A refused call answers with the number, the counts that it was given and zeros, and writes nothing. */
+enum {
+    RAWPLINTH_OK = 0,
+    RAWPLINTH_TABLES_DISAGREE = 1, /* lengths that do not fit each other, or more slots than allowed */
+    RAWPLINTH_SIZES = 2,           /* a cage of a wrong length, or with no vertex, no triangle, or more than slots */
+    RAWPLINTH_CORNERS = 3,         /* a corner that is no vertex, or twice in one triangle */
+    RAWPLINTH_COORDINATES = 4,     /* a coordinate beyond 16777216 either way */
+    RAWPLINTH_SIDE_TWICE = 5,      /* two triangles with the same directed side */
+    RAWPLINTH_FANS = 6,            /* a vertex whose triangles are none, or not one fan */
+    RAWPLINTH_NOT_SOUND = 7,       /* tables that are no mesh by the rules, such as a fresh store */
+    RAWPLINTH_NOT_IN_USE = 8,      /* a triangle or vertex number past the counts */
+    RAWPLINTH_GENERATION = 9,      /* generation 20, the last */
+    RAWPLINTH_CHAIN_OPEN = 10,     /* the base chain ends at the boundary */
+    RAWPLINTH_NO_SLOTS = 11,       /* too few slots for the splits that are needed */
+    RAWPLINTH_NOT_UNIFORM = 12,    /* a boundary, or triangles not all of one even generation */
+    RAWPLINTH_RING_LONG = 13,      /* a ring of more than 12 entries */
+    RAWPLINTH_BUFFER_SHORT = 14    /* a buffer shorter than the ring */
+};
+
+/* The answer of load, refine and whole step. */
+typedef struct {
+    uint32_t refusal;
+    uint32_t splits; /* face splits made */
+    uint32_t flips;  /* flips made */
+    rawplinth_counts counts;
+} rawplinth_worked;
+
+/* The answer of ring. */
+typedef struct {
+    uint32_t refusal;
+    uint32_t length; /* entries written to the buffer */
+    rawplinth_counts counts;
+} rawplinth_ring_read;
+
+/* The answer of position, in units of 1/1024 mm. */
+typedef struct {
+    uint32_t refusal;
+    int32_t x, y, z;
+    rawplinth_counts counts;
+} rawplinth_position_read;
+
+/* Every call is lent the same four tables, each a pointer and its number of entries:
+
+     positions     3 for each vertex slot
+     corners       3 for each triangle slot
+     links         3 for each triangle slot: 3*triangle+side of the partner, or RAWPLINTH_BOUNDARY; side 0 runs from corner 0
+                   to corner 1, side 1 from 1 to 2, side 2 from 2 to 0
+     generations   1 for each triangle slot
+
+   Whatever they hold, a call refuses or does what it says. Slots past the counts are written only where a call takes them
+   into use.
+
+   A pointer must be valid for its entries, and not null where there are none. What is lent to one call must not overlap,
+   and nobody else may use it while the call runs: calls on different meshes may run at the same time, on one mesh not. */
+
+/* Loads a cage: its numbers of vertices and of triangles, 3 signed coordinates for each vertex, 3 corners for each triangle,
+   each number 4 bytes, low byte first. Neither the counts nor what the tables held before matter.
+   Refuses with the first of 1, 2, 3, 4, 5, 6 that applies. Writes the first slots of all tables. Needs 3 MB of stack. */
+rawplinth_worked rawplinth_load(
+    int32_t *positions, size_t positions_length,
+    uint32_t *corners, size_t corners_length,
+    uint32_t *links, size_t links_length,
+    uint8_t *generations, size_t generations_length,
+    rawplinth_counts counts,
+    const uint8_t *cage, size_t cage_length);
+
+/* Refines one triangle: an even one by a face split; an odd one by the splits along its base chain, until it is flipped.
+   Refuses with 1, 7, 8, 9, 10, 11. Writes slots in use and those that it takes. Needs 1 MB of stack, as the calls below. */
+rawplinth_worked rawplinth_refine(
+    int32_t *positions, size_t positions_length,
+    uint32_t *corners, size_t corners_length,
+    uint32_t *links, size_t links_length,
+    uint8_t *generations, size_t generations_length,
+    rawplinth_counts counts,
+    uint32_t triangle);
+
+/* Refines every triangle of a closed mesh of one even generation and smooths the old vertices, all from their old positions.
+   Refuses with 1, 7, 12, 9, 13, 11. Writes slots in use and those that it takes. */
+rawplinth_worked rawplinth_whole_step(
+    int32_t *positions, size_t positions_length,
+    uint32_t *corners, size_t corners_length,
+    uint32_t *links, size_t links_length,
+    uint8_t *generations, size_t generations_length,
+    rawplinth_counts counts);
+
+/* Reads the ring of a vertex: its neighbours in turn, at the boundary from one end to the other.
+   Refuses with 1, 7, 8, 14. Writes the ring to the front of the buffer, and nothing else. */
+rawplinth_ring_read rawplinth_ring(
+    const int32_t *positions, size_t positions_length,
+    const uint32_t *corners, size_t corners_length,
+    const uint32_t *links, size_t links_length,
+    const uint8_t *generations, size_t generations_length,
+    rawplinth_counts counts,
+    uint32_t vertex,
+    uint32_t *buffer, size_t buffer_length);
+
+/* Reads the position of a vertex.
+   Refuses with 1, 7, 8. Writes nothing. */
+rawplinth_position_read rawplinth_position(
+    const int32_t *positions, size_t positions_length,
+    const uint32_t *corners, size_t corners_length,
+    const uint32_t *links, size_t links_length,
+    const uint8_t *generations, size_t generations_length,
+    rawplinth_counts counts,
+    uint32_t vertex);
+
+#ifdef __cplusplus
+}
+#endif
+
+#endif
