@@ -4,11 +4,11 @@ use mathlib.Core.Bool.{Bool, true, false, not}
 use mathlib.Core.List.{List, [], _∷_}
 use mathlib.Core.Logic.{_≢_}
 use mathlib.Core.Path.{_≡_, refl, sym, _∙_}
-use Prim.Native.Nat.{ℕ, _+_, _≤_, _<_}
+use Prim.Native.Nat.{ℕ, _≤_, _<_}
 use native.Mathlib.Omega.{arith}
 use lib.Dec.{eqb, leb, ltb}
 use lib.ListN.{length}
-use Rattle.rules.proofs.CallRefusals.{no-vertex-room, load-judged, position-refusal-first}
+use Rattle.rules.proofs.CallRefusals.{load-judged, position-refusal-first}
 use Rattle.rules.proofs.Decide.{Decides, stable}
 use Rattle.rules.proofs.FirstThatHolds.{refuses, carries, Judged, carried, refused, none-hold}
 use Rattle.rules.proofs.SoundTest.{tables-agree-is, sound-is}
@@ -19,7 +19,7 @@ use Rattle.rules.specs.Calls.{positionRefusal, positionRead, positionCall}
 use Rattle.rules.specs.Ring.{ring}
 use Rattle.rules.specs.Sound.{Sound, isSound}
 use Rattle.rules.specs.Split.{chainEnd, atFirst, refine}
-use Rattle.rules.specs.Tables.{Mesh, TablesAgree, tablesAgree, vertexSlots, generation, odd}
+use Rattle.rules.specs.Tables.{Mesh, TablesAgree, tablesAgree, generation, odd}
 
 -- Where one of the first two tests refuses, the later ones do not matter; where none does, they decide.
 two-kept : (a b : Bool) (rest : List Test) (r : ℕ) → r ≡ firstOf (1 if a ∷ 7 if b ∷ []) → r ≢ 0
@@ -167,12 +167,6 @@ module _ (v : ℕ) (m : Mesh) where
 
     pub position-none : leb (m .topology .vertices) v ≡ false → 0 ≡ positionRefusal v m
     position-none a = sym (position-passed ∙ rw a refl)
-
--- ---- room
-
-pub no-room : (s : ℕ) (m : Mesh) → vertexSlots m < m .topology .vertices + s
-    → leb (m .topology .vertices + s) (vertexSlots m) ≡ roomFor s m
-no-room s m v = lt-leb _ _ v ∙ no-vertex-room s m v
 
 -- ---- outcomes
 

@@ -6,7 +6,7 @@ ghost use mathlib.Core.List.{List, [], _∷_};
 ghost use mathlib.Core.Bool.{not};
 ghost use Prim.Native.Nat.{ℕ, _+_, _*_, max};
 ghost use lib.ListN.{length};
-ghost use Rattle.rules.specs.Calls.{firstOf, _if_, roomFor, loadCall, refineRefusal, refineCall, wholeStepCall, ringCall, positionCall, positionRefusal};
+ghost use Rattle.rules.specs.Calls.{firstOf, _if_, loadCall, refineRefusal, refineCall, wholeStepCall, ringCall, positionCall, positionRefusal};
 ghost use Rattle.rules.specs.Sound.{isSound};
 ghost use Rattle.rules.specs.Tables.{tablesAgree};
 ghost use Rattle.tables.specs.Lent.{meshNow};
@@ -91,16 +91,6 @@ pub fn load(
     }
 }
 
-// Whether there are slots for so many face splits.
-fn has_room(positions: &[i32], generations: &[u8], counts: Counts, splits: u32) -> bool
-    ensures { λ r. ⌜ ((corners links : List ℕ) →
-        r ≡ roomFor splits (meshNow counts (now (positions .entry)) corners links (now (generations .entry)))) ⌝ }
-{
-    let vertices = counts.vertices as u64 + splits as u64;
-    let triangles = counts.triangles as u64 + 2 * (splits as u64);
-    vertices <= positions.len() as u64 / 3 && triangles <= generations.len() as u64
-}
-
 // The refusal of a refine, or 0.
 fn refine_refusal(
     positions: &[i32],
@@ -126,7 +116,7 @@ fn refine_refusal(
     if tables::generation_at(generations, chain.end) % 2 == 1 {
         return 10;
     }
-    if !has_room(positions, generations, counts, chain.splits()) {
+    if !tables::has_room(positions, generations, counts, chain.splits()) {
         return 11;
     }
     0

@@ -1,13 +1,12 @@
 -- For each call: its refusal is the first of its conditions that holds, and what a call that is carried out has found.
 use mathlib.Core.Path.{_≡_, refl, sym, ap, _∙_}
 use mathlib.Core.Logic.{_≢_}
-use mathlib.Core.Bool.{false, not}
+use mathlib.Core.Bool.{not}
 use mathlib.Core.List.{List, []}
 use Prim.Native.Nat.{ℕ, _+_, _*_, _≤_, _<_, _%_}
 use native.Mathlib.Omega.{arith}
 use lib.ListN.{length}
 use lib.Dec.{eqb, leb, ltb}
-use borrow.Author.Tests.{le-leb, lt-leb}
 use Rattle.rules.proofs.CageTests.{sizes-fit-is, corners-fit-is, coordinates-fit-is, sides-differ-is}
 use Rattle.rules.proofs.ChainEnd.{ends-at-boundary-is}
 use Rattle.rules.proofs.Decide.{Decides, is-eq, is-lt, is-le, is-not, is-iff, stable, is-and, even-is, is-all}
@@ -40,14 +39,6 @@ room-is s m =
     is-iff (λ x. record { vertices = x .0; triangles = x .1 }) (λ R. (R .vertices, R .triangles))
     (is-and (is-le (m .topology .vertices + s) (vertexSlots m))
     (is-le (m .topology .triangles + 2 * s) (triangleSlots m)))
-
--- The same test in two parts.
-pub triangle-room : (s : ℕ) (m : Mesh) → m .topology .vertices + s ≤ vertexSlots m
-    → leb (m .topology .triangles + 2 * s) (triangleSlots m) ≡ roomFor s m
-triangle-room s m l = rw (le-leb (m .topology .vertices + s) (vertexSlots m) l)
-
-pub no-vertex-room : (s : ℕ) (m : Mesh) → vertexSlots m < m .topology .vertices + s → false ≡ roomFor s m
-no-vertex-room s m l = rw (lt-leb (m .topology .vertices + s) (vertexSlots m) l)
 
 -- All triangles have the generation of the first, if there is one.
 pub closed-even-is : (m : Topology) → 1 ≤ m .triangles → Decides (closedEven m) (ClosedEven m)

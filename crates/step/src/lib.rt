@@ -10,7 +10,7 @@ ghost use lib.Dec.{eqb, ltb};
 ghost use lib.ListN.{length, getD};
 ghost use Rattle.rules.proofs.Carried.{StepFound};
 ghost use Rattle.rules.specs.Below.{all, any};
-ghost use Rattle.rules.specs.Calls.{closedEven, roomFor, wholeStepRefusal, wholeStepCall};
+ghost use Rattle.rules.specs.Calls.{closedEven, wholeStepRefusal, wholeStepCall};
 ghost use Rattle.rules.specs.Ring.{ring};
 ghost use Rattle.rules.specs.Sound.{Sound};
 ghost use Rattle.rules.specs.Split.{atFirst};
@@ -206,19 +206,6 @@ fn place(positions: &mut [i32], vertices: u32, moved: &[i32])
     }
 }
 
-// Whether there are slots for a face split of each triangle.
-fn has_room(positions: &[i32], generations: &[u8], counts: Counts) -> bool
-    ensures { λ r. ⌜ ((c l : List ℕ) →
-        r ≡ roomFor (counts .triangles) (meshNow counts (now (positions .entry)) c l (now (generations .entry)))) ⌝ }
-{
-    let v = counts.vertices as usize;
-    let f = counts.triangles as usize;
-    if positions.len() / 3 < v + f {
-        return false;
-    }
-    f + 2 * f <= generations.len()
-}
-
 // The number that the step is refused with; 0 where it is not, and then `moved` has where each vertex moves.
 fn refusal(
     positions: &[i32],
@@ -244,7 +231,7 @@ fn refusal(
     if !moves(positions, corners, links, counts, moved) {
         return 13;
     }
-    if !has_room(positions, generations, counts) {
+    if !tables::has_room(positions, generations, counts, f) {
         return 11;
     }
     0

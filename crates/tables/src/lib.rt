@@ -5,9 +5,10 @@ ghost use mathlib.Core.Path.{_≡_};
 ghost use Prim.Native.Nat.{ℕ, _+_, _*_, _<_};
 ghost use lib.ListN.{length, getD};
 ghost use Rattle.points.specs.Axes.{eachAxis};
+ghost use Rattle.rules.specs.Calls.{roomFor};
 ghost use Rattle.rules.specs.Tables.{Topology, meshOf, coordinate, putThree, relink};
 ghost use Rattle.tables.specs.declared.Counts.{Counts};
-ghost use Rattle.tables.specs.Lent.{topologyNow, TrianglesAgree, VerticesAgree};
+ghost use Rattle.tables.specs.Lent.{meshNow, topologyNow, TrianglesAgree, VerticesAgree};
 ghost use Rattle.tables.specs.Lent.{triangleAt, entries, put, putPoint};
 
 pub mod sides;
@@ -133,4 +134,14 @@ pub fn store_point(positions: &mut [i32], v: u32, p: Point)
     positions[i] = x;
     positions[i + 1] = y;
     positions[i + 2] = z;
+}
+
+// Whether there are slots for so many face splits.
+pub fn has_room(positions: &[i32], generations: &[u8], counts: Counts, splits: u32) -> bool
+    ensures { λ r. ⌜ ((corners links : List ℕ) →
+        r ≡ roomFor splits (meshNow counts (now (positions .entry)) corners links (now (generations .entry)))) ⌝ }
+{
+    let vertices = counts.vertices as u64 + splits as u64;
+    let triangles = counts.triangles as u64 + 2 * (splits as u64);
+    vertices <= positions.len() as u64 / 3 && triangles <= generations.len() as u64
 }
