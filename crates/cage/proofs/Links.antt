@@ -58,7 +58,8 @@ module _ {c : Cage} {v p : ℕ} (h : ℕ) (C : Cursor c v p) (e : p ≡ h + 1) w
         here = λ j i o a. at b j (λ n. later j i o a n (decLt j h)) (ℕ-discrete j h);
       }
     where
-      at : previous h < length links → (j : ℕ) → (j ≢ h → Matches c (previous j) (getD links (previous j) 0)) → Dec (j ≡ h)
+      at : previous h < length links → (j : ℕ) → (j ≢ h → Matches c (previous j) (getD links (previous j) 0))
+          → Dec (j ≡ h)
           → Matches c (previous j) (getD (set links (previous h) r) (previous j) 0)
       at b j old (yes x) = rw (x, getD-set-same links (previous h) r 0 b) M
       at b j old (no x) = rw (getD-set-other links (previous h) (previous j) r 0 (apart j h x)) (old x)

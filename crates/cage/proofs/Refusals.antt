@@ -6,15 +6,15 @@ use mathlib.Core.List.{List, []}
 use Prim.Native.Nat.{ℕ, _+_, _*_, _≤_, _<_}
 use native.Mathlib.Omega.{arith}
 use lib.ListN.{length, getD}
-use Rattle.rules.proofs.Alike.{SameCorners, SameSides, all-same, corners-fit-same, sides-differ-same, partner-same, one-fan-same}
+use Rattle.rules.proofs.Alike.{SameCorners, SameSides, all-same, corners-fit-same, sides-differ-same, partner-same}
+use Rattle.rules.proofs.Alike.{one-fan-same}
 use Rattle.rules.proofs.CageTests.{sizes-fit-is, corners-fit-is, sides-differ-is}
 use Rattle.rules.proofs.Decide.{Decides, is-true, is-false, is-same, when-true}
 use Rattle.rules.proofs.Fill.{length-fill, getD-fill}
 use Rattle.rules.proofs.Load.{matches-opposite, opposite-back, partner-matches, loaded-loads}
+use Rattle.rules.proofs.LoadTests.{load-by-tests}
 use Rattle.rules.specs.Promises.{Matches, only, alone}
-use Rattle.rules.proofs.LoadTests.{refusal-3, refusal-4, refusal-5, refusal-6, refusal-none}
-use Rattle.rules.proofs.Manifold.{Joined}
-use Rattle.rules.proofs.SplitKeeps.{pair}
+use Rattle.rules.proofs.Manifold.{Joined, pair}
 use Rattle.rules.proofs.SoundTest.{tables-agree-is}
 use Rattle.rules.proofs.Turning.{Glued}
 use Rattle.rules.specs.Below.{all, fill}
@@ -22,7 +22,7 @@ use Rattle.rules.specs.Cage.{Cage, cageOf, partner, loaded, sizesFit, cornersFi
 use Rattle.rules.specs.Conditions.{SizesFit, SidesDiffer}
 use Rattle.rules.specs.Numbers.{numberAt, signed, inRange}
 use Rattle.rules.specs.Sound.{hasOneFan}
-use Rattle.rules.specs.Tables.{Mesh, TablesAgree, tablesAgree, topologyOf, link}
+use Rattle.rules.specs.Tables.{Mesh, TablesAgree, tablesAgree, topologyOf}
 use Rattle.soundness.specs.Walks.{CornersInUse, TellsFans}
 use Rattle.cage.specs.Answers.{Refuses}
 use Rattle.cage.specs.Decoded.{decoded, Readable, Sized, Holds}
@@ -42,7 +42,8 @@ module _ (v f : ℕ) (origins partners : List ℕ) (M : Matched (decoded v f ori
   joined : (h : ℕ) → h < 3 * f → Joined (topologyOf v f origins partners []) h
   joined h l = go (getD partners h 0) refl (M .match h l)
     where
-      go : (k : ℕ) → getD partners h 0 ≡ k → Matches (decoded v f origins) h k → Joined (topologyOf v f origins partners []) h
+      go : (k : ℕ) → getD partners h 0 ≡ k → Matches (decoded v f origins) h k
+          → Joined (topologyOf v f origins partners []) h
       go k e (alone n) = inl e
       go k e (only O u) =
           inr (pair (topologyOf v f origins partners []) h k e
@@ -75,7 +76,8 @@ pub record Fits (bytes : List ℕ) (v f : ℕ) (origins : List ℕ) : Type 0 whe
   pub corners : cornersFit (decoded v f origins) ≡ true
   pub coordinates : all (3 * v) (coordinateFits bytes) ≡ true
 
-pub decode-read : {bytes : List ℕ} {v f : ℕ} (before : List ℕ) {origins : List ℕ} → Sized bytes v f → 3 * f ≤ length before
+pub decode-read : {bytes : List ℕ} {v f : ℕ} (before : List ℕ) {origins : List ℕ} → Sized bytes v f
+    → 3 * f ≤ length before
     → origins ≡ fill (3 * f) (λ i. numberAt bytes (8 + 12 * v + 4 * i)) before → Read bytes v f origins
 unfolding cageOf
 decode-read {bytes} {v} {f} before Z room e =
@@ -100,7 +102,8 @@ sizes {bytes} {m} S = is-same (sizes-fit-is bytes m) (is-true S)
 
 module _ {bytes : List ℕ} {v f : ℕ} {origins : List ℕ} (R : Read bytes v f origins) where
   pub refuses-3 : cornersFit (decoded v f origins) ≡ false → Refuses bytes 3
-  refuses-3 k m A S = refusal-3 bytes m (agrees A) (sizes S) (sym (corners-fit-same (R .same)) ∙ k)
+  refuses-3 k m A S =
+      load-by-tests bytes m (agrees A) (sizes S) (sym (corners-fit-same (R .same)) ∙ k) refl refl refl
 
   in-range : coordinatesFit (cageOf bytes) ≡ all (3 * v) (coordinateFits bytes)
   unfolding coordinatesFit cageOf
@@ -108,7 +111,7 @@ module _ {bytes : List ℕ} {v f : ℕ} {origins : List ℕ} (R : Read bytes v f
 
   pub refuses-4 : cornersFit (decoded v f origins) ≡ true → all (3 * v) (coordinateFits bytes) ≡ false → Refuses bytes 4
   refuses-4 k r m A S =
-      refusal-4 bytes m (agrees A) (sizes S) (sym (corners-fit-same (R .same)) ∙ k) (in-range ∙ r)
+      load-by-tests bytes m (agrees A) (sizes S) (sym (corners-fit-same (R .same)) ∙ k) (in-range ∙ r) refl refl
 
 module _ {bytes : List ℕ} {v f : ℕ} {origins : List ℕ} (F : Fits bytes v f origins) where
   pub readable : Readable v f origins
@@ -129,7 +132,8 @@ module _ {bytes : List ℕ} {v f : ℕ} {origins : List ℕ} (F : Fits bytes v f
   differs d = sym (sides-differ-same (F .read .same)) ∙ is-same (sides-differ-is (decoded v f origins)) d
 
   pub refuses-5 : ¬ SidesDiffer (decoded v f origins) → Refuses bytes 5
-  refuses-5 n m A S = refusal-5 bytes m (agrees A) (sizes S) corners coordinates (differs (is-false n))
+  refuses-5 n m A S =
+      load-by-tests bytes m (agrees A) (sizes S) corners coordinates (differs (is-false n)) refl
 
   module _ {partners : List ℕ} (M : Matched (decoded v f origins) partners) where
     pub in-use : CornersInUse v f origins partners
@@ -164,16 +168,21 @@ module _ {bytes : List ℕ} {v f : ℕ} {origins : List ℕ} (F : Fits bytes v f
         let E : SameSides (topologyOf v f origins partners []) (loaded c m .topology) =
         record {
           triangles = sym (Z .triangles) ∙ sym (L .triangles);
-          corner = λ h l. let i : h < 3 * c .triangles = omega (arith, Z .triangles) in holds .origin h i ∙ sym (L .corners h i);
-          link = λ h l. let i : h < 3 * c .triangles = omega (arith, Z .triangles) in holds .partner h i ∙ sym (L .links h i);
+          corner = λ h l.
+              let i : h < 3 * c .triangles = omega (arith, Z .triangles) in
+              holds .origin h i ∙ sym (L .corners h i);
+          link = λ h l.
+              let i : h < 3 * c .triangles = omega (arith, Z .triangles) in
+              holds .partner h i ∙ sym (L .links h i);
         } in
         ap (λ (n : ℕ). all n (hasOneFan (loaded c m .topology))) (Z .vertices)
-        ∙ sym (t [] (matched-glued v f origins partners M (F .corners) (Z .fewTriangles)) ∙ all-same v _ _ (λ x l. one-fan-same E x))
+        ∙ sym (t [] (matched-glued v f origins partners M (F .corners) (Z .fewTriangles))
+        ∙ all-same v _ _ (λ x l. one-fan-same E x))
 
     pub refuses-6 : TellsFans v f origins partners false → Refuses bytes 6
     refuses-6 t m A S =
-        refusal-6 bytes m (agrees A) (sizes S) corners coordinates (differs (is-true (M .differ))) (fans t m A S)
+        load-by-tests bytes m (agrees A) (sizes S) corners coordinates (differs (is-true (M .differ))) (fans t m A S)
 
     pub refuses-none : TellsFans v f origins partners true → Refuses bytes 0
     refuses-none t m A S =
-        refusal-none bytes m (agrees A) (sizes S) corners coordinates (differs (is-true (M .differ))) (fans t m A S)
+        load-by-tests bytes m (agrees A) (sizes S) corners coordinates (differs (is-true (M .differ))) (fans t m A S)

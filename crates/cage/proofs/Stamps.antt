@@ -47,7 +47,9 @@ pub stamping-none : {c : Cage} {v p : ℕ} {slots : List ℕ} → Last c (3 * c 
 stamping-none L S = record {
   stamps = record {
     room = S .room;
-    each = λ w k b e. let E = S .each w k b e in record { inUse = E .inUse; onto = E .onto; from = omega (arith, E .from) };
+    each = λ w k b e.
+        let E = S .each w k b e in
+        record { inUse = E .inUse; onto = E .onto; from = omega (arith, E .from) };
   };
   late = λ w k b e f. absurd (omega (arith, S .each w k b e .from));
   seen = λ h a l e. absurd (L .none h a l e);
@@ -55,7 +57,8 @@ stamping-none L S = record {
 
 -- What holds of a new stamp and of the old ones holds of each.
 each-stamp : (P : ℕ → ℕ → Type 0) (slots : List ℕ) (n w p h : ℕ) → w < length slots → p ≡ h + 1 → P w h
-    → ((x k : ℕ) → x < n → getD slots x 0 ≡ k + 1 → P x k) → (x k : ℕ) → x < n → getD (set slots w p) x 0 ≡ k + 1 → P x k
+    → ((x k : ℕ) → x < n → getD slots x 0 ≡ k + 1 → P x k) → (x k : ℕ) → x < n → getD (set slots w p) x 0 ≡ k + 1
+    → P x k
 each-stamp P slots n w p h l e new old x k b f = go (ℕ-discrete x w)
   where
     go : Dec (x ≡ w) → P x k

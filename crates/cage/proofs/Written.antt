@@ -6,19 +6,21 @@ use lib.IntN.{ℤ}
 use lib.ListN.{getD}
 use Rattle.rules.proofs.Fill.{fill-same}
 use Rattle.rules.specs.Below.{fill}
-use Rattle.rules.specs.Cage.{cageOf, partner, loaded}
+use Rattle.rules.specs.Cage.{cageOf, loaded}
 use Rattle.rules.specs.Numbers.{numberAt, signed}
 use Rattle.rules.specs.Tables.{topologyOf, meshOf}
 use Rattle.cage.specs.Decoded.{Holds}
 
-pub written : (v f n k : ℕ) (bytes : List ℕ) {origins partners : List ℕ} (corners links generations : List ℕ) (positions : List ℤ)
+pub written : (v f n k : ℕ) (bytes : List ℕ) {origins partners : List ℕ} (corners links generations : List ℕ)
+    (positions : List ℤ)
     {corners′ links′ generations′ : List ℕ} {positions′ : List ℤ}
     → Holds (cageOf bytes) origins partners → (cageOf bytes .vertices ≡ v) × (cageOf bytes .triangles ≡ f)
     → positions′ ≡ fill (3 * v) (λ i. signed (numberAt bytes (8 + 4 * i))) positions
     → corners′ ≡ fill (3 * f) (λ i. getD origins i 0) corners
     → links′ ≡ fill (3 * f) (λ i. getD partners i 0) links
     → generations′ ≡ fill f (λ i. 0) generations
-    → meshOf (topologyOf v f corners′ links′ generations′) positions′ ≡ loaded (cageOf bytes) (meshOf (topologyOf n k corners links generations) positions)
+    → meshOf (topologyOf v f corners′ links′ generations′) positions′
+    ≡ loaded (cageOf bytes) (meshOf (topologyOf n k corners links generations) positions)
 unfolding cageOf loaded
 written v f n k bytes corners links generations positions H s e₀ e₁ e₂ e₃ =
     rw (e₀, e₁, e₂, e₃, ← s .0, ← s .1, fill-same _ _ _ corners (H .origin), fill-same _ _ _ links (H .partner), loaded)

@@ -60,7 +60,8 @@ pub data Stamp (corner : ℕ → ℕ) (slots : List ℕ) (v w : ℕ) : ℕ → T
 pub record Linking (c : Cage) (v p : ℕ) (links : List ℕ) : Type 0 where
   pub room : 3 * c .triangles ≤ length links
   pub before : (h : ℕ) → h < 3 * c .triangles → c .corner h < v → Matches c (previous h) (getD links (previous h) 0)
-  pub here : (h : ℕ) → h < 3 * c .triangles → c .corner h ≡ v → p ≤ h → Matches c (previous h) (getD links (previous h) 0)
+  pub here : (h : ℕ) → h < 3 * c .triangles → c .corner h ≡ v → p ≤ h
+      → Matches c (previous h) (getD links (previous h) 0)
 
 -- Either no directed side occurs twice and every side is linked to its match, or one does.
 pub record Matched (c : Cage) (links : List ℕ) : Type 0 where

@@ -11,9 +11,13 @@ ghost use Rattle.cage.specs.Decoded.{decoded, cornerFits};
 use crate::sides::next;
 use crate::sides::wide;
 
-// Whether the cage is as long as its sizes say, and these are at least 1 and within the slots. In 64 bits nothing wraps.
+// Whether the cage is as long as its sizes say, and these are at least 1 and within the slots.
+// In 64 bits nothing wraps.
 pub fn sizes_fit(cage: &[u8], positions: &[i32], generations: &[u8]) -> bool
-    ensures { λ r. ⌜ ((v f : ℕ) (c l : List ℕ) → r ≡ sizesFit (now (cage .entry)) (meshOf (topologyOf v f c l (now (generations .entry))) (now (positions .entry)))) ⌝ }
+    ensures { λ r. ⌜
+        ((v f : ℕ) (c l : List ℕ)
+        → r ≡ sizesFit (now (cage .entry))
+        (meshOf (topologyOf v f c l (now (generations .entry))) (now (positions .entry)))) ⌝ }
 {
     if cage.len() < 8 {
         return false;
@@ -42,7 +46,8 @@ pub fn sizes_fit(cage: &[u8], positions: &[i32], generations: &[u8]) -> bool
 pub fn decode(cage: &[u8], from: usize, count: usize, corners: &mut [u32])
     requires { ⌜ from + 4 * count ≤ length (now cage) ⌝ }
     requires { ⌜ count ≤ length (now corners) ⌝ }
-    ensures { λ _. ⌜ now (corners .exit) ≡ fill count (λ i. numberAt (now (cage .entry)) (from + 4 * i)) (now (corners .entry)) ⌝ }
+    ensures { λ _. ⌜
+        now (corners .exit) ≡ fill count (λ i. numberAt (now (cage .entry)) (from + 4 * i)) (now (corners .entry)) ⌝ }
 {
     let mut i: usize = 0;
     while i < count {

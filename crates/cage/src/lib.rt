@@ -68,11 +68,22 @@ fn finish(
     origins: &[u32],
     partners: &[u32],
 ) -> Loaded
-    requires { ⌜ TablesAgree (meshOf (topologyOf vertices triangles (now corners) (now links) (now generations)) (now positions)) ⌝ }
-    requires { ⌜ SizesFit (now cage) (meshOf (topologyOf vertices triangles (now corners) (now links) (now generations)) (now positions)) ⌝ }
+    requires { ⌜
+        TablesAgree
+        (meshOf (topologyOf vertices triangles (now corners) (now links) (now generations)) (now positions)) ⌝ }
+    requires { ⌜
+        SizesFit (now cage)
+        (meshOf (topologyOf vertices triangles (now corners) (now links) (now generations)) (now positions)) ⌝ }
     requires { ⌜ Refuses (now cage) refusal ⌝ }
     requires { ⌜ (refusal ≡ 0 → Holds (cageOf (now cage)) (now origins) (now partners)) ⌝ }
-    ensures { λ r. ⌜ Answers (now (cage .entry)) (meshOf (topologyOf vertices triangles (now (corners .entry)) (now (links .entry)) (now (generations .entry))) (now (positions .entry))) (r .refusal) (meshOf (topologyOf (r .vertices) (r .triangles) (now (corners .exit)) (now (links .exit)) (now (generations .exit))) (now (positions .exit))) ⌝ }
+    ensures { λ r. ⌜
+        Answers (now (cage .entry))
+        (meshOf (topologyOf vertices triangles (now (corners .entry)) (now (links .entry)) (now (generations .entry)))
+        (now (positions .entry)))
+        (r .refusal)
+        (meshOf
+        (topologyOf (r .vertices) (r .triangles) (now (corners .exit)) (now (links .exit)) (now (generations .exit)))
+        (now (positions .exit))) ⌝ }
 {
     if refusal != 0 {
         return Loaded {
@@ -111,10 +122,21 @@ fn load_within_256(
     triangles: u32,
     cage: &[u8],
 ) -> Loaded
-    requires { ⌜ TablesAgree (meshOf (topologyOf vertices triangles (now corners) (now links) (now generations)) (now positions)) ⌝ }
-    requires { ⌜ SizesFit (now cage) (meshOf (topologyOf vertices triangles (now corners) (now links) (now generations)) (now positions)) ⌝ }
+    requires { ⌜
+        TablesAgree
+        (meshOf (topologyOf vertices triangles (now corners) (now links) (now generations)) (now positions)) ⌝ }
+    requires { ⌜
+        SizesFit (now cage)
+        (meshOf (topologyOf vertices triangles (now corners) (now links) (now generations)) (now positions)) ⌝ }
     requires { ⌜ length (now cage) ≤ 3080 ⌝ }
-    ensures { λ r. ⌜ Answers (now (cage .entry)) (meshOf (topologyOf vertices triangles (now (corners .entry)) (now (links .entry)) (now (generations .entry))) (now (positions .entry))) (r .refusal) (meshOf (topologyOf (r .vertices) (r .triangles) (now (corners .exit)) (now (links .exit)) (now (generations .exit))) (now (positions .exit))) ⌝ }
+    ensures { λ r. ⌜
+        Answers (now (cage .entry))
+        (meshOf (topologyOf vertices triangles (now (corners .entry)) (now (links .entry)) (now (generations .entry)))
+        (now (positions .entry)))
+        (r .refusal)
+        (meshOf
+        (topologyOf (r .vertices) (r .triangles) (now (corners .exit)) (now (links .exit)) (now (generations .exit)))
+        (now (positions .exit))) ⌝ }
 {
     let mut origins = [0u32; 768];
     let mut partners = [0u32; 768];
@@ -157,10 +179,21 @@ fn load_within_3072(
     triangles: u32,
     cage: &[u8],
 ) -> Loaded
-    requires { ⌜ TablesAgree (meshOf (topologyOf vertices triangles (now corners) (now links) (now generations)) (now positions)) ⌝ }
-    requires { ⌜ SizesFit (now cage) (meshOf (topologyOf vertices triangles (now corners) (now links) (now generations)) (now positions)) ⌝ }
+    requires { ⌜
+        TablesAgree
+        (meshOf (topologyOf vertices triangles (now corners) (now links) (now generations)) (now positions)) ⌝ }
+    requires { ⌜
+        SizesFit (now cage)
+        (meshOf (topologyOf vertices triangles (now corners) (now links) (now generations)) (now positions)) ⌝ }
     requires { ⌜ length (now cage) ≤ 36872 ⌝ }
-    ensures { λ r. ⌜ Answers (now (cage .entry)) (meshOf (topologyOf vertices triangles (now (corners .entry)) (now (links .entry)) (now (generations .entry))) (now (positions .entry))) (r .refusal) (meshOf (topologyOf (r .vertices) (r .triangles) (now (corners .exit)) (now (links .exit)) (now (generations .exit))) (now (positions .exit))) ⌝ }
+    ensures { λ r. ⌜
+        Answers (now (cage .entry))
+        (meshOf (topologyOf vertices triangles (now (corners .entry)) (now (links .entry)) (now (generations .entry)))
+        (now (positions .entry)))
+        (r .refusal)
+        (meshOf
+        (topologyOf (r .vertices) (r .triangles) (now (corners .exit)) (now (links .exit)) (now (generations .exit)))
+        (now (positions .exit))) ⌝ }
 {
     let mut origins = [0u32; 9216];
     let mut partners = [0u32; 9216];
@@ -203,9 +236,20 @@ fn load_within_98304(
     triangles: u32,
     cage: &[u8],
 ) -> Loaded
-    requires { ⌜ TablesAgree (meshOf (topologyOf vertices triangles (now corners) (now links) (now generations)) (now positions)) ⌝ }
-    requires { ⌜ SizesFit (now cage) (meshOf (topologyOf vertices triangles (now corners) (now links) (now generations)) (now positions)) ⌝ }
-    ensures { λ r. ⌜ Answers (now (cage .entry)) (meshOf (topologyOf vertices triangles (now (corners .entry)) (now (links .entry)) (now (generations .entry))) (now (positions .entry))) (r .refusal) (meshOf (topologyOf (r .vertices) (r .triangles) (now (corners .exit)) (now (links .exit)) (now (generations .exit))) (now (positions .exit))) ⌝ }
+    requires { ⌜
+        TablesAgree
+        (meshOf (topologyOf vertices triangles (now corners) (now links) (now generations)) (now positions)) ⌝ }
+    requires { ⌜
+        SizesFit (now cage)
+        (meshOf (topologyOf vertices triangles (now corners) (now links) (now generations)) (now positions)) ⌝ }
+    ensures { λ r. ⌜
+        Answers (now (cage .entry))
+        (meshOf (topologyOf vertices triangles (now (corners .entry)) (now (links .entry)) (now (generations .entry)))
+        (now (positions .entry)))
+        (r .refusal)
+        (meshOf
+        (topologyOf (r .vertices) (r .triangles) (now (corners .exit)) (now (links .exit)) (now (generations .exit)))
+        (now (positions .exit))) ⌝ }
 {
     let mut origins = [0u32; 196608];
     let mut partners = [0u32; 196608];
@@ -248,8 +292,17 @@ pub fn load(
     triangles: u32,
     cage: &[u8],
 ) -> Loaded
-    ensures { λ r. ⌜ r .refusal ≡ loadCall (now (cage .entry)) (meshOf (topologyOf vertices triangles (now (corners .entry)) (now (links .entry)) (now (generations .entry))) (now (positions .entry))) .refusal ⌝ }
-    ensures { λ r. ⌜ meshOf (topologyOf (r .vertices) (r .triangles) (now (corners .exit)) (now (links .exit)) (now (generations .exit))) (now (positions .exit)) ≡ loadCall (now (cage .entry)) (meshOf (topologyOf vertices triangles (now (corners .entry)) (now (links .entry)) (now (generations .entry))) (now (positions .entry))) .mesh ⌝ }
+    ensures { λ r. ⌜
+        r .refusal ≡ loadCall (now (cage .entry))
+        (meshOf (topologyOf vertices triangles (now (corners .entry)) (now (links .entry)) (now (generations .entry)))
+        (now (positions .entry))) .refusal ⌝ }
+    ensures { λ r. ⌜
+        meshOf
+        (topologyOf (r .vertices) (r .triangles) (now (corners .exit)) (now (links .exit)) (now (generations .exit)))
+        (now (positions .exit))
+        ≡ loadCall (now (cage .entry))
+        (meshOf (topologyOf vertices triangles (now (corners .entry)) (now (links .entry)) (now (generations .entry)))
+        (now (positions .entry))) .mesh ⌝ }
 {
     if !soundness::tables_agree(positions, corners, links, generations) {
         return Loaded {

@@ -11,12 +11,15 @@ use crate::sides::wide;
 // What a side without a partner links to.
 const BOUNDARY: u32 = 4294967295;
 
-// Threads the sides out of each vertex, from the last to the first: all numbers are one more than a side, and 0 ends a thread.
+// Threads the sides out of each vertex, from the last to the first.
+// All numbers are one more than a side, and 0 ends a thread.
 fn thread(corners: &[u32], triangles: usize, vertices: usize, heads: &mut [u32], nexts: &mut [u32])
     requires { ⌜ Readable vertices triangles (now corners) ⌝ }
     requires { ⌜ Zeroed vertices (now heads) ⌝ }
     requires { ⌜ 3 * triangles ≤ length (now nexts) ⌝ }
-    ensures { λ _. ⌜ Threads (decoded vertices triangles (now (corners .entry))) (3 * triangles) (now (heads .exit)) (now (nexts .exit)) ⌝ }
+    ensures { λ _. ⌜
+        Threads (decoded vertices triangles (now (corners .entry))) (3 * triangles) (now (heads .exit))
+        (now (nexts .exit)) ⌝ }
 {
     let mut h: usize = 0;
     while h < 3 * triangles {

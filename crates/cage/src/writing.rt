@@ -12,7 +12,9 @@ ghost use Rattle.cage.specs.Decoded.{Holds};
 fn place(cage: &[u8], count: usize, positions: &mut [i32])
     requires { ⌜ 8 + 4 * count ≤ length (now cage) ⌝ }
     requires { ⌜ count ≤ length (now positions) ⌝ }
-    ensures { λ _. ⌜ now (positions .exit) ≡ fill count (λ i. signed (numberAt (now (cage .entry)) (8 + 4 * i))) (now (positions .entry)) ⌝ }
+    ensures { λ _. ⌜
+        now (positions .exit)
+        ≡ fill count (λ i. signed (numberAt (now (cage .entry)) (8 + 4 * i))) (now (positions .entry)) ⌝ }
 {
     let mut i: usize = 0;
     while i < count {
@@ -61,8 +63,16 @@ pub fn write(
     requires { ⌜ (cageOf (now cage) .vertices ≡ vertices) × (cageOf (now cage) .triangles ≡ triangles) ⌝ }
     requires { ⌜ 8 + 12 * vertices ≤ length (now cage) ⌝ }
     requires { ⌜ Holds (cageOf (now cage)) (now origins) (now partners) ⌝ }
-    requires { ⌜ (3 * vertices ≤ length (now positions)) × (3 * triangles ≤ length (now corners)) × (3 * triangles ≤ length (now links)) × (triangles ≤ length (now generations)) ⌝ }
-    ensures { λ _. ⌜ ((v f : ℕ) → meshOf (topologyOf vertices triangles (now (corners .exit)) (now (links .exit)) (now (generations .exit))) (now (positions .exit)) ≡ loaded (cageOf (now (cage .entry))) (meshOf (topologyOf v f (now (corners .entry)) (now (links .entry)) (now (generations .entry))) (now (positions .entry)))) ⌝ }
+    requires { ⌜
+        (3 * vertices ≤ length (now positions)) × (3 * triangles ≤ length (now corners))
+        × (3 * triangles ≤ length (now links)) × (triangles ≤ length (now generations)) ⌝ }
+    ensures { λ _. ⌜
+        ((v f : ℕ)
+        → meshOf (topologyOf vertices triangles (now (corners .exit)) (now (links .exit)) (now (generations .exit)))
+        (now (positions .exit))
+        ≡ loaded (cageOf (now (cage .entry)))
+        (meshOf (topologyOf v f (now (corners .entry)) (now (links .entry)) (now (generations .entry)))
+        (now (positions .entry)))) ⌝ }
 {
     let coordinates = 3 * (vertices as usize);
     let sides = 3 * (triangles as usize);

@@ -3,20 +3,23 @@ use borrow.Author.Tests.{not-true, not-false, le-leb, lt-leb, lt-ltb, le-ltb}
 use mathlib.Core.Bool.{Bool, true, false, not}
 use mathlib.Core.List.{List, [], _∷_}
 use mathlib.Core.Logic.{_≢_}
-use mathlib.Core.Path.{_≡_, refl, sym, ap, _∙_}
-use Prim.Native.Nat.{ℕ, zero, suc, _+_, _*_, _≤_, _<_}
+use mathlib.Core.Path.{_≡_, refl, sym, _∙_}
+use Prim.Native.Nat.{ℕ, _≤_, _<_}
 use native.Mathlib.Omega.{arith}
 use lib.Dec.{eqb, leb, ltb}
 use lib.ListN.{length}
-use Rattle.rules.proofs.Decide.{Decides}
+use Rattle.rules.proofs.CallRefusals.{load-judged, position-refusal-first}
+use Rattle.rules.proofs.Decide.{Decides, stable}
+use Rattle.rules.proofs.FirstThatHolds.{refuses, carries, Judged, carried, refused, none-hold}
 use Rattle.rules.proofs.SoundTest.{tables-agree-is, sound-is}
 use Rattle.rules.specs.Below.{any}
-use Rattle.rules.specs.Calls.{Test, _if_, firstOf, Outcome, unless, outcomeOf, zeroPoint, splitsOf, roomFor, worked, loadRefusal, loadCall, refineRefusal, refineCall, closedEven, wholeStepRefusal, ringRefusal, ringRead, ringCall, positionRefusal, positionRead, positionCall}
-use Rattle.rules.specs.Cage.{cageOf, loaded}
+use Rattle.rules.specs.Calls.{Test, _if_, firstOf, Outcome, outcomeOf, zeroPoint, splitsOf, roomFor, worked, loadCall}
+use Rattle.rules.specs.Calls.{refineRefusal, refineCall, closedEven, wholeStepRefusal, ringRefusal, ringRead, ringCall}
+use Rattle.rules.specs.Calls.{positionRefusal, positionRead, positionCall}
 use Rattle.rules.specs.Ring.{ring}
 use Rattle.rules.specs.Sound.{Sound, isSound}
 use Rattle.rules.specs.Split.{chainEnd, atFirst, refine}
-use Rattle.rules.specs.Tables.{Mesh, TablesAgree, tablesAgree, vertexSlots, triangleSlots, generation, odd}
+use Rattle.rules.specs.Tables.{Mesh, TablesAgree, tablesAgree, generation, odd}
 
 -- Where one of the first two tests refuses, the later ones do not matter; where none does, they decide.
 two-kept : (a b : Bool) (rest : List Test) (r : ℕ) → r ≡ firstOf (1 if a ∷ 7 if b ∷ []) → r ≢ 0
@@ -73,28 +76,30 @@ module _ (t : ℕ) (m : Mesh) where
     unfolding refineRefusal rest
     passed = two-passed (not (tablesAgree m)) (not (isSound m)) rest r s z
 
-    pub refine-eight : leb (m .topology .triangles) t ≡ true → 8 ≡ refineRefusal t m
+    -- The refusal by the answers of the later tests. A test that was not made stands for itself.
+    by-tests : {a b d e : Bool} → leb (m .topology .triangles) t ≡ a → eqb (generation (m .topology) t) 20 ≡ b
+        → odd (generation (m .topology) (chainEnd (m .topology) t)) ≡ d → roomFor (splitsOf (m .topology) t) m ≡ e
+        → firstOf (8 if a ∷ 9 if b ∷ 10 if d ∷ 11 if not e ∷ []) ≡ refineRefusal t m
     unfolding rest
-    refine-eight a = sym (passed ∙ rw a refl)
+    by-tests a b d e = sym (passed ∙ rw (e, d, b, a))
+
+    pub refine-eight : leb (m .topology .triangles) t ≡ true → 8 ≡ refineRefusal t m
+    refine-eight a = by-tests a refl refl refl
 
     module _ (a : leb (m .topology .triangles) t ≡ false) where
       pub refine-nine : eqb (generation (m .topology) t) 20 ≡ true → 9 ≡ refineRefusal t m
-      unfolding rest
-      refine-nine b = sym (passed ∙ rw (a, b) refl)
+      refine-nine b = by-tests a b refl refl
 
       module _ (b : eqb (generation (m .topology) t) 20 ≡ false) where
         pub refine-ten : odd (generation (m .topology) (chainEnd (m .topology) t)) ≡ true → 10 ≡ refineRefusal t m
-        unfolding rest
-        refine-ten d = sym (passed ∙ rw (a, b, d) refl)
+        refine-ten d = by-tests a b d refl
 
         module _ (d : odd (generation (m .topology) (chainEnd (m .topology) t)) ≡ false) where
           pub refine-eleven : roomFor (splitsOf (m .topology) t) m ≡ false → 11 ≡ refineRefusal t m
-          unfolding rest
-          refine-eleven e = sym (passed ∙ rw (a, b, d, e) refl)
+          refine-eleven e = by-tests a b d e
 
           pub refine-none : roomFor (splitsOf (m .topology) t) m ≡ true → 0 ≡ refineRefusal t m
-          unfolding rest
-          refine-none e = sym (passed ∙ rw (a, b, d, e) refl)
+          refine-none e = by-tests a b d e
 
 -- ---- whole step
 
@@ -120,28 +125,30 @@ standing-sound m r e z = go (tablesAgree m) (isSound m) (sound-is m) (sym e ∙ 
 -- ---- ring
 
 module _ (v : ℕ) (buffer : List ℕ) (m : Mesh) where
-  pub ring-one : tablesAgree m ≡ false → 1 ≡ ringRefusal v buffer m
+  -- The refusal by the answers of its tests. A test that was not made stands for itself.
+  ring-by-tests : {a b d e : Bool} → tablesAgree m ≡ a → isSound m ≡ b → leb (m .topology .vertices) v ≡ d
+      → ltb (length buffer) (length (ring (m .topology) v)) ≡ e
+      → firstOf (1 if not a ∷ 7 if not b ∷ 8 if d ∷ 14 if e ∷ []) ≡ ringRefusal v buffer m
   unfolding ringRefusal
-  ring-one a = rw a refl
+  ring-by-tests a b d e = rw (ringRefusal, a, b, d, e)
+
+  pub ring-one : tablesAgree m ≡ false → 1 ≡ ringRefusal v buffer m
+  ring-one a = ring-by-tests a refl refl refl
 
   module _ (a : tablesAgree m ≡ true) where
     pub ring-seven : isSound m ≡ false → 7 ≡ ringRefusal v buffer m
-    unfolding ringRefusal
-    ring-seven b = rw (a, b) refl
+    ring-seven b = ring-by-tests a b refl refl
 
     module _ (b : isSound m ≡ true) where
       pub ring-eight : m .topology .vertices ≤ v → 8 ≡ ringRefusal v buffer m
-      unfolding ringRefusal
-      ring-eight l = let d = le-leb _ _ l in rw (a, b, d) refl
+      ring-eight l = ring-by-tests a b (le-leb _ _ l) refl
 
       module _ (l : v < m .topology .vertices) where
         pub ring-fourteen : length buffer < length (ring (m .topology) v) → 14 ≡ ringRefusal v buffer m
-        unfolding ringRefusal
-        ring-fourteen k = let d = lt-leb _ _ l in let e = lt-ltb _ _ k in rw (a, b, d, e) refl
+        ring-fourteen k = ring-by-tests a b (lt-leb _ _ l) (lt-ltb _ _ k)
 
         pub ring-none : length (ring (m .topology) v) ≤ length buffer → 0 ≡ ringRefusal v buffer m
-        unfolding ringRefusal
-        ring-none k = let d = lt-leb _ _ l in let e = le-ltb _ _ k in rw (a, b, d, e) refl
+        ring-none k = ring-by-tests a b (lt-leb _ _ l) (le-ltb _ _ k)
 
 -- ---- position
 
@@ -163,29 +170,15 @@ module _ (v : ℕ) (m : Mesh) where
 
 -- ---- outcomes
 
--- What a refusal leaves, and what no refusal does.
-module _ (m : Mesh) (buffer : List ℕ) (done : Outcome) (n : ℕ) (r : ℕ) (e : r ≡ n) where
-  pub refuses : r ≢ 0 → outcomeOf r 0 0 0 zeroPoint m buffer ≡ unless n m buffer done
-  refuses x = ap (λ k. outcomeOf k 0 0 0 zeroPoint m buffer) e ∙ go n (λ z. x (e ∙ z))
-    where
-      go : (k : ℕ) → k ≢ 0 → outcomeOf k 0 0 0 zeroPoint m buffer ≡ unless k m buffer done
-      go zero y = absurd (y refl)
-      go (suc k) y = refl
-
-  pub carries : r ≡ 0 → done ≡ unless n m buffer done
-  carries z = let q : n ≡ 0 = sym e ∙ z in rw q refl
-
-load-shape : (m l : Mesh) (n : ℕ)
-    → outcomeOf (unless n m [] (worked (atFirst l)) .refusal) 0 0 0 zeroPoint (unless n m [] (worked (atFirst l)) .mesh) []
-    ≡ unless n m [] (worked (atFirst l))
-load-shape m l zero = refl
-load-shape m l (suc n) = refl
-
 -- A load's outcome is its refusal and its mesh; the rest is zero.
 pub load-whole : (bytes : List ℕ) (m : Mesh)
     → outcomeOf (loadCall bytes m .refusal) 0 0 0 zeroPoint (loadCall bytes m .mesh) [] ≡ loadCall bytes m
-unfolding loadCall
-load-whole bytes m = load-shape m (loaded (cageOf bytes) m) (loadRefusal bytes m)
+load-whole bytes m = go (load-judged bytes m)
+  where
+    go : {n : ℕ} {l : Mesh} {o : Outcome} → Judged n m [] (worked (atFirst l)) o
+        → outcomeOf (o .refusal) 0 0 0 zeroPoint (o .mesh) [] ≡ o
+    go (carried z) = refl
+    go (refused z) = refl
 
 module _ (t : ℕ) (m : Mesh) (r : ℕ) (e : r ≡ refineRefusal t m) where
   pub refine-refused : r ≢ 0 → outcomeOf r 0 0 0 zeroPoint m [] ≡ refineCall t m
@@ -216,10 +209,4 @@ module _ (v : ℕ) (m : Mesh) (r : ℕ) (e : r ≡ positionRefusal v m) where
     position-carried = carries m [] (positionRead v m) (positionRefusal v m) r e z
 
     pub position-agrees : TablesAgree m
-    unfolding positionRefusal
-    position-agrees = go (tablesAgree m) (tables-agree-is m) (sym e ∙ z)
-      where
-        go : (b : Bool) → Decides b (TablesAgree m)
-            → firstOf (1 if not b ∷ 7 if not (isSound m) ∷ 8 if leb (m .topology .vertices) v ∷ []) ≡ 0 → TablesAgree m
-        go true d q = d .holds tt
-        go false d q = absurd (omega arith)
+    position-agrees = stable (tables-agree-is m) (none-hold (position-refusal-first v m) (sym e ∙ z) tt .0)

@@ -2,7 +2,7 @@
 use Prim.Native.Nat.{ℕ, _*_, _≤_}
 use mathlib.Core.List.{List, []}
 use mathlib.Core.Path.{_≡_}
-use lib.IntN.{ℤ, pos}
+use lib.IntN.{ℤ}
 use lib.ListN.{length}
 use Rattle.rules.specs.Calls.{Outcome, outcomeOf, zeroPoint, ringRefusal}
 use Rattle.rules.specs.Ring.{ring}
@@ -41,4 +41,5 @@ pub record FoundFor (v room : ℕ) (m : Mesh) (a : FoundRing) : Type 0 where
 -- Of a call that reads a position.
 abbrev pub positionOutcome : PositionRead → List ℤ → List ℕ → List ℕ → List ℕ → Outcome
 positionOutcome a positions corners links generations =
-    outcomeOf (a .refusal) 0 0 0 (a .point .x, a .point .y, a .point .z) (meshNow (a .counts) positions corners links generations) []
+    outcomeOf (a .refusal) 0 0 0 (a .point .x, a .point .y, a .point .z)
+    (meshNow (a .counts) positions corners links generations) []

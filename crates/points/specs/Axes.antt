@@ -2,7 +2,7 @@
 use Prim.Native.Nat.{ℕ, zero, suc, _*_}
 use lib.IntN.{ℤ, pos, negℤ, _+ℤ_}
 use lib.Signed.{_≤ℤ_}
-use Rattle.rules.specs.Numbers.{InRange, nearestThird, moved}
+use Rattle.rules.specs.Numbers.{nearestThird, moved}
 use Rattle.points.specs.declared.Point.{Point}
 use Rattle.points.specs.declared.Sum.{Sum}
 
@@ -39,10 +39,6 @@ movedPoint n p s = eachAxis (λ k. moved n (coordinate p k) (total s k))
 -- A sum and one point more.
 abbrev pub plus : Sum → Point → Sum
 plus s p = eachTotal (λ k. total s k +ℤ coordinate p k)
-
--- Each coordinate is in range.
-pub record Within (p : Point) : Type 0 where
-  pub axis : (k : ℕ) → InRange (coordinate p k)
 
 -- s lies where the sums of n numbers of 32 bits lie.
 pub record SumOf (n : ℕ) (s : ℤ) : Type 0 where

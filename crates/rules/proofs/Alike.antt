@@ -6,7 +6,7 @@ use Prim.Native.Nat.{ℕ, zero, suc, _*_, _<_}
 use native.Mathlib.Omega.{arith}
 use lib.Dec.{T, eqb, ltb, ltb→lt}
 use lib.ListN.{length}
-use Rattle.rules.proofs.Decide.{is-lt, is-self, is-and}
+use Rattle.rules.proofs.Decide.{is-self, is-lt, is-and}
 use Rattle.rules.proofs.Sides.{next-lt, previous-lt}
 use Rattle.rules.proofs.Sums.{total-same}
 use Rattle.rules.specs.Below.{all, lowest, bit, count}
@@ -95,7 +95,8 @@ module _ {m n : Topology} (S : SameSides m n) where
   first-same v =
       ap₂ (λ (h k : ℕ). elim (ltb h (sides m)) [ true ↦ h | false ↦ k ])
       (side-same (λ x k. eqb x v && eqb k boundary)) (side-same (λ x k. eqb x v))
-      ∙ ap (λ (f : ℕ). elim (ltb (onBoundary n v) (3 * f)) [ true ↦ onBoundary n v | false ↦ lowest (sides n) (λ k. eqb (origin n k) v) ])
+      ∙ ap (λ (f : ℕ). elim (ltb (onBoundary n v) (3 * f))
+      [ true ↦ onBoundary n v | false ↦ lowest (sides n) (λ k. eqb (origin n k) v) ])
       (S .triangles)
 
   walk-same : (k s h : ℕ) → h < sides m → fanFrom k m s h ≡ fanFrom k n s h
@@ -120,6 +121,8 @@ module _ {m n : Topology} (S : SameSides m n) where
   pub one-fan-same : (v : ℕ) → hasOneFan m v ≡ hasOneFan n v
   unfolding hasOneFan
   one-fan-same v =
-      let a = total-same (sides m) (λ h. bit (eqb (origin m h) v)) (λ h. bit (eqb (origin n h) v)) (λ h l. rw (S .corner h l)) in
+      let a =
+      total-same (sides m) (λ h. bit (eqb (origin m h) v)) (λ h. bit (eqb (origin n h) v))
+      (λ h l. rw (S .corner h l)) in
       ap₂ (λ (l : List ℕ) (k : ℕ). ltb 0 (length l) && eqb (length l) k) (fan-same v)
       (a ∙ ap (λ (f : ℕ). count (3 * f) (λ h. eqb (origin n h) v)) (S .triangles))

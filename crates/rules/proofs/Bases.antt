@@ -1,46 +1,21 @@
 -- Where two bases meet, and what settling a child does about it.
-use mathlib.Core.Path.{_≡_, refl, sym, ap, _∙_, subst}
-use mathlib.Core.Logic.{_≢_, inl, inr}
-use mathlib.Core.Bool.{Bool, true, false, _&&_}
+use mathlib.Core.Path.{_≡_, refl, ap, _∙_, subst}
+use mathlib.Core.Logic.{_≢_}
+use mathlib.Core.Bool.{Bool, true, false}
 use Prim.Native.Nat.{ℕ, _+_, _*_, _/_, _%_, _≤_, _<_}
 use native.Mathlib.Omega.{arith}
-use native.Mathlib.Decide.{ℕ-discrete}
 use lib.ListN.{getD, List·getD-eq-default}
-use lib.Dec.{T, eqb, eqb→eq}
+use Rattle.rules.proofs.Decide.{Decides, is-eq, when-true, when-false, is-and, odd-is}
 use Rattle.rules.proofs.FlipKeeps.{BasesMeet, flip-manifold}
 use Rattle.rules.proofs.FlipRead.{Flips, flip-flips}
-use Rattle.rules.proofs.Manifold.{Partnered, Manifold, level, Joined, Base}
-use Rattle.rules.proofs.Sides.{eqb-no}
-use Rattle.rules.proofs.SplitKeeps.{level₀, no-self}
+use Rattle.rules.proofs.Manifold.{Partnered, Manifold, level, Base, level₀, partnered, no-self}
 use Rattle.rules.specs.Split.{Work, flip, withFlip, settle}
-use Rattle.rules.specs.Tables.{Topology, withTopology, sides, origin, boundary, link, generation, odd, isBase}
+use Rattle.rules.specs.Tables.{Topology, withTopology, sides, origin, boundary, link, generation, isBase}
 
 -- ---- the test
 
-pub odd-yes : (g : ℕ) → odd g ≡ true → g % 2 ≡ 1
-odd-yes g e = eqb→eq (g % 2) 1 (subst T (sym e) tt)
-
-pub odd-no : (g : ℕ) → odd g ≡ false → g % 2 ≡ 0
-odd-no g e = go (ℕ-discrete (g % 2) 1)
-  where
-    go : Dec (g % 2 ≡ 1) → g % 2 ≡ 0
-    go (yes x) =
-        absurd
-        (subst T (ap (λ (y : ℕ). eqb y 1) x ∙ sym (ap (λ (y : ℕ). eqb y 1) x) ∙ e)
-        (subst T (sym (ap (λ (y : ℕ). eqb y 1) x)) tt))
-    go (no x) = omega arith
-
-pub base-yes : (m : Topology) (h : ℕ) → isBase m h ≡ true → Base m h
-base-yes m h e = go (ℕ-discrete (h % 3) 0)
-  where
-    go : Dec (h % 3 ≡ 0) → Base m h
-    go (yes x) = (x, odd-yes (generation m (h / 3)) (sym (ap (λ (y : ℕ). eqb y 0 && odd (generation m (h / 3))) x) ∙ e))
-    go (no x) = absurd (subst T (sym e ∙ ap (λ (y : Bool). y && odd (generation m (h / 3))) (eqb-no (h % 3) 0 x)) tt)
-
-base-no : (m : Topology) (h : ℕ) → isBase m h ≡ false → ¬ Base m h
-base-no m h e b =
-    subst T (sym (ap (λ (y : ℕ). eqb (h % 3) 0 && eqb y 1) (b .1)) ∙ e)
-    (subst T (sym (ap (λ (y : ℕ). eqb y 0 && true) (b .0))) tt)
+pub base-is : (m : Topology) (h : ℕ) → Decides (isBase m h) (Base m h)
+base-is m h = is-and (is-eq (h % 3) 0) (odd-is (generation m (h / 3)))
 
 pub boundary-not-base : (m : Topology) → Manifold m → ¬ Base m boundary
 boundary-not-base m F b =
@@ -48,12 +23,9 @@ boundary-not-base m F b =
     List·getD-eq-default (m .generations) 0 (omega (arith, F .slots)) in
     omega (arith, b .1)
 
-pub partner-of : (m : Topology) (h : ℕ) → Manifold m → h < sides m → link m h ≢ boundary → Partnered m h
-partner-of m h F l n = go (F .linked h l)
-  where
-    go : Joined m h → Partnered m h
-    go (inl e) = absurd (n e)
-    go (inr M) = M
+-- A side that is linked to a base has a partner.
+pub partnered-base : {m : Topology} {h : ℕ} → Manifold m → h < sides m → Base m (link m h) → Partnered m h
+partnered-base {m} {h} F l b = partnered (F .linked h l) (λ e. boundary-not-base m F (subst (Base m) e b))
 
 -- ---- a triangle just made, whose corner 2 is new: p is the number of the old vertices
 
@@ -68,8 +40,7 @@ bases : (p g c : ℕ) (m : Topology) → Manifold m → Child p g c m → Base m
     → BasesMeet c (link m (3 * c) / 3) m
 bases p g c m F C b =
     let l : 3 * c < sides m = omega (arith, C .inUse) in
-    let M : Partnered m (3 * c) =
-    partner-of m (3 * c) F l (λ e. boundary-not-base m F (subst (λ (x : ℕ). Base m x) e b)) in
+    let M : Partnered m (3 * c) = partnered-base F l b in
     let u : ℕ = link m (3 * c) / 3 in
     let e : link m (3 * c) ≡ 3 * u = omega (arith, b .0) in
     let i = M .inUse in
@@ -125,14 +96,14 @@ settle-settles p g c w F C = go (isBase m (link m (3 * c))) refl
         [ true ↦ withFlip (withTopology (flip c (link m (3 * c) / 3) m) (w .mesh)) w | false ↦ w ])
     go true e =
         let u : ℕ = link m (3 * c) / 3 in
-        let B : BasesMeet c u m = bases p g c m F C (base-yes m (link m (3 * c)) e) in
+        let B : BasesMeet c u m = bases p g c m F C (when-true (base-is m (link m (3 * c))) e) in
         record {
           settling = flipped u B (flip-flips c u m F (B .useS) (B .useU) (B .differ));
           splits = refl;
           flips = omega arith;
         }
     go false e = record {
-      settling = kept (base-no m (link m (3 * c)) e);
+      settling = kept (when-false (base-is m (link m (3 * c))) e);
       splits = refl;
       flips = omega arith;
     }

@@ -6,7 +6,7 @@ use Prim.Native.Nat.{ℕ, _*_, _≤_, _<_, min, max}
 use native.Mathlib.Omega.{arith}
 use native.Mathlib.Decide.{decLt}
 use lib.Dec.{ltb}
-use Rattle.rules.proofs.Decide.{Decides, is-eq, is-lt, is-iff, is-and, is-or, is-any}
+use Rattle.rules.proofs.Decide.{Decides, is-eq, is-lt, is-iff, is-same, bit-yes, bit-no, is-and, is-or, is-any}
 use Rattle.rules.proofs.Load.{opposite-back, matches-opposite, partner-matches, loaded-loads}
 use Rattle.rules.proofs.Sides.{next-lt}
 use Rattle.rules.proofs.Sums.{total-same, total-zero, total-swap, total-one}
@@ -16,20 +16,6 @@ use Rattle.rules.specs.Conditions.{CornersFit, SidesDiffer}
 use Rattle.rules.specs.History.{edges, characteristic, joins, cageEdges, cageCharacteristic}
 use Rattle.rules.specs.Promises.{Opposite, Matches, only, alone}
 use Rattle.rules.specs.Tables.{Mesh, TablesAgree, next, boundary, vertexSlots, triangleSlots}
-
--- ---- tests counted
-
-bit-yes : {b : Bool} {P : Type 0} → Decides b P → P → bit b ≡ 1
-bit-yes {b = true} d p = refl
-bit-yes {b = false} d p = absurd (d .passes p)
-
-bit-no : {b : Bool} {P : Type 0} → Decides b P → ¬ P → bit b ≡ 0
-bit-no {b = true} d n = absurd (n (d .holds tt))
-bit-no {b = false} d n = refl
-
-bit-same : {b c : Bool} {P : Type 0} → Decides b P → Decides c P → bit b ≡ bit c
-bit-same {b = true} d e = sym (bit-yes e (d .holds tt))
-bit-same {b = false} d e = sym (bit-no e (d .passes))
 
 -- ---- the lower side of each edge
 
@@ -90,8 +76,8 @@ module _ (c : Cage) (few : 3 * c .triangles < boundary) (K : CornersFit c) (D : 
       total-one (high c h) (low c h) (λ b. bit (lower c (high c h) b h)) (omega arith) (λ b j e.
       bit-no (lower-is c (high c h) b h) (λ q. e (sym (ends c (high c h) b h j (q .1) .1)))) in
       sym
-      (x ∙ y ∙ bit-same (lower-is c (high c h) (low c h) h)
-      (is-iff (λ q. (q, joins-ends c h)) (λ q. q .0) (is-lt h (partner c h))))
+      (x ∙ y ∙ ap bit (is-same (lower-is c (high c h) (low c h) h)
+      (is-iff (λ q. (q, joins-ends c h)) (λ q. q .0) (is-lt h (partner c h)))))
 
   -- Of the sides that join two vertices one is the lower, and no other.
   find-lower : (a b h k : ℕ) → h < 3 * c .triangles → Joins c a b h → partner c h ≡ k → Matches c h k

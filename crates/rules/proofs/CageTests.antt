@@ -36,7 +36,8 @@ sizes-fit-is bytes m =
 pub corners-fit-is : (c : Cage) → Decides (cornersFit c) (CornersFit c)
 unfolding cornersFit
 corners-fit-is c =
-    is-iff (λ x. record { corner = λ h l. x h l .0; distinct = λ h l. x h l .1 }) (λ K h l. (K .corner h l, K .distinct h l))
+    is-iff (λ x. record { corner = λ h l. x h l .0; distinct = λ h l. x h l .1 })
+    (λ K h l. (K .corner h l, K .distinct h l))
     (is-all (3 * c .triangles) _ _ (λ h l.
     is-and (is-lt (c .corner h) (c .vertices)) (is-not (is-eq (c .corner h) (c .corner (next h))))))
 

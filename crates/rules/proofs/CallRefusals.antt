@@ -3,27 +3,30 @@ use mathlib.Core.Path.{_≡_, refl, sym, ap, _∙_}
 use mathlib.Core.Logic.{_≢_}
 use mathlib.Core.Bool.{not}
 use mathlib.Core.List.{List, []}
-use Prim.Native.Nat.{ℕ, _+_, _*_, _%_, _≤_, _<_}
+use Prim.Native.Nat.{ℕ, _+_, _*_, _≤_, _<_, _%_}
 use native.Mathlib.Omega.{arith}
-use native.Mathlib.Decide.{decLt}
 use lib.ListN.{length}
 use lib.Dec.{eqb, leb, ltb}
 use Rattle.rules.proofs.CageTests.{sizes-fit-is, corners-fit-is, coordinates-fit-is, sides-differ-is}
 use Rattle.rules.proofs.ChainEnd.{ends-at-boundary-is}
-use Rattle.rules.proofs.Decide.{Decides, is-eq, is-lt, is-le, is-not, is-iff, is-and, is-all, is-any}
+use Rattle.rules.proofs.Decide.{Decides, is-eq, is-lt, is-le, is-not, is-iff, stable, is-and, even-is, is-all}
+use Rattle.rules.proofs.Decide.{is-any}
 use Rattle.rules.proofs.FirstThatHolds.{Judged, first-if, first-unless, judged, judged-refusal, judged-refused}
 use Rattle.rules.proofs.Load.{fans-fit-is}
 use Rattle.rules.proofs.Relaxed.{sound-manifold, sound-bases}
 use Rattle.rules.proofs.SoundTest.{tables-agree-is, sound-is}
 use Rattle.rules.specs.Below.{any}
 use Rattle.rules.specs.Cage.{Cage, cageOf, loaded}
-use Rattle.rules.specs.Calls.{outcomeOf, zeroPoint, worked, roomFor, splitsOf, closedEven, loadRefusal, refineRefusal, wholeStepRefusal, ringRefusal, positionRefusal, loadCall, refineCall, wholeStepCall, ringRead, ringCall, positionRead, positionCall}
-use Rattle.rules.specs.Conditions.{RoomFor, ClosedEven, First, none, LongRing, loadConditions, refineConditions, wholeStepConditions, ringConditions, positionConditions}
+use Rattle.rules.specs.Calls.{outcomeOf, zeroPoint, worked, roomFor, splitsOf, closedEven, loadRefusal}
+use Rattle.rules.specs.Calls.{refineRefusal, wholeStepRefusal, ringRefusal, positionRefusal, loadCall, refineCall}
+use Rattle.rules.specs.Calls.{wholeStepCall, ringRead, ringCall, positionRead, positionCall}
+use Rattle.rules.specs.Conditions.{RoomFor, ClosedEven, First, none, LongRing, loadConditions, refineConditions}
+use Rattle.rules.specs.Conditions.{wholeStepConditions, ringConditions, positionConditions}
 use Rattle.rules.specs.History.{Call, loads, refines, steps, asksRing, asksPosition, outcome, lentBuffer}
 use Rattle.rules.specs.Ring.{ring}
 use Rattle.rules.specs.Split.{atFirst, refine}
 use Rattle.rules.specs.Step.{wholeStep}
-use Rattle.rules.specs.Tables.{Topology, Mesh, sides, boundary, link, generation, odd, vertexSlots, triangleSlots}
+use Rattle.rules.specs.Tables.{Topology, Mesh, sides, boundary, link, generation, vertexSlots, triangleSlots}
 
 -- ---- tests
 
@@ -31,17 +34,11 @@ use Rattle.rules.specs.Tables.{Topology, Mesh, sides, boundary, link, ge
 unused-is : (n k : ℕ) → Decides (leb k n) (¬ (n < k))
 unused-is n k = is-iff (λ l q. omega arith) (λ q. omega arith) (is-le k n)
 
-pub used : {n k : ℕ} → ¬ (¬ (n < k)) → n < k
-used {n} {k} q = elim (decLt n k) [ yes l ↦ l | no l ↦ absurd (q l) ]
-
 pub room-is : (s : ℕ) (m : Mesh) → Decides (roomFor s m) (RoomFor s m)
 room-is s m =
     is-iff (λ x. record { vertices = x .0; triangles = x .1 }) (λ R. (R .vertices, R .triangles))
     (is-and (is-le (m .topology .vertices + s) (vertexSlots m))
     (is-le (m .topology .triangles + 2 * s) (triangleSlots m)))
-
-even-is : (g : ℕ) → Decides (not (odd g)) (g % 2 ≡ 0)
-even-is g = is-iff (λ n. omega arith) (λ e q. omega arith) (is-not (is-eq (g % 2) 1))
 
 -- All triangles have the generation of the first, if there is one.
 pub closed-even-is : (m : Topology) → 1 ≤ m .triangles → Decides (closedEven m) (ClosedEven m)
@@ -80,7 +77,8 @@ refine-refusal-first t m =
     first-unless 7 (sound-is m) (λ S.
     first-if 8 (unused-is t (m .topology .triangles)) (λ u.
     first-if 9 (is-eq (generation (m .topology) t) 20) (λ _.
-    first-if 10 (ends-at-boundary-is (m .topology) (sound-manifold S) (sound-bases S) t (used u)) (λ _.
+    first-if 10 (ends-at-boundary-is (m .topology) (sound-manifold S) (sound-bases S) t
+    (stable (is-lt t (m .topology .triangles)) u)) (λ _.
     first-unless 11 (room-is (splitsOf (m .topology) t) m) (λ _. none))))))
 
 pub whole-step-refusal-first : (m : Mesh) → First (wholeStepConditions m) (wholeStepRefusal m)

@@ -1,17 +1,15 @@
 -- What a call that is carried out has found, and what it makes of the mesh.
-use mathlib.Core.Path.{_≡_, refl, sym, _∙_, subst}
+use mathlib.Core.Path.{_≡_, _∙_}
 use mathlib.Core.Logic.{_≢_}
-use mathlib.Core.Bool.{Bool, true, false}
-use mathlib.Core.List.{List, _∷_}
-use Prim.Native.Nat.{ℕ, suc, _%_, _<_}
+use mathlib.Core.List.{List}
+use Prim.Native.Nat.{ℕ, _%_, _<_}
 use native.Mathlib.Omega.{arith}
-use native.Mathlib.Decide.{ℕ-discrete}
-use lib.Dec.{T}
 use Rattle.rules.proofs.CageTests.{sizes-fit-is, corners-fit-is, coordinates-fit-is, sides-differ-is}
-use Rattle.rules.proofs.CallRefusals.{used, room-is, closed-even-is, load-refusal-first, refine-refusal-first, whole-step-refusal-first}
-use Rattle.rules.proofs.Chain.{odd-is}
+use Rattle.rules.proofs.CallRefusals.{room-is, closed-even-is, load-refusal-first, refine-refusal-first}
+use Rattle.rules.proofs.CallRefusals.{whole-step-refusal-first}
 use Rattle.rules.proofs.ChainEnd.{ends-at-boundary-is}
-use Rattle.rules.proofs.Decide.{Decides}
+use Rattle.rules.proofs.Decide.{is-lt, is-not, stable, even-is}
+use Rattle.rules.proofs.FirstThatHolds.{none-hold}
 use Rattle.rules.proofs.Load.{fans-fit-is}
 use Rattle.rules.proofs.Refine.{Refined, refine-refined}
 use Rattle.rules.proofs.Relaxed.{sound-manifold, sound-bases}
@@ -19,29 +17,13 @@ use Rattle.rules.proofs.SoundTest.{tables-agree-is, sound-is}
 use Rattle.rules.proofs.WholeStep.{step-makes}
 use Rattle.rules.specs.Cage.{Cage, cageOf}
 use Rattle.rules.specs.Calls.{splitsOf, loadRefusal, refineRefusal, wholeStepRefusal}
-use Rattle.rules.specs.Conditions.{SizesFit, CornersFit, RoomFor, ClosedEven, Condition, _when_, First, this, later, CoordinatesFit, SidesDiffer, FansFit}
+use Rattle.rules.specs.Conditions.{SizesFit, CornersFit, RoomFor, ClosedEven, CoordinatesFit, SidesDiffer}
+use Rattle.rules.specs.Conditions.{FansFit}
 use Rattle.rules.specs.Promises.{StepMakes}
 use Rattle.rules.specs.Sound.{Sound}
 use Rattle.rules.specs.Split.{atFirst, chainEnd, refine}
 use Rattle.rules.specs.Step.{wholeStep}
-use Rattle.rules.specs.Tables.{Mesh, TablesAgree, generation, odd}
-
--- ---- conditions that do not hold
-
-passed : {n k : ℕ} {P : Type 0} {rest : List Condition} → First (n when P ∷ rest) k → k ≢ n → First rest k
-passed (this p) e = absurd (e refl)
-passed (later q f) e = f
-
-fails : {n k : ℕ} {P : Type 0} {rest : List Condition} → First (n when P ∷ rest) k → k ≢ n → ¬ P
-fails (this p) e = absurd (e refl)
-fails (later q f) e = q
-
-stable : {b : Bool} {Q : Type 0} → Decides b Q → ¬ (¬ Q) → Q
-stable {b = true} d n = d .holds tt
-stable {b = false} d n = absurd (n (d .passes))
-
-zero-not : {k : ℕ} (n : ℕ) → k ≡ 0 → k ≢ suc n
-zero-not n z e = omega arith
+use Rattle.rules.specs.Tables.{Mesh, TablesAgree, generation}
 
 -- ---- load
 
@@ -56,23 +38,18 @@ pub record LoadFound (bytes : List ℕ) (m : Mesh) : Type 0 where
 pub load-found : (bytes : List ℕ) (m : Mesh) → loadRefusal bytes m ≡ 0 → LoadFound bytes m
 load-found bytes m z =
     let c : Cage = cageOf bytes in
-    let f₁ = load-refusal-first bytes m in
-    let f₂ = passed f₁ (zero-not 0 z) in
-    let f₃ = passed f₂ (zero-not 1 z) in
-    let f₄ = passed f₃ (zero-not 2 z) in
-    let f₅ = passed f₄ (zero-not 3 z) in
-    let f₆ = passed f₅ (zero-not 4 z) in
-    let A = stable (tables-agree-is m) (fails f₁ (zero-not 0 z)) in
-    let S = stable (sizes-fit-is bytes m) (fails f₂ (zero-not 1 z)) in
-    let K = stable (corners-fit-is c) (fails f₃ (zero-not 2 z)) in
-    let D = stable (sides-differ-is c) (fails f₅ (zero-not 4 z)) in
+    let (a, (s, (k, (r, (d, (f, _)))))) = none-hold (load-refusal-first bytes m) z tt in
+    let A = stable (tables-agree-is m) a in
+    let S = stable (sizes-fit-is bytes m) s in
+    let K = stable (corners-fit-is c) k in
+    let D = stable (sides-differ-is c) d in
     record {
       agree = A;
       sizes = S;
       corners = K;
-      coordinates = stable (coordinates-fit-is c) (fails f₄ (zero-not 3 z));
+      coordinates = stable (coordinates-fit-is c) r;
       differ = D;
-      fans = stable (fans-fit-is c m A (S .vertexRoom) (S .triangleRoom) K D) (fails f₆ (zero-not 5 z));
+      fans = stable (fans-fit-is c m A (S .vertexRoom) (S .triangleRoom) K D) f;
     }
 
 -- ---- refine
@@ -84,33 +61,20 @@ pub record RefineFound (t : ℕ) (m : Mesh) : Type 0 where
   pub evenEnd : generation (m .topology) (chainEnd (m .topology) t) % 2 ≡ 0
   pub room : RoomFor (splitsOf (m .topology) t) m
 
-even-end : (g : ℕ) {P : Type 0} → Decides (odd g) P → ¬ P → g % 2 ≡ 0
-even-end g d n = go (ℕ-discrete (g % 2) 1)
-  where
-    go : Dec (g % 2 ≡ 1) → g % 2 ≡ 0
-    go (yes o) = absurd (n (d .holds (subst T (sym (odd-is g o)) tt)))
-    go (no o) = omega arith
-
 pub refine-found : (t : ℕ) (m : Mesh) → refineRefusal t m ≡ 0 → RefineFound t m
 refine-found t m z =
-    let f₁ = refine-refusal-first t m in
-    let f₂ = passed f₁ (zero-not 0 z) in
-    let f₃ = passed f₂ (zero-not 6 z) in
-    let f₄ = passed f₃ (zero-not 7 z) in
-    let f₅ = passed f₄ (zero-not 8 z) in
-    let f₆ = passed f₅ (zero-not 9 z) in
-    let S = stable (sound-is m) (fails f₂ (zero-not 6 z)) in
-    let u : t < m .topology .triangles = used (fails f₃ (zero-not 7 z)) in
-    let n : generation (m .topology) t ≢ 20 = fails f₄ (zero-not 8 z) in
+    let (_, (s, (i, (n, (e, (r, _)))))) = none-hold (refine-refusal-first t m) z tt in
+    let S = stable (sound-is m) s in
+    let u : t < m .topology .triangles = stable (is-lt t (m .topology .triangles)) i in
     let y = S .generations t u in
     record {
       sound = S;
       inUse = u;
       young = omega arith;
       evenEnd =
-          even-end (generation (m .topology) (chainEnd (m .topology) t))
-          (ends-at-boundary-is (m .topology) (sound-manifold S) (sound-bases S) t u) (fails f₅ (zero-not 9 z));
-      room = stable (room-is (splitsOf (m .topology) t) m) (fails f₆ (zero-not 10 z));
+          even-is (generation (m .topology) (chainEnd (m .topology) t)) .holds
+          (is-not (ends-at-boundary-is (m .topology) (sound-manifold S) (sound-bases S) t u) .passes e);
+      room = stable (room-is (splitsOf (m .topology) t) m) r;
     }
 
 pub found-refined : {t : ℕ} {m : Mesh} → RefineFound t m
@@ -127,19 +91,14 @@ pub record StepFound (m : Mesh) : Type 0 where
 
 pub step-found : (m : Mesh) → wholeStepRefusal m ≡ 0 → StepFound m
 step-found m z =
-    let f₁ = whole-step-refusal-first m in
-    let f₂ = passed f₁ (zero-not 0 z) in
-    let f₃ = passed f₂ (zero-not 6 z) in
-    let f₄ = passed f₃ (zero-not 11 z) in
-    let f₅ = passed f₄ (zero-not 8 z) in
-    let f₆ = passed f₅ (zero-not 12 z) in
-    let S = stable (sound-is m) (fails f₂ (zero-not 6 z)) in
-    let C = stable (closed-even-is (m .topology) (S .someTriangle)) (fails f₃ (zero-not 11 z)) in
+    let (_, (s, (c, (n, (_, (r, _)))))) = none-hold (whole-step-refusal-first m) z tt in
+    let S = stable (sound-is m) s in
+    let C = stable (closed-even-is (m .topology) (S .someTriangle)) c in
     record {
       sound = S;
       closed = C;
-      young = λ e. fails f₄ (zero-not 8 z) (C .all 0 (S .someTriangle) ∙ e);
-      room = stable (room-is (m .topology .triangles) m) (fails f₆ (zero-not 10 z));
+      young = λ e. n (C .all 0 (S .someTriangle) ∙ e);
+      room = stable (room-is (m .topology .triangles) m) r;
     }
 
 pub found-step : {m : Mesh} (F : StepFound m) → StepMakes (F .closed .common) m (wholeStep m)

@@ -3,30 +3,15 @@ use mathlib.Core.Path.{_≡_, ap}
 use mathlib.Core.Logic.{_≢_}
 use Prim.Native.Nat.{ℕ, zero, suc, _*_, _/_, _%_, _≤_, _<_}
 use native.Mathlib.Omega.{arith}
-use native.Mathlib.Decide.{ℕ-discrete}
 use lib.Dec.{eqb}
-use Rattle.rules.proofs.Chain.{falls, odd-is, odd-not}
-use Rattle.rules.proofs.Decide.{Decides}
+use borrow.Author.Tests.{ne-eqb}
+use Rattle.rules.proofs.Chain.{Goes, evenHere, boundaryHere, furtherOn, falls, goes}
+use Rattle.rules.proofs.Decide.{Decides, odd-test, even-test}
 use Rattle.rules.proofs.Manifold.{Manifold, BasesMeetIn}
 use Rattle.rules.proofs.Settled.{nowhere}
-use Rattle.rules.proofs.Sides.{eqb-no}
 use Rattle.rules.specs.Conditions.{EndsAtBoundary, stops, goesOn}
 use Rattle.rules.specs.Split.{chainEndWithin, chainEnd}
 use Rattle.rules.specs.Tables.{Topology, boundary, link, generation, odd}
-
--- A triangle ends the chain, or the chain goes on from the next.
-data Goes (m : Topology) (t : ℕ) : Type 0 where
-  evenHere : generation m t % 2 ≡ 0 → Goes m t
-  boundaryHere : generation m t % 2 ≡ 1 → link m (3 * t) ≡ boundary → Goes m t
-  furtherOn : generation m t % 2 ≡ 1 → link m (3 * t) ≢ boundary → Goes m t
-
-goes : (m : Topology) (t : ℕ) → Goes m t
-goes m t = go (ℕ-discrete (generation m t % 2) 1) (ℕ-discrete (link m (3 * t)) boundary)
-  where
-    go : Dec (generation m t % 2 ≡ 1) → Dec (link m (3 * t) ≡ boundary) → Goes m t
-    go (no o) d = evenHere (omega arith)
-    go (yes o) (yes e) = boundaryHere o e
-    go (yes o) (no e) = furtherOn o e
 
 -- The cases of the statement.
 not-even : {A : Type 0} {m : Topology} {t : ℕ} → generation m t % 2 ≡ 0 → EndsAtBoundary m t → A
@@ -44,22 +29,23 @@ module _ (m : Topology) (F : Manifold m) (K : BasesMeetIn nowhere m) where
   unfolding chainEndWithin
   end-decides zero t l i =
       let e : generation m t % 2 ≡ 0 = omega arith in
-      rw (odd-not (generation m t) e) (record { holds = λ x. absurd x; passes = not-even e })
+      rw (even-test (generation m t) e) (record { holds = λ x. absurd x; passes = not-even e })
   end-decides (suc n) t l i = go (goes m t) (end-decides n (link m (3 * t) / 3))
     where
       go : Goes m t → (link m (3 * t) / 3 < m .triangles → generation m (link m (3 * t) / 3) ≤ n
-          → Decides (odd (generation m (chainEndWithin n m (link m (3 * t) / 3)))) (EndsAtBoundary m
-          (link m (3 * t) / 3)))
+          → Decides (odd (generation m (chainEndWithin n m (link m (3 * t) / 3))))
+          (EndsAtBoundary m (link m (3 * t) / 3)))
           → Decides (odd (generation m (chainEndWithin (suc n) m t))) (EndsAtBoundary m t)
       go (evenHere e) ih =
-          rw (odd-not (generation m t) e, chainEndWithin)
-          (rw (odd-not (generation m t) e) (record { holds = λ x. absurd x; passes = not-even e }))
+          rw (even-test (generation m t) e, chainEndWithin)
+          (rw (even-test (generation m t) e) (record { holds = λ x. absurd x; passes = not-even e }))
       go (boundaryHere o e) ih =
-          rw (odd-is (generation m t) o, ap (λ (x : ℕ). eqb x boundary) e, chainEndWithin) (rw (odd-is (generation m t) o) (record { holds = λ x. stops o e; passes = λ x. tt }))
+          rw (odd-test (generation m t) o, ap (λ (x : ℕ). eqb x boundary) e, chainEndWithin)
+          (rw (odd-test (generation m t) o) (record { holds = λ x. stops o e; passes = λ x. tt }))
       go (furtherOn o e) ih =
           let f = falls m F K t l o e in
           let d = ih (f .0) (omega (arith, f .1)) in
-          rw (odd-is (generation m t) o, eqb-no (link m (3 * t)) boundary e, chainEndWithin)
+          rw (odd-test (generation m t) o, ne-eqb (link m (3 * t)) boundary e, chainEndWithin)
           (record { holds = λ x. goesOn o e (d .holds x); passes = λ x. d .passes (next-ends e x) })
 
   pub ends-at-boundary-is : (t : ℕ) → t < m .triangles

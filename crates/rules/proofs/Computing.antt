@@ -5,14 +5,14 @@ use lib.IntN.{pos}
 use lib.ListN.{replicate}
 use Rattle.rules.specs.Below.{all, any, lowest, total, fill}
 use Rattle.rules.specs.Cage.{cageOf, partner, loaded, sizesFit, cornersFit, coordinatesFit, sidesDiffer, fansFit}
-use Rattle.rules.specs.Calls.{closedEven, loadRefusal, refineRefusal, wholeStepRefusal, ringRefusal, positionRefusal}
-use Rattle.rules.specs.Calls.{loadCall, refineCall, wholeStepCall, ringCall, positionCall}
+use Rattle.rules.specs.Calls.{closedEven, loadRefusal, refineRefusal, wholeStepRefusal, ringRefusal}
+use Rattle.rules.specs.Calls.{positionRefusal, loadCall, refineCall, wholeStepCall, ringCall, positionCall}
 use Rattle.rules.specs.History.{after, outcomes, lastLoad, edges, cageEdges}
 use Rattle.rules.specs.Numbers.{numberAt, signed, floorDiv, nearestThird, halfUp, weights, weight, moved}
 use Rattle.rules.specs.Ring.{firstSide, fanFrom, fan, neighbours, ring}
 use Rattle.rules.specs.Sound.{isLinked, soundSide, hasOneFan, isSound}
-use Rattle.rules.specs.Split.{split, flip, centre, splitPlaced, settle, faceSplit}
-use Rattle.rules.specs.Split.{chainEndWithin, chainOddWithin, raise, refine}
+use Rattle.rules.specs.Split.{split, flip, centre, splitPlaced, settle, faceSplit, chainEndWithin, chainOddWithin}
+use Rattle.rules.specs.Split.{raise, refine}
 use Rattle.rules.specs.Step.{sumOver, movedCoordinate, moveVertices, refineFirst, wholeStep}
 use Rattle.rules.specs.Tables.{Mesh, topologyOf, meshOf, tablesAgree}
 

@@ -7,20 +7,29 @@ use native.Mathlib.Omega.{arith}
 use native.Mathlib.Decide.{ℕ-discrete, decLt}
 use lib.ListN.{length}
 use lib.Dec.{T}
-use Rattle.rules.proofs.Bases.{boundary-not-base, partner-of}
+use Rattle.rules.proofs.Bases.{partnered-base}
 use Rattle.rules.proofs.Edges.{boundarySides}
-use Rattle.rules.proofs.Manifold.{Partnered, Manifold, level, Joined, Base, BasesMeetIn}
+use Rattle.rules.proofs.Entries.{Some, some-with, some-map}
+use Rattle.rules.proofs.Manifold.{Partnered, Manifold, level, Joined, Base, BasesMeetIn, level-of, level₀}
+use Rattle.rules.proofs.Manifold.{partnered, partnered-with}
 use Rattle.rules.proofs.Past.{Past, past-on}
-use Rattle.rules.proofs.Settled.{Settled, nowhere, Among, Children, Distinct, Met, settled-manifold, settled-same, settled-boundary, settled-bases, settled-past, settled-generation, settled-spread, settled-flips, settled-moved, settled-follow, still-on, settled-still}
+use Rattle.rules.proofs.Settled.{Settled, nowhere, Among, Children, Distinct, Met, settled-manifold}
+use Rattle.rules.proofs.Settled.{settled-same, settled-boundary, settled-bases, settled-past, settled-generation}
+use Rattle.rules.proofs.Settled.{settled-spread, settled-flips, settled-moved, settled-follow, unchanged-not}
+use Rattle.rules.proofs.Settled.{still-on, settled-still}
 use Rattle.rules.proofs.Settling.{Same, Follow}
-use Rattle.rules.proofs.SplitKeeps.{level-of, level₀}
 use Rattle.rules.specs.Promises.{Still, Written}
 use Rattle.rules.specs.Tables.{Topology, sides, origin, boundary, link, generation}
 
 -- Side k is the base of one of them.
 abbrev pub Onto : List ℕ → ℕ → Type 0
-Onto [] k = ⊥
-Onto (c ∷ cs) k = (k ≡ 3 * c) ⊎ Onto cs k
+Onto cs k = Some (λ c. k ≡ 3 * c) cs
+
+-- A triangle after the cut of v with its flips: an old one left as it was, or a child, flipped or not.
+abbrev pub Spread : ℕ → ℕ → Topology → Topology → ℕ → Type 0
+Spread v g m n x =
+    ((x < m .triangles) × (x ≢ v) × (generation n x ≡ generation m x))
+    ⊎ ((generation n x ≡ g) ⊎ (generation n x ≡ suc g))
 
 -- v is cut in three. Its old sides become the bases of the children cs, of the odd generation g; p vertices and r
 -- boundary sides more.
@@ -38,9 +47,7 @@ pub record Cut (v g : ℕ) (cs : List ℕ) (p r : ℕ) (m n : Topology) : Type 0
   pub children : Children (m .vertices) g n cs
   pub distinct : Distinct cs
   pub mine : (x : ℕ) → x < m .triangles → Among cs x → x ≡ v
-  pub spread : (x : ℕ) → x < n .triangles
-      → ((x < m .triangles) × (x ≢ v)
-      × (generation n x ≡ generation m x)) ⊎ ((generation n x ≡ g) ⊎ (generation n x ≡ suc g))
+  pub spread : (x : ℕ) → x < n .triangles → Spread v g m n x
   pub generations : (x : ℕ) → x < m .triangles → x ≢ v → generation n x ≡ generation m x
   pub corners : (h : ℕ) → h < sides m → h / 3 ≢ v → origin n h ≡ origin m h
   pub links : (h : ℕ) → h < sides m → h / 3 ≢ v → link m h / 3 ≢ v → link n h ≡ link m h
@@ -51,28 +58,20 @@ pub record Cut (v g : ℕ) (cs : List ℕ) (p r : ℕ) (m n : Topology) : Type 0
 -- ---- lists of children
 
 onto-among : (cs : List ℕ) (k : ℕ) → Onto cs k → Among cs (k / 3)
-onto-among [] k e = absurd e
-onto-among (c ∷ cs) k (inl e) = inl (omega arith)
-onto-among (c ∷ cs) k (inr e) = inr (onto-among cs k e)
+onto-among cs k = some-map (λ c e. omega arith) cs
 
 onto-met : (n : Topology) (x : ℕ) (cs : List ℕ) (k : ℕ) → link n k ≡ 3 * x → Onto cs k → Met x n cs
-onto-met n x [] k b e = absurd e
-onto-met n x (c ∷ cs) k b (inl e) = inl (ap (λ (y : ℕ). link n y) (sym e) ∙ b)
-onto-met n x (c ∷ cs) k b (inr e) = inr (onto-met n x cs k b e)
+onto-met n x cs k b = some-map (λ c e. ap (link n) (sym e) ∙ b) cs
 
 met-onto : (p g : ℕ) (n : Topology) (x : ℕ) (cs : List ℕ) → Manifold n → x < n .triangles → Children p g n cs
     → Met x n cs → Onto cs (link n (3 * x))
-met-onto p g n x [] F l K e = absurd e
-met-onto p g n x (c ∷ cs) F l K (inl e) =
-    let M : Partnered n (3 * c) =
-    partner-of n (3 * c) F (omega (arith, K .0 .inUse)) (λ q. omega (arith, F .slots, F .generationRoom)) in
-    inl (ap (λ (y : ℕ). link n y) (sym e) ∙ M .back)
-met-onto p g n x (c ∷ cs) F l K (inr e) = inr (met-onto p g n x cs F l (K .1) e)
+met-onto p g n x cs F l =
+    some-with (λ c C e. ap (link n) (sym e) ∙ partnered-with F (omega (arith, C .inUse)) e (omega arith) .back) cs
 
-onto-not-rim : (p g : ℕ) (n : Topology) (cs : List ℕ) → Manifold n → Children p g n cs → Onto cs boundary → ⊥
-onto-not-rim p g n [] F K e = e
-onto-not-rim p g n (c ∷ cs) F K (inl e) = omega (arith, F .slots, F .generationRoom, K .0 .inUse)
-onto-not-rim p g n (c ∷ cs) F K (inr e) = onto-not-rim p g n cs F (K .1) e
+onto-not-boundary : (p g : ℕ) (n : Topology) (cs : List ℕ) → Manifold n → Children p g n cs → Onto cs boundary → ⊥
+onto-not-boundary p g n [] F K e = e
+onto-not-boundary p g n (c ∷ cs) F K (inl e) = omega (arith, F .slots, F .generationRoom, K .0 .inUse)
+onto-not-boundary p g n (c ∷ cs) F K (inr e) = onto-not-boundary p g n cs F (K .1) e
 
 -- What a cut and its flips bring.
 pub record CutResult (v g p r : ℕ) (m n : Topology) : Type 0 where
@@ -92,9 +91,7 @@ pub record CutResult (v g p r : ℕ) (m n : Topology) : Type 0 where
   pub most : (q : ℕ) → ((x : ℕ) → x < m .triangles → generation m x ≤ q) → suc g ≤ q → (x : ℕ) → x < n .triangles
       → generation n x ≤ q
   pub keeps : (x : ℕ) → x < m .triangles → x ≢ v → generation m x % 2 ≡ 0 → generation n x ≡ generation m x
-  pub spread : (x : ℕ) → x < n .triangles
-      → ((x < m .triangles) × (x ≢ v)
-      × (generation n x ≡ generation m x)) ⊎ ((generation n x ≡ g) ⊎ (generation n x ≡ suc g))
+  pub spread : (x : ℕ) → x < n .triangles → Spread v g m n x
   pub moved : (x : ℕ) → x < m .triangles → x ≢ v → generation n x ≢ generation m x
       → (link m (3 * x) ≢ boundary) × (link m (3 * x) / 3 ≡ v) × (generation m x ≡ g) × (generation n x ≡ suc g)
   pub still : Still m n
@@ -109,7 +106,7 @@ module _ (v g : ℕ) (cs : List ℕ) (p r : ℕ) (m one n : Topology) (F : Manif
       O = C .manifold
 
       M : Partnered one h
-      M = partner-of one h O l (λ w. boundary-not-base one O (subst (λ (z : ℕ). Base one z) w y))
+      M = partnered-base O l y
 
       old : (k : ℕ) → k < sides m → k / 3 ≢ v → Base one k → Base m k
       old k i j z = (z .0, sym (ap (λ (a : ℕ). a % 2) (C .generations (k / 3) (omega arith) j)) ∙ z .1)
@@ -134,7 +131,7 @@ module _ (v g : ℕ) (cs : List ℕ) (p r : ℕ) (m one n : Topology) (F : Manif
   -- The triangles whose base meets v are of generation g or below.
   near : (x : ℕ) → x < m .triangles → link m (3 * x) ≢ boundary → link m (3 * x) / 3 ≡ v → generation m x ≤ g
   near x l q e =
-      let M : Partnered m (3 * x) = partner-of m (3 * x) F (omega arith) q in
+      let M : Partnered m (3 * x) = partnered (F .linked (3 * x) (omega arith)) q in
       let k : ℕ = link m (3 * x) in
       let z : level m k ≡ (generation m v + min 1 (k % 3)) / 2 = level-of m k v (k % 3) e refl in
       let a : level m k ≡ level m (3 * x) = M .level in
@@ -146,8 +143,8 @@ module _ (v g : ℕ) (cs : List ℕ) (p r : ℕ) (m one n : Topology) (F : Manif
       let w = C .triangles in
       let o : Onto cs (link one (3 * t)) = C .into (3 * t) (omega arith) (omega arith) e in
       let M : Partnered one (3 * t) =
-      partner-of one (3 * t) (C .manifold) (omega arith)
-      (λ z. onto-not-rim (m .vertices) g one cs (C .manifold) (C .children) (subst (Onto cs) z o)) in
+      partnered (C .manifold .linked (3 * t) (omega arith))
+      (λ z. onto-not-boundary (m .vertices) g one cs (C .manifold) (C .children) (subst (Onto cs) z o)) in
       onto-met one t cs (link one (3 * t)) (M .back) o
 
   back : (x : ℕ) → x < m .triangles → x ≢ v → Met x one cs → (link m (3 * x) ≢ boundary) × (link m (3 * x) / 3 ≡ v)
@@ -162,7 +159,7 @@ module _ (v g : ℕ) (cs : List ℕ) (p r : ℕ) (m one n : Topology) (F : Manif
       go o (yes q) L = q
       go o (no q) (inl z) =
           absurd
-          (onto-not-rim (m .vertices) g one cs (C .manifold) (C .children)
+          (onto-not-boundary (m .vertices) g one cs (C .manifold) (C .children)
           (subst (Onto cs) (C .links (3 * x) (omega arith) (omega arith) q ∙ z) o))
       go o (no q) (inr M) =
           let a : Among cs (link m (3 * x) / 3) =
@@ -178,7 +175,7 @@ module _ (v g : ℕ) (cs : List ℕ) (p r : ℕ) (m one n : Topology) (F : Manif
       let e : generation one x ≡ generation m x = C .generations x l ne in
       let w : link m (3 * x) / 3 ≢ v = λ q. omega (arith, near x l (f .0) q) in
       let k : link one (3 * x) ≡ link m (3 * x) = C .links (3 * x) (omega arith) (omega arith) w in
-      let M : Partnered m (3 * x) = partner-of m (3 * x) F (omega arith) (f .0) in
+      let M : Partnered m (3 * x) = partnered (F .linked (3 * x) (omega arith)) (f .0) in
       settled-follow (m .vertices) g x t S (C .manifold) (C .children) (C .distinct) (omega (arith, C .triangles))
       (omega arith)
       ((λ q. f .0 (sym k ∙ q)), go w (M .inUse) k (f .1))
@@ -204,20 +201,12 @@ module _ (v g : ℕ) (cs : List ℕ) (p r : ℕ) (m one n : Topology) (F : Manif
       let a : generation one x ≡ generation m x = C .generations x l ne in
       rest x (omega (arith, C .odd)) ∙ a
 
-  Spread : Topology → ℕ → Type 0
-  Spread q x =
-      ((x < m .triangles) × (x ≢ v)
-      × (generation q x ≡ generation m x)) ⊎ ((generation q x ≡ g) ⊎ (generation q x ≡ suc g))
-
-  spread : (x : ℕ) → x < n .triangles
-      → ((x < m .triangles) × (x ≢ v)
-      × (generation n x ≡ generation m x)) ⊎ ((generation n x ≡ g) ⊎ (generation n x ≡ suc g))
-  unfolding Spread
+  spread : (x : ℕ) → x < n .triangles → Spread v g m n x
   spread x l =
       go (settled-spread (m .vertices) g x S (C .children) (C .distinct))
       (C .spread x (omega (arith, settled-same S .triangles)))
     where
-      go : (generation n x ≡ generation one x) ⊎ (generation n x ≡ suc g) → Spread one x → Spread n x
+      go : (generation n x ≡ generation one x) ⊎ (generation n x ≡ suc g) → Spread v g m one x → Spread v g m n x
       go (inr z) w = inr (inr z)
       go (inl z) (inl w) = inl (w .0, w .1, z ∙ w .2)
       go (inl z) (inr (inl w)) = inr (inl (z ∙ w))
@@ -227,10 +216,7 @@ module _ (v g : ℕ) (cs : List ℕ) (p r : ℕ) (m one n : Topology) (F : Manif
       → generation n x ≤ q
   most q K i x l = go (spread x l)
     where
-      go :
-          ((x < m .triangles) × (x ≢ v)
-          × (generation n x ≡ generation m x)) ⊎ ((generation n x ≡ g) ⊎ (generation n x ≡ suc g))
-          → generation n x ≤ q
+      go : Spread v g m n x → generation n x ≤ q
       go (inl a) = omega (arith, a .2, K x (a .0))
       go (inr (inl a)) = omega arith
       go (inr (inr a)) = omega arith
@@ -269,26 +255,24 @@ module _ (v g : ℕ) (cs : List ℕ) (p r : ℕ) (m one n : Topology) (F : Manif
     shift = λ h l e. slide h l (not-v (h / 3) e) (ℕ-discrete (link m h / 3) v);
   }
     where
-      kid : (y : ℕ) → Among cs y → Dec (y < m .triangles) → Written m one y
-      kid y a (yes q) =
-          inr (λ z. omega (arith, C .own, subst (λ (w : ℕ). generation one w ≡ generation m w) (C .mine y q a) z))
-      kid y a (no q) = inl (omega arith)
+      not-v : (x : ℕ) → generation one x ≡ generation m x → x ≢ v
+      not-v x = unchanged-not m one (λ z. omega (arith, C .own))
+
+      child-written : (y : ℕ) → Among cs y → Dec (y < m .triangles) → Written m one y
+      child-written y a (yes q) = inr (λ z. not-v y z (C .mine y q a))
+      child-written y a (no q) = inl (omega arith)
 
       slide : (h : ℕ) → h < sides m → h / 3 ≢ v → Dec (link m h / 3 ≡ v)
           → (link one h ≡ link m h) ⊎ Written m one (link one h / 3)
       slide h l i (no q) = inl (C .links h l i q)
       slide h l i (yes q) =
           inr
-          (kid (link one h / 3) (onto-among cs (link one h) (C .into h l i q)) (decLt (link one h / 3) (m .triangles)))
+          (child-written (link one h / 3) (onto-among cs (link one h) (C .into h l i q))
+          (decLt (link one h / 3) (m .triangles)))
 
       up : (x : ℕ) → x < m .triangles → Dec (x ≡ v) → generation m x ≤ generation one x
       up x l (yes q) = rw q (omega (arith, C .own))
       up x l (no q) = omega (arith, C .generations x l q)
-
-      not-v : (x : ℕ) → generation one x ≡ generation m x → x ≢ v
-      not-v x e q =
-          let z : generation one v ≡ generation m v = subst (λ (y : ℕ). generation one y ≡ generation m y) q e in
-          omega (arith, C .own)
 
       away : (h : ℕ)
           → (link m h ≡ boundary) ⊎ ((link m h < sides m)

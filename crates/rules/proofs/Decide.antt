@@ -1,13 +1,14 @@
 -- Tests and what they decide.
-use mathlib.Core.Path.{_≡_, refl, sym, subst}
+use mathlib.Core.Path.{_≡_, refl, sym, subst, ap}
 use mathlib.Core.Logic.{_⊎_, inl, inr}
 use mathlib.Core.Bool.{Bool, true, false, not, _&&_, _||_}
-use Prim.Native.Nat.{ℕ, zero, suc, _+_, _≤_, _<_}
+use Prim.Native.Nat.{ℕ, zero, suc, _+_, _≤_, _<_, _%_}
 use native.Mathlib.Numerals.{add-one}
 use native.Mathlib.Omega.{arith}
 use native.Mathlib.Decide.{ℕ-discrete}
 use lib.Dec.{T, eqb, leb, ltb, lt→ltb, ltb→lt, le→leb, leb→le, eqb-refl, eqb→eq}
-use Rattle.rules.specs.Below.{all, lowest, any}
+use Rattle.rules.specs.Below.{all, lowest, any, bit}
+use Rattle.rules.specs.Tables.{odd}
 
 -- The test b says whether P holds.
 pub record Decides (b : Bool) (P : Type 0) : Type 0 where
@@ -42,12 +43,27 @@ is-false n = record { holds = λ x. absurd x; passes = n }
 pub when-true : {b : Bool} {P : Type 0} → Decides b P → b ≡ true → P
 when-true d e = d .holds (subst T (sym e) tt)
 
+pub when-false : {b : Bool} {P : Type 0} → Decides b P → b ≡ false → ¬ P
+when-false d e p = subst T e (d .passes p)
+
+-- What a test decides holds where it cannot fail.
+pub stable : {b : Bool} {P : Type 0} → Decides b P → ¬ (¬ P) → P
+stable {b = true} d n = d .holds tt
+stable {b = false} d n = absurd (n (d .passes))
+
 -- Tests of one thing are equal.
 pub is-same : {a b : Bool} {P : Type 0} → Decides a P → Decides b P → a ≡ b
 is-same {a = true} {b = true} d e = refl
 is-same {a = true} {b = false} d e = absurd (e .passes (d .holds tt))
 is-same {a = false} {b = true} d e = absurd (d .passes (e .holds tt))
 is-same {a = false} {b = false} d e = refl
+
+-- A test counts 1 or 0.
+pub bit-yes : {b : Bool} {P : Type 0} → Decides b P → P → bit b ≡ 1
+bit-yes d p = ap bit (is-same d (is-true p))
+
+pub bit-no : {b : Bool} {P : Type 0} → Decides b P → ¬ P → bit b ≡ 0
+bit-no d n = ap bit (is-same d (is-false n))
 
 -- A second test that says what it should only where the first holds.
 pub is-then : {a b : Bool} {P Q : Type 0} → Decides a P → (P → Decides b Q) → Decides (a && b) (P × Q)
@@ -65,6 +81,23 @@ is-or {a = false} d e = record {
   holds = λ x. inr (e .holds x);
   passes = λ p. elim p [ inl q ↦ absurd (d .passes q) | inr q ↦ e .passes q ];
 }
+
+-- ---- odd and even generations
+
+pub odd-is : (g : ℕ) → Decides (odd g) (g % 2 ≡ 1)
+odd-is g = is-eq (g % 2) 1
+
+pub even-is : (g : ℕ) → Decides (not (odd g)) (g % 2 ≡ 0)
+even-is g = is-iff (λ n. omega arith) (λ e q. omega arith) (is-not (odd-is g))
+
+-- What the test `odd` says of them.
+pub odd-test : (g : ℕ) → g % 2 ≡ 1 → odd g ≡ true
+odd-test g o = is-same (odd-is g) (is-true o)
+
+pub even-test : (g : ℕ) → g % 2 ≡ 0 → odd g ≡ false
+even-test g e = is-same (odd-is g) (is-false (omega arith))
+
+-- ---- all numbers below n
 
 -- Every number below n.
 pub is-all : (n : ℕ) (p : ℕ → Bool) (P : ℕ → Type 0) → ((h : ℕ) → h < n → Decides (p h) (P h))
@@ -108,14 +141,14 @@ lowest-is (suc n) p = go (lowest n p) (lowest-is n p) (ltb (lowest n p) n) refl 
     go : (k : ℕ) → Lowest n p k → (b : Bool) → ltb k n ≡ b → (c : Bool) → p n ≡ c
         → Lowest (suc n) p (elim b [ true ↦ k | false ↦ elim c [ true ↦ n | false ↦ suc n ] ])
     go k L true e c f =
-        let l : k < n = ltb→lt k n (subst T (sym e) tt) in
+        let l = when-true (is-lt k n) e in
         record { most = omega arith; passes = λ _. L .passes l; none = L .none }
     go k L false e true f =
-        let n′ : ¬ (k < n) = λ q. subst T e (lt→ltb k n q) in
+        let n′ = when-false (is-lt k n) e in
         let m = L .most in
         record { most = omega arith; passes = λ _. subst T (sym f) tt; none = λ h l. L .none h (omega arith) }
     go k L false e false f =
-        let n′ : ¬ (k < n) = λ q. subst T e (lt→ltb k n q) in
+        let n′ = when-false (is-lt k n) e in
         let m = L .most in
         record {
           most = omega arith;

@@ -1,19 +1,20 @@
 -- Edges and boundary sides, counted.
 use mathlib.Core.Path.{_≡_, refl, sym, ap, _∙_}
 use mathlib.Core.Logic.{_≢_, inl, inr}
-use mathlib.Core.Bool.{Bool, true, false}
-use Prim.Native.Nat.{ℕ, _+_, _*_, _/_, _≤_, _<_}
+use mathlib.Core.Bool.{Bool, _&&_}
+use Prim.Native.Nat.{ℕ, _+_, _*_, _/_, _<_}
 use native.Mathlib.Omega.{arith}
-use native.Mathlib.Decide.{ℕ-discrete}
-use lib.Dec.{T, eqb, ltb, lt→ltb, ltb→lt}
+use native.Mathlib.Decide.{decLt}
+use lib.Dec.{eqb, ltb}
 use Rattle.rules.proofs.Bases.{Settling, kept, flipped}
+use Rattle.rules.proofs.Decide.{Decides, is-eq, is-lt, is-iff, is-same, bit-yes, bit-no, is-and}
 use Rattle.rules.proofs.FlipKeeps.{BasesMeet, meet-back}
-use Rattle.rules.proofs.FlipRead.{Flips}
-use Rattle.rules.proofs.Manifold.{Manifold, Joined}
-use Rattle.rules.proofs.Sides.{renameTwo, eqb-yes, eqb-no, rename-a, rename-b, rename-else}
-use Rattle.rules.proofs.SplitKeeps.{no-self}
-use Rattle.rules.proofs.SplitRead.{Splits}
-use Rattle.rules.proofs.Sums.{total-same, total-change, total-zero, total-add, total-swap, total-one, total-const, total-change₂, row, total-rows, total-two, zero-each}
+use Rattle.rules.proofs.FlipRead.{Flips, flipName}
+use Rattle.rules.proofs.Manifold.{Manifold, Joined, few, partnered-with, no-self}
+use Rattle.rules.proofs.Sides.{renameTwo, by-rename}
+use Rattle.rules.proofs.SplitRead.{Splits, splitName}
+use Rattle.rules.proofs.Sums.{total-same, total-change, total-zero, total-add, total-swap, total-one}
+use Rattle.rules.proofs.Sums.{total-const, total-change₂, row, row-same, total-rows, total-two, zero-each}
 use Rattle.rules.specs.Below.{total, bit, count}
 use Rattle.rules.specs.History.{edges}
 use Rattle.rules.specs.Tables.{Topology, sides, boundary, link}
@@ -21,118 +22,82 @@ use Rattle.rules.specs.Tables.{Topology, sides, boundary, link}
 unfoldable pub boundarySides : Topology → ℕ
 boundarySides m = count (sides m) (λ h. eqb (link m h) boundary)
 
--- ---- bits
-
-pub bit-eq : (a b : ℕ) → a ≡ b → bit (eqb a b) ≡ 1
-bit-eq a b e = ap (λ (x : ℕ). bit (eqb x b)) e ∙ ap bit (eqb-yes b)
-
-pub bit-ne : (a b : ℕ) → a ≢ b → bit (eqb a b) ≡ 0
-bit-ne a b n = ap bit (eqb-no a b n)
-
-bit-lt : (a b : ℕ) → a < b → bit (ltb a b) ≡ 1
-bit-lt a b l = go (ltb a b) (lt→ltb a b l)
-  where
-    go : (c : Bool) → T c → bit c ≡ 1
-    go true t = refl
-    go false t = absurd t
-
-bit-ge : (a b : ℕ) → b ≤ a → bit (ltb a b) ≡ 0
-bit-ge a b l = go (ltb a b) (ltb→lt a b)
-  where
-    go : (c : Bool) → (T c → a < b) → bit c ≡ 0
-    go true t = let x = t tt in absurd (omega arith)
-    go false t = refl
-
-abbrev gate : Bool → ℕ → ℕ
-gate true x = x
-gate false x = 0
-
-gate-yes : (a b x : ℕ) → a ≡ b → gate (eqb a b) x ≡ x
-gate-yes a b x e = ap (λ (y : ℕ). gate (eqb y b) x) e ∙ ap (λ (c : Bool). gate c x) (eqb-yes b)
-
-gate-no : (a b x : ℕ) → a ≢ b → gate (eqb a b) x ≡ 0
-gate-no a b x n = ap (λ (c : Bool). gate c x) (eqb-no a b n)
-
 -- ---- twice the edges
 
 module _ (m : Topology) (F : Manifold m) where
-  pub few : 3 * m .triangles < boundary
-  few = omega (arith, F .slots, F .generationRoom)
+  -- Side h leads up to its partner j.
+  upTo : ℕ → ℕ → Bool
+  upTo h j = eqb (link m h) j && ltb h j
 
-  A : ℕ → ℕ → ℕ
-  A h j = gate (eqb (link m h) j) (bit (ltb h j))
+  up-to-is : (h j : ℕ) → Decides (upTo h j) ((link m h ≡ j) × (h < j))
+  unfolding upTo
+  up-to-is h j = is-and (is-eq (link m h) j) (is-lt h j)
 
   up : ℕ → ℕ
-  up h = total (3 * m .triangles) (A h)
+  up h = count (sides m) (upTo h)
 
   down : ℕ → ℕ
-  down j = total (3 * m .triangles) (λ h. A h j)
+  down j = count (sides m) (λ h. upTo h j)
 
   up-is : (h : ℕ) → h < sides m → bit (ltb h (link m h)) ≡ bit (eqb (link m h) boundary) + up h
-  unfolding up A
+  unfolding up
   up-is h l = go (F .linked h l)
     where
-      go : Joined m h → bit (ltb h (link m h)) ≡ bit (eqb (link m h) boundary) + total (3 * m .triangles) (A h)
+      go : Joined m h → bit (ltb h (link m h)) ≡ bit (eqb (link m h) boundary) + count (sides m) (upTo h)
       go (inl e) =
-          let a : total (3 * m .triangles) (A h) ≡ 0 =
-          total-zero (3 * m .triangles) (A h)
-          (λ j k. gate-no (link m h) j (bit (ltb h j)) (let w = few in omega arith)) in
-          let b = bit-lt h (link m h) (let w = few in omega arith) in
-          let c = bit-eq (link m h) boundary e in
+          let w = few m F in
+          let a = total-zero (sides m) (λ j. bit (upTo h j)) (λ j k. bit-no (up-to-is h j) (λ q. omega arith)) in
+          let b = bit-yes (is-lt h (link m h)) (omega arith) in
+          let c = bit-yes (is-eq (link m h) boundary) e in
           omega arith
       go (inr M) =
+          let w = few m F in
           let i : link m h < sides m = M .inUse in
-          let a : total (3 * m .triangles) (A h) ≡ A h (link m h) =
-          total-one (3 * m .triangles) (link m h) (A h) i
-          (λ j k n. gate-no (link m h) j (bit (ltb h j)) (λ q. n (sym q))) in
-          let b : A h (link m h) ≡ bit (ltb h (link m h)) =
-          gate-yes (link m h) (link m h) (bit (ltb h (link m h))) refl in
-          let c = bit-ne (link m h) boundary (let w = few in omega arith) in
+          let a : count (sides m) (upTo h) ≡ bit (upTo h (link m h)) =
+          total-one (sides m) (link m h) (λ j. bit (upTo h j)) i
+          (λ j k n. bit-no (up-to-is h j) (λ q. n (sym (q .0)))) in
+          let b : bit (upTo h (link m h)) ≡ bit (ltb h (link m h)) =
+          ap bit (is-same (up-to-is h (link m h)) (is-iff (λ x. (refl, x)) (λ x. x .1) (is-lt h (link m h)))) in
+          let c = bit-no (is-eq (link m h) boundary) (omega arith) in
           omega arith
 
   down-is : (j : ℕ) → j < sides m → bit (ltb (link m j) j) ≡ down j
-  unfolding down A
+  unfolding down
   down-is j l = go (F .linked j l)
     where
       back : (h : ℕ) → h < sides m → link m h ≡ j → link m j ≡ h
-      back h i e = at-pair (F .linked h i)
-        where
-          at-pair : Joined m h → link m j ≡ h
-          at-pair (inl q) = let w = few in absurd (omega arith)
-          at-pair (inr M) = rw e at (M .back)
+      back h i e = rw e at (partnered-with F i e l .back)
 
-      go : Joined m j → bit (ltb (link m j) j) ≡ total (3 * m .triangles) (λ h. A h j)
+      go : Joined m j → bit (ltb (link m j) j) ≡ count (sides m) (λ h. upTo h j)
       go (inl e) =
-          let w = few in
-          bit-ge (link m j) j (omega arith) ∙ sym (total-zero (3 * m .triangles) (λ h. A h j) (λ h k. gate-no (link m h) j (bit (ltb h j)) (λ q. let z = back h k q in omega arith)))
+          let w = few m F in
+          bit-no (is-lt (link m j) j) (λ q. omega arith)
+          ∙ sym (total-zero (sides m) (λ h. bit (upTo h j))
+          (λ h k. bit-no (up-to-is h j) (λ q. let z = back h k (q .0) in omega arith)))
       go (inr M) =
-          let a : total (3 * m .triangles) (λ h. A h j) ≡ A (link m j) j =
-          total-one (3 * m .triangles) (link m j) (λ h. A h j) (M .inUse)
-          (λ h k n. gate-no (link m h) j (bit (ltb h j)) (λ q. n (sym (back h k q)))) in
-          sym (a ∙ gate-yes (link m (link m j)) j (bit (ltb (link m j) j)) (M .back))
+          let a : count (sides m) (λ h. upTo h j) ≡ bit (upTo (link m j) j) =
+          total-one (sides m) (link m j) (λ h. bit (upTo h j)) (M .inUse)
+          (λ h k n. bit-no (up-to-is h j) (λ q. n (sym (back h k (q .0))))) in
+          sym (a ∙ ap bit (is-same (up-to-is (link m j) j)
+          (is-iff (λ x. (M .back, x)) (λ x. x .1) (is-lt (link m j) j))))
 
   one-way : (h : ℕ) → h < sides m → bit (ltb h (link m h)) + bit (ltb (link m h) h) ≡ 1
-  one-way h l = go (F .linked h l) (ℕ-discrete (bit (ltb h (link m h))) 1)
+  one-way h l = go (decLt h (link m h))
     where
-      ne : Joined m h → link m h ≢ h
-      ne (inl e) q = let w = few in omega arith
-      ne (inr M) q = no-self m h F l M (ap (λ (x : ℕ). x / 3) q)
+      differ : Joined m h → link m h ≢ h
+      differ (inl e) q = let w = few m F in omega arith
+      differ (inr M) q = no-self m h F l M (ap (λ (x : ℕ). x / 3) q)
 
-      go : Joined m h → Dec (bit (ltb h (link m h)) ≡ 1) → bit (ltb h (link m h)) + bit (ltb (link m h) h) ≡ 1
-      go L (yes e) = at-pair (ltb h (link m h)) (ltb→lt h (link m h)) e
-        where
-          at-pair : (c : Bool) → (T c → h < link m h) → bit c ≡ 1 → bit c + bit (ltb (link m h) h) ≡ 1
-          at-pair true t x = let y = t tt in let z = bit-ge (link m h) h (omega arith) in omega arith
-          at-pair false t x = absurd (omega arith)
-      go L (no e) =
-          let n = ne L in
-          let i : link m h ≤ h = lnk≤ (λ q. e (bit-lt h (link m h) q)) in
-          let a = bit-ge h (link m h) i in
-          let b = bit-lt (link m h) h (omega arith) in
+      go : Dec (h < link m h) → bit (ltb h (link m h)) + bit (ltb (link m h) h) ≡ 1
+      go (yes q) =
+          let a = bit-yes (is-lt h (link m h)) q in
+          let b = bit-no (is-lt (link m h) h) (λ r. omega arith) in
           omega arith
-        where
-          lnk≤ : (h < link m h → ⊥) → link m h ≤ h
-          lnk≤ k = omega (arith, k)
+      go (no q) =
+          let n = differ (F .linked h l) in
+          let a = bit-no (is-lt h (link m h)) q in
+          let b = bit-yes (is-lt (link m h) h) (omega arith) in
+          omega arith
 
   -- A linked pair has two sides and a boundary side one.
   pub edges-boundary : 2 * edges m ≡ 3 * m .triangles + boundarySides m
@@ -141,9 +106,9 @@ module _ (m : Topology) (F : Manifold m) where
       let n : ℕ = 3 * m .triangles in
       let e : total n (λ h. bit (ltb h (link m h))) ≡ total n (λ h. bit (eqb (link m h) boundary) + up h) =
       total-same n _ _ up-is in
-      let a : total n (λ h. bit (eqb (link m h) boundary) + up h) ≡ total n (λ h. bit (eqb (link m h) boundary)) + total n up = total-add n (λ h. bit (eqb (link m h) boundary)) up in
+      let a = total-add n (λ h. bit (eqb (link m h) boundary)) up in
       let d : total n (λ h. bit (ltb (link m h) h)) ≡ total n down = total-same n _ _ down-is in
-      let s : total n up ≡ total n down = total-swap n n A in
+      let s : total n up ≡ total n down = total-swap n n (λ h j. bit (upTo h j)) in
       let o : total n (λ h. bit (ltb h (link m h)) + bit (ltb (link m h) h)) ≡ total n (λ h. 1) =
       total-same n _ _ one-way in
       let p = total-add n (λ h. bit (ltb h (link m h))) (λ h. bit (ltb (link m h) h)) in
@@ -152,34 +117,32 @@ module _ (m : Topology) (F : Manifold m) where
 
 -- ---- the boundary sides stay as many
 
-w : Topology → ℕ → ℕ
-w m h = bit (eqb (link m h) boundary)
+-- 1 for a side on the boundary.
+boundaryBit : Topology → ℕ → ℕ
+boundaryBit m h = bit (eqb (link m h) boundary)
 
-boundary-rows : (m : Topology) → boundarySides m ≡ total (m .triangles) (row (w m))
-unfolding boundarySides w
-boundary-rows m = total-rows (m .triangles) (w m)
+boundary-rows : (m : Topology) → boundarySides m ≡ total (m .triangles) (row (boundaryBit m))
+unfolding boundarySides boundaryBit
+boundary-rows m = total-rows (m .triangles) (boundaryBit m)
 
-w-is : (m : Topology) (h k : ℕ) → link m h ≡ k → w m h ≡ bit (eqb k boundary)
-unfolding w
-w-is m h k e = ap (λ (x : ℕ). bit (eqb x boundary)) e
+boundary-bit : (m : Topology) (h k : ℕ) → link m h ≡ k → boundaryBit m h ≡ bit (eqb k boundary)
+unfolding boundaryBit
+boundary-bit m h k e = ap (λ (x : ℕ). bit (eqb x boundary)) e
 
-w-new : (m : Topology) (h k : ℕ) → link m h ≡ k → k ≢ boundary → w m h ≡ 0
-w-new m h k e n = w-is m h k e ∙ bit-ne k boundary n
+same-bit : (m n : Topology) (h k : ℕ) → link n h ≡ link m k → boundaryBit n h ≡ boundaryBit m k
+unfolding boundaryBit
+same-bit m n h k e = ap (λ (x : ℕ). bit (eqb x boundary)) e
+
+linked-bit : (m : Topology) (h k : ℕ) → link m h ≡ k → k ≢ boundary → boundaryBit m h ≡ 0
+linked-bit m h k e n = boundary-bit m h k e ∙ bit-no (is-eq k boundary) n
 
 rename-boundary : (a a′ b b′ k : ℕ) → a ≢ b → a ≢ boundary → a′ ≢ boundary → b ≢ boundary → b′ ≢ boundary
     → bit (eqb (renameTwo a a′ b b′ k) boundary) ≡ bit (eqb k boundary)
-rename-boundary a a′ b b′ k ne x x′ y y′ = go (ℕ-discrete k a) (ℕ-discrete k b)
-  where
-    go : Dec (k ≡ a) → Dec (k ≡ b) → bit (eqb (renameTwo a a′ b b′ k) boundary) ≡ bit (eqb k boundary)
-    go (yes e) d =
-        ap (λ (z : ℕ). bit (eqb (renameTwo a a′ b b′ z) boundary)) e ∙ ap (λ (z : ℕ). bit (eqb z boundary))
-        (rename-a a a′ b b′)
-        ∙ bit-ne a′ boundary x′ ∙ sym (ap (λ (z : ℕ). bit (eqb z boundary)) e ∙ bit-ne a boundary x)
-    go (no e) (yes f) =
-        ap (λ (z : ℕ). bit (eqb (renameTwo a a′ b b′ z) boundary)) f ∙ ap (λ (z : ℕ). bit (eqb z boundary))
-        (rename-b a a′ b b′ ne)
-        ∙ bit-ne b′ boundary y′ ∙ sym (ap (λ (z : ℕ). bit (eqb z boundary)) f ∙ bit-ne b boundary y)
-    go (no e) (no f) = ap (λ (z : ℕ). bit (eqb z boundary)) (rename-else a a′ b b′ k e f)
+rename-boundary a a′ b b′ k ne x x′ y y′ =
+    by-rename a a′ b b′ (λ z. bit (eqb z boundary) ≡ bit (eqb k boundary)) ne k
+    (λ e. bit-no (is-eq a′ boundary) x′ ∙ sym (bit-no (is-eq k boundary) (λ q. x (sym e ∙ q))))
+    (λ e. bit-no (is-eq b′ boundary) y′ ∙ sym (bit-no (is-eq k boundary) (λ q. y (sym e ∙ q))))
+    (λ _ _. refl)
 
 pub split-boundary : (t : ℕ) (m n : Topology) → Manifold m → t < m .triangles → Splits t m n
     → boundarySides n ≡ boundarySides m
@@ -188,41 +151,37 @@ split-boundary t m n F b S =
     let e : ℕ = f + 1 in
     let q : 3 * f < boundary = few m F in
     let q′ : 3 * e + 2 < boundary = omega (arith, F .slots, F .generationRoom) in
-    let t₁ = w-new n (3 * t + 1) (3 * f + 2) (S .linksT .1) (omega arith) in
-    let t₂ = w-new n (3 * t + 2) (3 * e + 1) (S .linksT .2) (omega arith) in
-    let f₁ = w-new n (3 * f + 1) (3 * e + 2) (S .linksF .1) (omega arith) in
-    let f₂ = w-new n (3 * f + 2) (3 * t + 1) (S .linksF .2) (omega arith) in
-    let e₁ = w-new n (3 * e + 1) (3 * t + 2) (S .linksE .1) (omega arith) in
-    let e₂ = w-new n (3 * e + 2) (3 * f + 1) (S .linksE .2) (omega arith) in
-    let t₀ : w n (3 * t) ≡ w m (3 * t) = same (3 * t) (3 * t) (S .linksT .0) in
-    let f₀ : w n (3 * f) ≡ w m (3 * t + 1) = same (3 * f) (3 * t + 1) (S .linksF .0) in
-    let e₀ : w n (3 * e) ≡ w m (3 * t + 2) = same (3 * e) (3 * t + 2) (S .linksE .0) in
-    let c : total f (row (w n)) + row (w m) t ≡ total f (row (w m)) + row (w n) t =
-    total-change f t (row (w m)) (row (w n)) b (λ x l i. far x l i) in
-    let d : total (n .triangles) (row (w n)) ≡ total f (row (w n)) + row (w n) f + row (w n) e =
-    ap (λ (x : ℕ). total x (row (w n))) (S .triangles) ∙ total-two f (row (w n)) in
+    let t₁ = linked-bit n (3 * t + 1) (3 * f + 2) (S .linksT .1) (omega arith) in
+    let t₂ = linked-bit n (3 * t + 2) (3 * e + 1) (S .linksT .2) (omega arith) in
+    let f₁ = linked-bit n (3 * f + 1) (3 * e + 2) (S .linksF .1) (omega arith) in
+    let f₂ = linked-bit n (3 * f + 2) (3 * t + 1) (S .linksF .2) (omega arith) in
+    let e₁ = linked-bit n (3 * e + 1) (3 * t + 2) (S .linksE .1) (omega arith) in
+    let e₂ = linked-bit n (3 * e + 2) (3 * f + 1) (S .linksE .2) (omega arith) in
+    let t₀ : boundaryBit n (3 * t) ≡ boundaryBit m (3 * t) = same-bit m n (3 * t) (3 * t) (S .linksT .0) in
+    let f₀ : boundaryBit n (3 * f) ≡ boundaryBit m (3 * t + 1) = same-bit m n (3 * f) (3 * t + 1) (S .linksF .0) in
+    let e₀ : boundaryBit n (3 * e) ≡ boundaryBit m (3 * t + 2) = same-bit m n (3 * e) (3 * t + 2) (S .linksE .0) in
+    let c : total f (row (boundaryBit n)) + row (boundaryBit m) t
+    ≡ total f (row (boundaryBit m)) + row (boundaryBit n) t =
+    total-change f t (row (boundaryBit m)) (row (boundaryBit n)) b (λ x l i. far x l i) in
+    let d : total (n .triangles) (row (boundaryBit n))
+    ≡ total f (row (boundaryBit n)) + row (boundaryBit n) f + row (boundaryBit n) e =
+    ap (λ (x : ℕ). total x (row (boundaryBit n))) (S .triangles) ∙ total-two f (row (boundaryBit n)) in
     boundary-rows n ∙ omega (arith, boundary-rows m)
   where
-    same : (h k : ℕ) → link n h ≡ link m k → w n h ≡ w m k
-    same h k e = w-is n h (link m k) e ∙ sym (w-is m k (link m k) refl)
-
-    one : (h : ℕ) → h < sides m → h / 3 ≢ t → w m h ≡ w n h
+    one : (h : ℕ) → h < sides m → h / 3 ≢ t → boundaryBit m h ≡ boundaryBit n h
     one h l i =
         let q : 3 * m .triangles < boundary = few m F in
         let q′ : 3 * (m .triangles + 1) < boundary = omega (arith, F .slots, F .generationRoom) in
-        w-is m h (link m h) refl
-        ∙ sym
-        (w-is n h (renameTwo (3 * t + 1) (3 * m .triangles) (3 * t + 2) (3 * (m .triangles + 1)) (link m h))
+        boundary-bit m h (link m h) refl
+        ∙ sym (boundary-bit n h (splitName t (m .triangles) (link m h))
         (S .links h l i)
         ∙ rename-boundary (3 * t + 1) (3 * m .triangles) (3 * t + 2) (3 * (m .triangles + 1)) (link m h)
         (omega arith) (omega arith) (omega arith) (omega arith) (omega arith))
 
-    far : (x : ℕ) → x < m .triangles → x ≢ t → row (w m) x ≡ row (w n) x
+    far : (x : ℕ) → x < m .triangles → x ≢ t → row (boundaryBit m) x ≡ row (boundaryBit n) x
     far x l i =
-        let a = one (3 * x) (omega arith) (omega arith) in
-        let b′ = one (3 * x + 1) (omega arith) (omega arith) in
-        let c = one (3 * x + 2) (omega arith) (omega arith) in
-        omega arith
+        row-same (boundaryBit m) (boundaryBit n) x (one (3 * x) (omega arith) (omega arith))
+        (one (3 * x + 1) (omega arith) (omega arith)) (one (3 * x + 2) (omega arith) (omega arith))
 
 pub flip-boundary : (s u : ℕ) (m n : Topology) → Manifold m → BasesMeet s u m → Flips s u m n
     → boundarySides n ≡ boundarySides m
@@ -231,40 +190,39 @@ flip-boundary s u m n F B S =
     let bs = B .useS in
     let bu = B .useU in
     let q : 3 * f < boundary = few m F in
-    let s₀ : w n (3 * s) ≡ w m (3 * u + 1) = same (3 * s) (3 * u + 1) (S .linksS .0) in
-    let s₁ = w-new n (3 * s + 1) (3 * u + 1) (S .linksS .1) (omega arith) in
-    let s₂ : w n (3 * s + 2) ≡ w m (3 * s + 2) = same (3 * s + 2) (3 * s + 2) (S .linksS .2) in
-    let u₀ : w n (3 * u) ≡ w m (3 * s + 1) = same (3 * u) (3 * s + 1) (S .linksU .0) in
-    let u₁ = w-new n (3 * u + 1) (3 * s + 1) (S .linksU .1) (omega arith) in
-    let u₂ : w n (3 * u + 2) ≡ w m (3 * u + 2) = same (3 * u + 2) (3 * u + 2) (S .linksU .2) in
-    let a₀ = w-new m (3 * s) (3 * u) (B .meet) (omega arith) in
-    let b₀ = w-new m (3 * u) (3 * s) (meet-back s u m n F B S) (omega arith) in
-    let c : total f (row (w n)) + row (w m) s + row (w m) u ≡ total f (row (w m)) + row (w n) s + row (w n) u =
-    total-change₂ f s u (row (w m)) (row (w n)) bs bu (B .differ) (λ x l i j. far x l i j) in
-    let d : total (n .triangles) (row (w n)) ≡ total f (row (w n)) =
-    ap (λ (x : ℕ). total x (row (w n))) (S .triangles) in
+    let s₀ : boundaryBit n (3 * s) ≡ boundaryBit m (3 * u + 1) = same-bit m n (3 * s) (3 * u + 1) (S .linksS .0) in
+    let s₁ = linked-bit n (3 * s + 1) (3 * u + 1) (S .linksS .1) (omega arith) in
+    let s₂ : boundaryBit n (3 * s + 2) ≡ boundaryBit m (3 * s + 2) =
+    same-bit m n (3 * s + 2) (3 * s + 2) (S .linksS .2) in
+    let u₀ : boundaryBit n (3 * u) ≡ boundaryBit m (3 * s + 1) = same-bit m n (3 * u) (3 * s + 1) (S .linksU .0) in
+    let u₁ = linked-bit n (3 * u + 1) (3 * s + 1) (S .linksU .1) (omega arith) in
+    let u₂ : boundaryBit n (3 * u + 2) ≡ boundaryBit m (3 * u + 2) =
+    same-bit m n (3 * u + 2) (3 * u + 2) (S .linksU .2) in
+    let a₀ = linked-bit m (3 * s) (3 * u) (B .meet) (omega arith) in
+    let b₀ = linked-bit m (3 * u) (3 * s) (meet-back s u m n F B S) (omega arith) in
+    let c : total f (row (boundaryBit n)) + row (boundaryBit m) s + row (boundaryBit m) u
+    ≡ total f (row (boundaryBit m)) + row (boundaryBit n) s + row (boundaryBit n) u =
+    total-change₂ f s u (row (boundaryBit m)) (row (boundaryBit n)) bs bu (B .differ) (λ x l i j. far x l i j) in
+    let d : total (n .triangles) (row (boundaryBit n)) ≡ total f (row (boundaryBit n)) =
+    ap (λ (x : ℕ). total x (row (boundaryBit n))) (S .triangles) in
     boundary-rows n ∙ omega (arith, boundary-rows m)
   where
-    same : (h k : ℕ) → link n h ≡ link m k → w n h ≡ w m k
-    same h k e = w-is n h (link m k) e ∙ sym (w-is m k (link m k) refl)
-
-    one : (h : ℕ) → h < sides m → h / 3 ≢ s → h / 3 ≢ u → w m h ≡ w n h
+    one : (h : ℕ) → h < sides m → h / 3 ≢ s → h / 3 ≢ u → boundaryBit m h ≡ boundaryBit n h
     one h l i j =
         let q : 3 * m .triangles < boundary = few m F in
         let bs = B .useS in
         let bu = B .useU in
         let ne = B .differ in
-        w-is m h (link m h) refl
-        ∙ sym (w-is n h (renameTwo (3 * s + 1) (3 * u) (3 * u + 1) (3 * s) (link m h)) (S .links h l i j)
+        boundary-bit m h (link m h) refl
+        ∙ sym (boundary-bit n h (flipName s u (link m h)) (S .links h l i j)
         ∙ rename-boundary (3 * s + 1) (3 * u) (3 * u + 1) (3 * s) (link m h) (omega arith) (omega arith)
         (omega arith) (omega arith) (omega arith))
 
-    far : (x : ℕ) → x < m .triangles → x ≢ s → x ≢ u → row (w m) x ≡ row (w n) x
+    far : (x : ℕ) → x < m .triangles → x ≢ s → x ≢ u → row (boundaryBit m) x ≡ row (boundaryBit n) x
     far x l i j =
-        let a = one (3 * x) (omega arith) (omega arith) (omega arith) in
-        let b′ = one (3 * x + 1) (omega arith) (omega arith) (omega arith) in
-        let c = one (3 * x + 2) (omega arith) (omega arith) (omega arith) in
-        omega arith
+        row-same (boundaryBit m) (boundaryBit n) x (one (3 * x) (omega arith) (omega arith) (omega arith))
+        (one (3 * x + 1) (omega arith) (omega arith) (omega arith))
+        (one (3 * x + 2) (omega arith) (omega arith) (omega arith))
 
 pub settling-boundary : (c : ℕ) (m n : Topology) → Manifold m → Settling c m n → boundarySides n ≡ boundarySides m
 settling-boundary c m n F (kept x) = refl
@@ -275,10 +233,11 @@ pub no-boundary : (m : Topology) → boundarySides m ≡ 0 → (h : ℕ) → h <
 unfolding boundarySides
 no-boundary m e h l q =
     let a = zero-each (3 * m .triangles) (λ h. bit (eqb (link m h) boundary)) e h l in
-    let b = bit-eq (link m h) boundary q in
+    let b = bit-yes (is-eq (link m h) boundary) q in
     omega arith
 
 pub boundary-none : (m : Topology) → ((h : ℕ) → h < sides m → link m h ≢ boundary) → boundarySides m ≡ 0
 unfolding boundarySides
 boundary-none m n =
-    total-zero (3 * m .triangles) (λ h. bit (eqb (link m h) boundary)) (λ h l. bit-ne (link m h) boundary (n h l))
+    total-zero (3 * m .triangles) (λ h. bit (eqb (link m h) boundary))
+    (λ h l. bit-no (is-eq (link m h) boundary) (n h l))

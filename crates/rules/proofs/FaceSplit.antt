@@ -1,5 +1,5 @@
 -- The face split with its flips.
-use mathlib.Core.Path.{_≡_, refl, sym, ap, _∙_, subst}
+use mathlib.Core.Path.{_≡_, refl, ap, _∙_, subst}
 use mathlib.Core.Logic.{_≢_, _⊎_, inl, inr}
 use mathlib.Core.Bool.{Bool, true, false}
 use mathlib.Core.List.{List, [], _∷_}
@@ -7,27 +7,33 @@ use Prim.Native.Nat.{ℕ, suc, _+_, _*_, _/_, _%_, _≤_, _<_}
 use native.Mathlib.Omega.{arith}
 use lib.ListN.{length, getD}
 use lib.IntN.{pos}
-use Rattle.rules.proofs.Bases.{Settles, boundary-not-base, partner-of, reached, settle-settles, settling-manifold}
-use Rattle.rules.proofs.Cut.{Cut, CutResult, Onto, cut-settled}
+use Rattle.rules.proofs.Bases.{Settles, boundary-not-base, reached, settle-settles, settling-manifold}
+use Rattle.rules.proofs.Cut.{Cut, CutResult, Onto, Spread, cut-settled}
 use Rattle.rules.proofs.Edges.{split-boundary}
-use Rattle.rules.proofs.Manifold.{Partnered, Manifold, Base}
+use Rattle.rules.proofs.Manifold.{Partnered, Manifold, Base, partnered, no-self}
 use Rattle.rules.proofs.Odds.{split-odds, settling-odds}
 use Rattle.rules.proofs.Places.{Places, places-new}
 use Rattle.rules.proofs.Rounding.{third-in-range}
 use Rattle.rules.proofs.Settled.{Settled, done, then, Among, Children, Distinct, children-on}
-use Rattle.rules.proofs.Sides.{renameTwo, rename-a, rename-b, rename-else, by-triangle, by-slot}
-use Rattle.rules.proofs.SplitKeeps.{no-self, split-manifold}
-use Rattle.rules.proofs.SplitRead.{Splits, split-splits}
+use Rattle.rules.proofs.Sides.{by-triangle, by-slot}
+use Rattle.rules.proofs.SplitKeeps.{split-manifold}
+use Rattle.rules.proofs.SplitRead.{Splits, splitName, split-name₀, split-name₁, split-name₂, split-name-else}
+use Rattle.rules.proofs.SplitRead.{split-splits}
 use Rattle.rules.specs.Numbers.{InRange}
 use Rattle.rules.specs.Promises.{odds}
-use Rattle.rules.specs.Split.{Work, split, flip, withSplit, withFlip, centre, splitPlaced, settle, settleAll, faceSplit}
-use Rattle.rules.specs.Tables.{Topology, Mesh, withTopology, sides, origin, boundary, link, generation, isBase, coordinate, putThree}
+use Rattle.rules.specs.Split.{Work, split, flip, withSplit, withFlip, centre, splitPlaced, settle, settleAll}
+use Rattle.rules.specs.Split.{faceSplit}
+use Rattle.rules.specs.Tables.{Topology, Mesh, withTopology, sides, origin, boundary, link, generation, isBase}
+use Rattle.rules.specs.Tables.{coordinate, putThree}
 
 -- Room for 2k triangles more.
 pub record Room (k : ℕ) (m : Topology) : Type 0 where
   pub corners : 3 * (m .triangles + 2 * k) ≤ length (m .corners)
   pub links : 3 * (m .triangles + 2 * k) ≤ length (m .links)
   pub generations : m .triangles + 2 * k ≤ length (m .generations)
+
+pub room-fewer : (s k : ℕ) (m : Topology) → Room s m → k ≤ s → Room k m
+room-fewer s k m R i = omega arith
 
 -- What the base of a child meets has an old centre.
 other : (v : ℕ) (m n : Topology) → Manifold m → Manifold n
@@ -36,7 +42,7 @@ other : (v : ℕ) (m n : Topology) → Manifold m → Manifold n
     → origin n (3 * (link n k / 3) + 2) < m .vertices
 other v m n F N corners h k l i e c =
     let r : link m h ≢ boundary = λ w. boundary-not-base n N (subst (λ (x : ℕ). Base n x) (e ∙ w) c) in
-    let M : Partnered m h = partner-of m h F l r in
+    let M : Partnered m h = partnered (F .linked h l) r in
     let s : link m h / 3 ≢ h / 3 = no-self m h F l M in
     let u : ℕ = link m h / 3 in
     let z : u < m .triangles = omega (arith, M .inUse) in
@@ -47,7 +53,7 @@ other v m n F N corners h k l i e c =
 
 -- ---- the face split
 
-module _ (v : ℕ) (m n : Topology) (F : Manifold m) (b : v < m .triangles) (flat : generation m v % 2 ≡ 0)
+module _ (v : ℕ) (m n : Topology) (F : Manifold m) (b : v < m .triangles) (even : generation m v % 2 ≡ 0)
     (S : Splits v m n) (N : Manifold n) where
   pub face-cut : Cut v (suc (generation m v)) (v ∷ m .triangles ∷ (m .triangles + 1) ∷ []) 1 0 m n
   face-cut =
@@ -98,23 +104,18 @@ module _ (v : ℕ) (m n : Topology) (F : Manifold m) (b : v < m .triangles) (fla
         mine = mine;
         spread =
             by-slot v f (n .triangles)
-            (λ x. ((x < m .triangles) × (x ≢ v) × (generation n x ≡ generation m x)) ⊎ ((generation n x ≡ suc
-            (generation m v)) ⊎ (generation n x ≡ suc (suc (generation m v)))))
-            w
+            (Spread v (suc (generation m v)) m n) w
             (inr (inl (S .generationT))) (inr (inl (S .generationF))) (inr (inl (S .generationE))) (λ x l i. inl
             (l, i, S .generations x l i));
         generations = S .generations;
         corners = S .corners;
-        links = λ h l i j.
-            S .links h l i ∙ rename-else (3 * v + 1) (3 * f) (3 * v + 2) (3 * e) (link m h) (omega arith) (omega arith);
+        links = λ h l i j. S .links h l i ∙ split-name-else v f (link m h) (omega arith) (omega arith);
         into =
             λ h l i. by-triangle
             (λ k. link m h ≡ k → k / 3 ≡ v → Onto (v ∷ m .triangles ∷ (m .triangles + 1) ∷ []) (link n h)) v
-            (λ q _. inl (S .links h l i ∙ ap (renameTwo (3 * v + 1) (3 * f) (3 * v + 2) (3 * e)) q ∙ rename-else
-            (3 * v + 1) (3 * f) (3 * v + 2) (3 * e) (3 * v) (omega arith) (omega arith)))
-            (λ q _. inr (inl (S .links h l i ∙ ap (renameTwo (3 * v + 1) (3 * f) (3 * v + 2) (3 * e)) q ∙ rename-a
-            (3 * v + 1) (3 * f) (3 * v + 2) (3 * e))))
-            (λ q _. inr (inr (inl (S .links h l i ∙ ap (renameTwo (3 * v + 1) (3 * f) (3 * v + 2) (3 * e)) q ∙ rename-b (3 * v + 1) (3 * f) (3 * v + 2) (3 * e) (omega arith)))))
+            (λ q _. inl (renamed h l i q (split-name₀ v f)))
+            (λ q _. inr (inl (renamed h l i q (split-name₁ v f))))
+            (λ q _. inr (inr (inl (renamed h l i q (split-name₂ v f)))))
             (λ k x _ y. absurd (x y)) (link m h) refl;
         bases =
             λ h l x. by-slot v f (n .triangles)
@@ -126,6 +127,10 @@ module _ (v : ℕ) (m n : Topology) (F : Manifold m) (b : v < m .triangles) (fla
         past = λ b i. S .past b (omega arith);
       }
     where
+      renamed : (h : ℕ) → h < sides m → h / 3 ≢ v → {k j : ℕ} → link m h ≡ k → splitName v (m .triangles) k ≡ j
+          → link n h ≡ j
+      renamed h l i q e = S .links h l i ∙ ap (splitName v (m .triangles)) q ∙ e
+
       mine : (x : ℕ) → x < m .triangles → Among (v ∷ m .triangles ∷ (m .triangles + 1) ∷ []) x → x ≡ v
       mine x l (inl q) = q
       mine x l (inr (inl q)) = absurd (omega arith)
@@ -188,7 +193,8 @@ settle-positions s w = go (isBase m (link m (3 * s)))
 -- A face split places its vertex at the centre, and no other.
 pub face-positions : (t : ℕ) (w : Work)
     → faceSplit t w .mesh .positions
-    ≡ putThree (reached w .vertices) (centre (w .mesh) t 0, centre (w .mesh) t 1, centre (w .mesh) t 2) (w .mesh .positions)
+    ≡ putThree (reached w .vertices) (centre (w .mesh) t 0, centre (w .mesh) t 1, centre (w .mesh) t 2)
+    (w .mesh .positions)
 unfolding faceSplit splitPlaced
 face-positions t w = simp settle-positions
 
@@ -215,7 +221,7 @@ module _ (v : ℕ) (w : Work) (F : Manifold (reached w)) (b : v < reached w .tri
   pub face-splitting : generation (reached w) v % 2 ≡ 0
       → Splitting v (suc (generation (reached w) v)) 1 0 w (faceSplit v w)
   unfolding faceSplit splitPlaced
-  face-splitting flat =
+  face-splitting even =
       let rc = R .corners in
       let rl = R .links in
       let rg = R .generations in
@@ -223,8 +229,8 @@ module _ (v : ℕ) (w : Work) (F : Manifold (reached w)) (b : v < reached w .tri
       let cs : List ℕ = v ∷ m .triangles ∷ (m .triangles + 1) ∷ [] in
       let S : Splits v m (split v m) = split-splits v m F b (omega arith) (omega arith) (omega arith) in
       let N : Manifold (split v m) =
-      split-manifold v m (split v m) F b flat S (omega arith) (omega arith) (omega arith) in
-      let C = face-cut v m (split v m) F b flat S N in
+      split-manifold v m (split v m) F b even S (omega arith) (omega arith) (omega arith) in
+      let C = face-cut v m (split v m) F b even S N in
       let A =
       settles-all (m .vertices) (suc (generation m v)) cs (withSplit (splitPlaced v (w .mesh)) w) N (C .children)
       (C .distinct) in
@@ -234,12 +240,11 @@ module _ (v : ℕ) (w : Work) (F : Manifold (reached w)) (b : v < reached w .tri
       record {
         result = result;
         splits = K .splits;
-        odd = omega (arith, K .odd, split-odds v m (split v m) b flat S);
+        odd = omega (arith, K .odd, split-odds v m (split v m) b even S);
         places = places-new (w .mesh) (faceSplit v w .mesh) _ (omega (arith, result .vertices)) (face-positions v w)
             (λ a. (
               centre-in-range (w .mesh) v 0 F b (omega arith) a,
-              centre-in-range (w .mesh) v 1 F b
-                  (omega arith) a,
+              centre-in-range (w .mesh) v 1 F b (omega arith) a,
               centre-in-range (w .mesh) v 2 F b (omega arith) a,
             ));
       }

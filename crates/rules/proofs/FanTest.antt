@@ -8,7 +8,8 @@ use native.Mathlib.Decide.{ℕ-discrete, decLe}
 use lib.ListN.{length}
 use lib.Dec.{T, eqb}
 use Rattle.rules.proofs.Decide.{Decides, is-eq, is-lt, is-iff, is-and}
-use Rattle.rules.proofs.Fans.{Walked, Inside, Starts, sideAt, Meets, walk-walked, first-side, first-in-use, fan-walked, fan-some}
+use Rattle.rules.proofs.Fans.{Walked, Inside, Starts, sideAt, Meets, walk-walked, first-side, first-in-use}
+use Rattle.rules.proofs.Fans.{fan-walked, fan-some}
 use Rattle.rules.proofs.Pigeonhole.{no-more, each-reached, as-many}
 use Rattle.rules.proofs.Renaming.{turns-trans}
 use Rattle.rules.proofs.Turning.{Glued, rotate-inner, before}

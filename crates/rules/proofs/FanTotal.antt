@@ -1,17 +1,15 @@
 -- One walk for each vertex: together they meet every side exactly where each vertex has one fan.
-use mathlib.Core.Path.{_≡_, refl, sym, _∙_}
-use Prim.Native.Nat.{ℕ, _≤_, _<_}
-use native.Mathlib.Omega.{arith}
+use mathlib.Core.Path.{_≡_, sym, _∙_}
+use Prim.Native.Nat.{ℕ, _<_}
 use lib.Dec.{eqb}
 use lib.ListN.{length}
 use Rattle.rules.proofs.Decide.{Decides, is-eq, is-iff}
-use Rattle.rules.proofs.Edges.{bit-eq, bit-ne}
-use Rattle.rules.proofs.FanTest.{no-more-met, all-met, met-fan, all-counted, reach}
+use Rattle.rules.proofs.FanTest.{no-more-met, all-met, met-fan, reach, all-counted}
 use Rattle.rules.proofs.Fans.{Walked, Starts, walk-walked}
-use Rattle.rules.proofs.Pigeonhole.{total-tight}
-use Rattle.rules.proofs.Sums.{total-same, total-swap, total-one, total-const}
+use Rattle.rules.proofs.Pigeonhole.{counted-by-value}
+use Rattle.rules.proofs.Sums.{total-same, total-tight}
 use Rattle.rules.proofs.Turning.{Glued}
-use Rattle.rules.specs.Below.{total, bit}
+use Rattle.rules.specs.Below.{total}
 use Rattle.rules.specs.Promises.{triangleCount}
 use Rattle.rules.specs.Ring.{fanFrom}
 use Rattle.rules.specs.Sound.{OneFan}
@@ -24,14 +22,7 @@ walkLength m s = length (fanFrom (m .triangles) m s s)
 module _ (m : Topology) (corner : (h : ℕ) → h < sides m → origin m h < m .vertices) where
   -- Each side goes out of one vertex.
   sides-counted : total (m .vertices) (triangleCount m) ≡ sides m
-  sides-counted =
-      let a = total-swap (m .vertices) (sides m) (λ v h. bit (eqb (origin m h) v)) in
-      let b : total (sides m) (λ h. total (m .vertices) (λ v. bit (eqb (origin m h) v))) ≡ total (sides m) (λ h. 1) =
-      total-same (sides m) _ _ (λ h l.
-      total-one (m .vertices) (origin m h) (λ v. bit (eqb (origin m h) v)) (corner h l) (λ v k o. bit-ne (origin m h) v (λ q. o (sym q)))
-      ∙ bit-eq (origin m h) (origin m h) refl) in
-      let c = total-const (sides m) 1 in
-      omega arith
+  sides-counted = counted-by-value (m .vertices) (sides m) (origin m) corner
 
   module _ (G : Glued m) (start : ℕ → ℕ) (S : (v : ℕ) → v < m .vertices → Starts m v (start v)) where
     walk : (v : ℕ) → v < m .vertices → Walked m (start v) (fanFrom (m .triangles) m (start v) (start v))

@@ -1,4 +1,4 @@
--- The walk round a vertex: where it starts, that it meets no triangle twice, and that it ends back at its start or at the boundary.
+-- The walk round a vertex: where it starts, that it meets no triangle twice, and where it ends.
 use mathlib.Core.Path.{_≡_, refl, sym, ap, _∙_, subst}
 use mathlib.Core.Logic.{_≢_, _⊎_, inl, inr}
 use mathlib.Core.Bool.{Bool, true, false, not, _&&_}
@@ -148,7 +148,8 @@ module _ (m : Topology) (G : Glued m) (s : ℕ) (ls : s < sides m) (n : ℕ) (l 
   short : length l ≤ m .triangles
   short =
       let a : length l ≤ count (m .triangles) (λ t. true) =
-      no-more (m .triangles) (length l) (λ i. sideAt l i / 3) (λ t. true) (λ i k. let x = in-use i k in omega arith) (λ i k. tt) once′ in
+      no-more (m .triangles) (length l) (λ i. sideAt l i / 3) (λ t. true) (λ i k. let x = in-use i k in omega arith)
+      (λ i k. tt) once′ in
       let b = total-const (m .triangles) 1 in
       omega arith
 

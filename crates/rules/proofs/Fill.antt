@@ -32,7 +32,8 @@ module _ {A : Type 0} where
   drop-fill (suc n) f l b i = drop-set-lt b (fill n f l) n (f n) i ∙ drop-fill n f l b (omega arith)
 
   -- One entry more.
-  pub fill-more : (n : ℕ) (f : ℕ → A) (l : List A) {k : List A} {x : A} → k ≡ fill n f l → x ≡ f n → set k n x ≡ fill (n + 1) f l
+  pub fill-more : (n : ℕ) (f : ℕ → A) (l : List A) {k : List A} {x : A} → k ≡ fill n f l → x ≡ f n
+      → set k n x ≡ fill (n + 1) f l
   unfolding fill
   fill-more n f l e v = rw (add-one, fill, e, v)
 

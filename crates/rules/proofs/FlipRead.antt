@@ -8,10 +8,29 @@ use lib.ListN.{length, set, length-set}
 use lib.Seq.{getD-set-same, getD-set-other, lt-length-set, drop-set-lt}
 use Rattle.rules.proofs.Manifold.{Manifold}
 use Rattle.rules.proofs.Past.{Past, drop-put, drop-told, joined-below}
-use Rattle.rules.proofs.Sides.{renameTwo, relinked, put-else, Row, put-row, row-else}
+use Rattle.rules.proofs.Sides.{renameTwo, rename-a, rename-b, rename-else, by-rename, relinked, put-else, Row}
+use Rattle.rules.proofs.Sides.{put-row, row-else}
 use Rattle.rules.proofs.SplitRead.{mutual-links}
 use Rattle.rules.specs.Split.{flip}
 use Rattle.rules.specs.Tables.{Topology, sides, origin, link, generation, putThree}
+
+-- The names of the old sides after the flip of s and u: side 1 of each becomes side 0 of the other.
+abbrev pub flipName : ℕ → ℕ → ℕ → ℕ
+flipName s u = renameTwo (3 * s + 1) (3 * u) (3 * u + 1) (3 * s)
+
+module _ (s u : ℕ) where
+  pub flip-name-s : flipName s u (3 * s + 1) ≡ 3 * u
+  flip-name-s = rename-a (3 * s + 1) (3 * u) (3 * u + 1) (3 * s)
+
+  pub flip-name-u : s ≢ u → flipName s u (3 * u + 1) ≡ 3 * s
+  flip-name-u ne = rename-b (3 * s + 1) (3 * u) (3 * u + 1) (3 * s) (omega arith)
+
+  pub flip-name-else : (h : ℕ) → h ≢ 3 * s + 1 → h ≢ 3 * u + 1 → flipName s u h ≡ h
+  flip-name-else = rename-else (3 * s + 1) (3 * u) (3 * u + 1) (3 * s)
+
+  pub by-flip-name : (P : ℕ → Type 0) → s ≢ u → (h : ℕ) → (h ≡ 3 * s + 1 → P (3 * u)) → (h ≡ 3 * u + 1 → P (3 * s))
+      → (h ≢ 3 * s + 1 → h ≢ 3 * u + 1 → P h) → P (flipName s u h)
+  by-flip-name P ne = by-rename (3 * s + 1) (3 * u) (3 * u + 1) (3 * s) P (omega arith)
 
 -- n is m with s and u flipped.
 pub record Flips (s u : ℕ) (m n : Topology) : Type 0 where
@@ -22,8 +41,7 @@ pub record Flips (s u : ℕ) (m n : Topology) : Type 0 where
   pub corners : (h : ℕ) → h / 3 ≢ s → h / 3 ≢ u → origin n h ≡ origin m h
   pub linksS : Row (n .links) 0 s (link m (3 * u + 1)) (3 * u + 1) (link m (3 * s + 2))
   pub linksU : Row (n .links) 0 u (link m (3 * s + 1)) (3 * s + 1) (link m (3 * u + 2))
-  pub links : (h : ℕ) → h < sides m → h / 3 ≢ s → h / 3 ≢ u
-      → link n h ≡ renameTwo (3 * s + 1) (3 * u) (3 * u + 1) (3 * s) (link m h)
+  pub links : (h : ℕ) → h < sides m → h / 3 ≢ s → h / 3 ≢ u → link n h ≡ flipName s u (link m h)
   pub generationS : generation n s ≡ suc (generation m s)
   pub generationU : generation n u ≡ suc (generation m s)
   pub generations : (x : ℕ) → x ≢ s → x ≢ u → generation n x ≡ generation m x

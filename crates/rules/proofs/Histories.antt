@@ -1,31 +1,37 @@
 -- Every history: what each call keeps, and so what holds after every list of calls.
 use mathlib.Core.Path.{_≡_, refl, sym, _∙_, subst}
-use mathlib.Core.Logic.{_≢_, _⊎_, inl, inr}
+use mathlib.Core.Logic.{inl, inr}
 use mathlib.Core.Bool.{true, false}
 use mathlib.Core.List.{List, [], _∷_}
-use Prim.Native.Nat.{ℕ, _+_, _*_, _/_, _%_, _≤_, _<_}
+use Prim.Native.Nat.{ℕ, _+_, _*_, _/_, _%_, _≤_, min}
 use native.Mathlib.Omega.{arith}
-use lib.Dec.{T, eqb}
+use lib.Dec.{eqb}
 use lib.IntN.{pos, _+ℤ_, _-ℤ_}
+use borrow.Author.Tests.{ne-eqb}
 use Rattle.rules.proofs.Bases.{reached}
 use Rattle.rules.proofs.CageEdges.{load-characteristic}
-use Rattle.rules.proofs.CallRefusals.{load-judged, refine-judged, whole-step-judged, ring-judged, position-judged}
-use Rattle.rules.proofs.Carried.{LoadFound, RefineFound, load-found, refine-found, found-refined, step-found, found-step}
+use Rattle.rules.proofs.CallRefusals.{load-judged, refine-judged, whole-step-judged, ring-judged}
+use Rattle.rules.proofs.CallRefusals.{position-judged}
+use Rattle.rules.proofs.Carried.{LoadFound, RefineFound, load-found, refine-found, found-refined, step-found}
+use Rattle.rules.proofs.Carried.{found-step}
 use Rattle.rules.proofs.Differences.{nat, add, sub, equal}
 use Rattle.rules.proofs.FirstThatHolds.{Judged, carried, refused, judged-carried}
-use Rattle.rules.proofs.FiveKinds.{kind-level}
 use Rattle.rules.proofs.Load.{load-sound}
+use Rattle.rules.proofs.Manifold.{partnered}
 use Rattle.rules.proofs.Refine.{Refined, chain-counts, chain-bound}
-use Rattle.rules.proofs.Sides.{eqb-no}
+use Rattle.rules.proofs.Relaxed.{sound-manifold}
+use Rattle.rules.proofs.SplitRead.{mutual-links}
 use Rattle.rules.specs.Below.{all}
 use Rattle.rules.specs.Cage.{cageOf, loaded}
 use Rattle.rules.specs.Calls.{Outcome, worked, loadRefusal, refineCall}
 use Rattle.rules.specs.Conditions.{OddInChain, atEven, atBoundary, onward}
-use Rattle.rules.specs.History.{Near, ReportsSplits, Kept, Call, loads, refines, steps, asksRing, asksPosition, LastLoad, nothing, cage, outcome, after, opens, lastLoad, edges, characteristic, cageCharacteristic, EveryHistory}
+use Rattle.rules.specs.History.{Near, ReportsSplits, Kept, Call, loads, refines, steps, asksRing, asksPosition}
+use Rattle.rules.specs.History.{LastLoad, nothing, cage, outcome, after, opens, lastLoad, edges, characteristic}
+use Rattle.rules.specs.History.{cageCharacteristic, EveryHistory}
 use Rattle.rules.specs.Promises.{StepMakes}
-use Rattle.rules.specs.Sound.{Linked, Sound, roleOf, fiveKinds}
+use Rattle.rules.specs.Sound.{Sound}
 use Rattle.rules.specs.Split.{Work, atFirst, chainOdd, refine}
-use Rattle.rules.specs.Tables.{Topology, Mesh, sides, boundary, link, generation}
+use Rattle.rules.specs.Tables.{Topology, Mesh, link, generation}
 
 -- What is kept from an accepted load on: the tables are sound, and the characteristic is the cage's.
 pub record Good (bytes : List ℕ) (m : Mesh) : Type 0 where
@@ -95,14 +101,15 @@ load-holds : (bytes : List ℕ) (m : Mesh) (a : LastLoad) {o : Outcome}
     → Judged (loadRefusal bytes m) m [] (worked (atFirst (loaded (cageOf bytes) m))) o
     → Holds a m → Holds (elim (eqb (o .refusal) 0) [ true ↦ cage bytes | false ↦ a ]) (o .mesh)
 load-holds bytes m a (carried z) h = loaded-good bytes m (load-found bytes m z)
-load-holds bytes m a (refused z) h = rw (eqb-no (loadRefusal bytes m) 0 z) h
+load-holds bytes m a (refused z) h = rw (ne-eqb (loadRefusal bytes m) 0 z) h
 
 -- ---- the calls
 
 pub keeps : (c : Call) (m : Mesh) → Keeps c m
 keeps (loads bytes) m = record { holds = λ a. load-holds bytes m a (load-judged bytes m) }
 keeps (refines t) m = record {
-  holds = λ a. judged-keeps a (refine-judged t m) (λ z. holds-on a (refined-stays (found-refined (refine-found t m z))));
+  holds = λ a.
+      judged-keeps a (refine-judged t m) (λ z. holds-on a (refined-stays (found-refined (refine-found t m z))));
 }
 keeps steps m = record {
   holds = λ a. judged-keeps a (whole-step-judged m) (λ z. holds-on a (step-stays (found-step (step-found m z))));
@@ -117,26 +124,12 @@ history-holds (c ∷ cs) m o h = history-holds cs (outcome c m .mesh) (opens c m
 
 -- ---- what the customer asked for
 
-kind-near : (g i h j : ℕ) → T (fiveKinds (roleOf g i) (roleOf h j)) → Near g h
-kind-near g i h j t =
-    let e = kind-level g i h j t in
-    record {
-      up = omega arith;
-      down = omega arith;
-      even = λ x. elim x [ inl q ↦ (omega arith, omega arith) | inr q ↦ (omega arith, omega arith) ];
-    }
-
-module _ (m : Mesh) (S : Sound m) where
-  linked-mutual : (h : ℕ) → (link (m .topology) h ≡ boundary) ⊎ Linked (m .topology) h
-      → (link (m .topology) h ≡ boundary) ⊎ ((link (m .topology) h < sides (m .topology))
-      × (link (m .topology) (link (m .topology) h) ≡ h))
-  linked-mutual h (inl e) = inl e
-  linked-mutual h (inr L) = inr (L .inUse, L .back)
-
-  linked-near : (h : ℕ) → link (m .topology) h ≢ boundary → (link (m .topology) h ≡ boundary) ⊎ Linked (m .topology) h
-      → Near (generation (m .topology) (h / 3)) (generation (m .topology) (link (m .topology) h / 3))
-  linked-near h n (inl e) = absurd (n e)
-  linked-near h n (inr L) = kind-near _ (h % 3) _ (link (m .topology) h % 3) (L .kind)
+level-near : (g i h j : ℕ) → (g + min 1 i) / 2 ≡ (h + min 1 j) / 2 → Near g h
+level-near g i h j e = record {
+  up = omega arith;
+  down = omega arith;
+  even = λ x. elim x [ inl q ↦ (omega arith, omega arith) | inr q ↦ (omega arith, omega arith) ];
+}
 
 -- An odd triangle's chain has an odd triangle, itself; an even one's has none.
 odd-some : {m : Topology} {t k : ℕ} → OddInChain m t k → generation m t % 2 ≡ 1 → 1 ≤ k
@@ -153,8 +146,8 @@ odd-none (onward q e x) o = absurd (omega arith)
 pub found-refines : (t : ℕ) (m : Mesh) → RefineFound t m → ReportsSplits m t (worked (refine t (atFirst m)))
 found-refines t m F =
     let R = found-refined F in
-    let c = chain-counts t m (F .sound) (F .inUse) (F .young) (F .evenEnd) in
-    let b = chain-bound t m (F .sound) (F .inUse) (F .young) (F .evenEnd) in
+    let c = chain-counts t m (F .sound) (F .inUse) (F .evenEnd) in
+    let b = chain-bound t m (F .sound) (F .inUse) (F .evenEnd) in
     let all : generation (m .topology) t % 2 ≡ 1 → refine t (atFirst m) .splits ≡ chainOdd (m .topology) t =
     λ o. let i = odd-some c o in omega (arith, R .splits) in
     record {
@@ -171,11 +164,11 @@ carried-refines t m z =
 
 good-kept : (bytes : List ℕ) (m : Mesh) → Good bytes m → Kept bytes m
 good-kept bytes m G =
-    let S = G .sound in
+    let F = sound-manifold (G .sound) in
     record {
-      linksMutual = λ h l. linked-mutual m S h (S .linked h l);
+      linksMutual = mutual-links (m .topology) F;
       euler = G .euler;
-      near = λ h l n. linked-near m S h n (S .linked h l);
+      near = λ h l n. level-near _ (h % 3) _ (link (m .topology) h % 3) (sym (partnered (F .linked h l) n .level));
       refines = λ t z. carried-refines t m z;
     }
 

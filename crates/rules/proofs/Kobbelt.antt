@@ -3,16 +3,18 @@ use mathlib.Core.Path.{_≡_, refl, sym, ap, _∙_, subst, subst₂}
 use mathlib.Core.Logic.{_≢_}
 use Prim.Native.Nat.{ℕ, zero, suc, _+_, _*_, _/_, _%_, _≤_, _<_, max}
 use native.Mathlib.Omega.{arith}
+use borrow.Author.Tests.{eq-eqb, ne-eqb}
 use Rattle.rules.proofs.Bases.{reached}
-use Rattle.rules.proofs.Chain.{Path, ends, across, falls, odd-is, odd-not, path-end, cut-splitting, path-use, path-short, path-fit, way, stays}
-use Rattle.rules.proofs.FaceSplit.{Room, face-splitting}
+use Rattle.rules.proofs.Chain.{Path, ends, across, falls, path-end, cut-splitting, path-use, path-fit, Shorter}
+use Rattle.rules.proofs.Chain.{stays, shortens}
+use Rattle.rules.proofs.Decide.{odd-test, even-test}
+use Rattle.rules.proofs.FaceSplit.{Room, room-fewer, face-splitting}
 use Rattle.rules.proofs.Manifold.{Manifold, BasesMeetIn}
-use Rattle.rules.proofs.Raise.{Shorter, shortens, raise-stops, raise-splits, room-first, room-rest, raise-cuts}
-use Rattle.rules.proofs.Refine.{sound-room}
+use Rattle.rules.proofs.Raise.{raise-stops, raise-splits, room-rest, raise-cuts}
+use Rattle.rules.proofs.Refine.{sound-room, chain-path, chain-bound}
 use Rattle.rules.proofs.Relaxed.{sound-manifold, sound-bases}
 use Rattle.rules.proofs.Runs.{isEven, cut}
 use Rattle.rules.proofs.Settled.{nowhere}
-use Rattle.rules.proofs.Sides.{eqb-yes, eqb-no}
 use Rattle.rules.specs.Calls.{splitsOf}
 use Rattle.rules.specs.Conditions.{RoomFor}
 use Rattle.rules.specs.Promises.{mate, kobbelt}
@@ -23,19 +25,19 @@ use Rattle.rules.specs.Tables.{Topology, Mesh, boundary, link, generatio
 kobbelt-even : (n t : ℕ) (w : Work) → 0 < n → generation (reached w) t % 2 ≡ 0 → kobbelt n t w ≡ faceSplit t w
 unfolding kobbelt
 kobbelt-even zero t w i e = absurd (omega arith)
-kobbelt-even (suc n) t w i e = rw (odd-not _ e, kobbelt)
+kobbelt-even (suc n) t w i e = rw (even-test _ e, kobbelt)
 
 module _ (n t : ℕ) (w : Work) (o : generation (reached w) t % 2 ≡ 1) where
   kobbelt-near : generation (reached w) (mate t w) + 2 ≢ generation (reached w) t
       → kobbelt (suc n) t w ≡ kobbelt n (mate t w) w
   unfolding kobbelt
-  kobbelt-near d = rw (odd-is _ o, eqb-no _ _ d, kobbelt)
+  kobbelt-near d = rw (odd-test _ o, ne-eqb _ _ d, kobbelt)
 
   kobbelt-far : (y : Work) → generation (reached w) (mate t w) + 2 ≡ generation (reached w) t
       → y ≡ kobbelt n (mate t w) w
       → kobbelt (suc n) t w ≡ kobbelt n (mate t y) y
   unfolding kobbelt
-  kobbelt-far y e q = rw (odd-is _ o, e, eqb-yes (generation (reached w) t), q, kobbelt)
+  kobbelt-far y e q = rw (odd-test _ o, e, eq-eqb (generation (reached w) t) _ refl, q, kobbelt)
 
 -- ---- the loop of refine, seen from a triangle and its mate
 
@@ -87,7 +89,7 @@ raise-far {v} (suc k) (suc j) t u g h w F K l q M (across o r p) i R =
     let y : Work = cut v w x in
     let c = falls m F K t l o r .0 in
     let b = path-use F K c p in
-    let S = cut-splitting v w x F b (room-first (suc k) m R) .result in
+    let S = cut-splitting v w x F b (room-fewer (suc (suc k)) 1 m R (omega arith)) .result in
     let e : generation m s ≡ h = ap (generation m) (M .0) ∙ M .1 in
     let A = shortens v _ _ _ m (reached y) F K b x S l refl a in
     let B = shortens v _ _ _ m (reached y) F K b x S c refl p in
@@ -102,9 +104,6 @@ raise-far {v} (suc k) (suc j) t u g h w F K l q M (across o r p) i R =
     (omega arith)
     (room-rest (suc k) v _ _ _ m (reached y) S R)))
 
-room-fewer : (s r : ℕ) (m : Topology) → Room s m → r ≤ s → Room r m
-room-fewer s r m R i = omega arith
-
 module _ (s : ℕ) (w : Work) (F : Manifold (reached w)) (K : BasesMeetIn nowhere (reached w))
     (R : Room s (reached w)) where
   -- By the length k of the base chain of t, which ends at v.
@@ -114,8 +113,8 @@ module _ (s : ℕ) (w : Work) (F : Manifold (reached w)) (K : BasesMeetIn nowher
   raise-kobbelt zero j t l p a b i = absurd (omega arith)
   raise-kobbelt (suc n) zero t l p a b i = absurd (omega arith)
   raise-kobbelt (suc n) (suc j) t l (ends (isEven e)) a b i =
-      raise-cuts j t w (isEven e) F K l (room-fewer s 1 (reached w) R i) ∙ sym
-      (kobbelt-even (suc n) t w (omega arith) e)
+      raise-cuts j t w (isEven e) F K l (room-fewer s 1 (reached w) R i)
+      ∙ sym (kobbelt-even (suc n) t w (omega arith) e)
   raise-kobbelt (suc n) (suc j) t l (across o r (ends (isEven e))) a b i =
       let f = falls (reached w) F K t l o r .1 in
       let L = raise-near j t (generation (reached w) t) w F K l refl o r e (room-fewer s 1 (reached w) R i) in
@@ -129,8 +128,8 @@ module _ (s : ℕ) (w : Work) (F : Manifold (reached w)) (K : BasesMeetIn nowher
       let R′ = room-fewer s (suc (suc k)) (reached w) R (omega arith) in
       let L : MateSplit t y _ =
       raise-far (suc k) j t u _ _ w F K l refl (refl, refl) (across {t = t} o r q) (omega arith) R′ in
-      L .split ∙ sym (kobbelt-even n (mate t y) y (omega arith) (L .even)) ∙ sym
-      (kobbelt-far n t w o y (omega (arith, f .1)) I)
+      L .split ∙ sym (kobbelt-even n (mate t y) y (omega arith) (L .even))
+      ∙ sym (kobbelt-far n t w o y (omega (arith, f .1)) I)
 
 -- Where the base chain of t ends at an even triangle and there is room, refine is Kobbelt's procedure to any depth
 -- above the generation.
@@ -143,8 +142,7 @@ refine-is-kobbelt t n m S l e R i =
     let g : ℕ = generation (m .topology) t in
     let F = sound-manifold S in
     let K = sound-bases S in
-    let p = way g (m .topology) F K t l (omega arith) e in
-    let short = path-short F K l p in
+    let short = chain-bound t m S l e in
     let s : ℕ = splitsOf (m .topology) t in
-    raise-kobbelt s (atFirst m) F K (sound-room s (S .tables) R) n (suc g) t l p (omega arith) (omega arith)
-    (omega arith)
+    raise-kobbelt s (atFirst m) F K (sound-room s (S .tables) R) n (suc g) t l (chain-path t m S l e)
+    (omega arith) (omega arith) (omega arith)

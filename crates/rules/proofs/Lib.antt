@@ -3,6 +3,7 @@ pub mod Differences
 pub mod Rounding
 pub mod Sides
 pub mod Sums
+pub mod Entries
 pub mod Decide
 pub mod Manifold
 pub mod Past

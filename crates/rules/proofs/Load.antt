@@ -1,29 +1,29 @@
 -- Loading a cage: what the tables hold then, and that they are sound.
-use mathlib.Core.Path.{_≡_, refl, sym, _∙_, subst}
+use mathlib.Core.Path.{_≡_, refl, sym, _∙_}
 use mathlib.Core.Logic.{_≢_, inl, inr}
 use mathlib.Core.Bool.{Bool, true, false}
 use mathlib.Core.List.{List}
 use Prim.Native.Nat.{ℕ, _*_, _/_, _≤_, _<_}
 use native.Mathlib.Omega.{arith}
 use lib.ListN.{length, getD, drop}
-use lib.Dec.{T, ltb, lt→ltb, ltb→lt}
+use lib.Dec.{ltb}
 use lib.IntN.{pos}
-use Rattle.rules.proofs.Decide.{Decides, Lowest, is-eq, is-and, is-all, lowest-is}
+use Rattle.rules.proofs.Decide.{Decides, Lowest, is-eq, is-lt, when-true, when-false, is-and, is-all, lowest-is}
 use Rattle.rules.proofs.FanTest.{one-fan-is}
 use Rattle.rules.proofs.Fill.{length-fill, getD-fill, drop-fill}
-use Rattle.rules.proofs.Manifold.{Partnered, Manifold, level, Joined, BasesMeetIn}
+use Rattle.rules.proofs.Manifold.{Partnered, Manifold, level, Joined, BasesMeetIn, pair}
 use Rattle.rules.proofs.Past.{Past}
 use Rattle.rules.proofs.Relaxed.{manifold-sound, agree-on}
 use Rattle.rules.proofs.Settled.{nowhere}
 use Rattle.rules.proofs.Sides.{next-lt}
-use Rattle.rules.proofs.SplitKeeps.{pair}
 use Rattle.rules.proofs.Turning.{Glued}
 use Rattle.rules.specs.Below.{lowest}
 use Rattle.rules.specs.Cage.{Cage, cageOf, opposite, partner, loaded, fansFit}
 use Rattle.rules.specs.Conditions.{SizesFit, CornersFit, CoordinatesFit, SidesDiffer, FansFit}
 use Rattle.rules.specs.Promises.{Opposite, Matches, only, alone}
 use Rattle.rules.specs.Sound.{OneFan, Sound, hasOneFan}
-use Rattle.rules.specs.Tables.{Topology, Mesh, TablesAgree, sides, next, origin, target, boundary, link, generation, vertexSlots, triangleSlots}
+use Rattle.rules.specs.Tables.{Topology, Mesh, TablesAgree, sides, next, origin, target, boundary, link}
+use Rattle.rules.specs.Tables.{generation, vertexSlots, triangleSlots}
 
 -- ---- the partner of a side
 
@@ -43,12 +43,12 @@ module _ (c : Cage) (D : SidesDiffer c) where
   lowest-matches : (h k : ℕ) → Lowest (3 * c .triangles) (opposite c h) k → (b : Bool) → ltb k (3 * c .triangles) ≡ b
       → Matches c h (elim b [ true ↦ k | false ↦ boundary ])
   lowest-matches h k L true e =
-      let l : k < 3 * c .triangles = ltb→lt k (3 * c .triangles) (subst T (sym e) tt) in
+      let l = when-true (is-lt k (3 * c .triangles)) e in
       let x = opposite-is c h k .holds (L .passes l) in
       only (record { inUse = l; from = x .0; onto = x .1 })
       (λ j O. D j k (O .inUse) l (O .from ∙ sym (x .0)) (O .onto ∙ sym (x .1)))
   lowest-matches h k L false e =
-      let n : ¬ (k < 3 * c .triangles) = λ q. subst T e (lt→ltb k (3 * c .triangles) q) in
+      let n = when-false (is-lt k (3 * c .triangles)) e in
       alone (λ j O. L .none j (omega (arith, O .inUse)) (opposite-is c h j .passes (O .from, O .onto)))
 
   pub partner-matches : (h : ℕ) → Matches c h (partner c h)
@@ -91,7 +91,14 @@ module _ (c : Cage) (m : Mesh) (A : TablesAgree m)
   }
 
   pub loaded-agree : TablesAgree (loaded c m)
-  loaded-agree = let L = loaded-loads in agree-on A (L .positionRoom) (L .cornerRoom) (L .linkRoom) (L .generationRoom)
+  loaded-agree =
+      let L = loaded-loads in
+      agree-on A (record {
+        positions = L .positionRoom;
+        corners = L .cornerRoom;
+        links = L .linkRoom;
+        generations = L .generationRoom;
+      })
 
   -- All triangles are even, so that there is no base.
   pub load-bases : BasesMeetIn nowhere (loaded c m .topology)
@@ -108,10 +115,11 @@ module _ (c : Cage) (m : Mesh) (A : TablesAgree m)
   target-is : (h : ℕ) → h < 3 * c .triangles → target (loaded c m .topology) h ≡ c .corner (next h)
   target-is h l = loaded-loads .corners (next h) (next-lt h (c .triangles) l)
 
-  partnered : SidesDiffer c → (h k : ℕ) → h < 3 * c .triangles → link (loaded c m .topology) h ≡ k → Opposite c h k
+  opposite-partnered : SidesDiffer c → (h k : ℕ) → h < 3 * c .triangles → link (loaded c m .topology) h ≡ k
+      → Opposite c h k
       → Partnered (loaded c m .topology) h
   unfolding loaded
-  partnered D h k l e O =
+  opposite-partnered D h k l e O =
       let i = O .inUse in
       pair (loaded c m .topology) h k e
       (matches-opposite (links-are D k i) h (opposite-back c h k l O))
@@ -125,7 +133,7 @@ module _ (c : Cage) (m : Mesh) (A : TablesAgree m)
   load-joined D h l = go (link (loaded c m .topology) h) refl (links-are D h l)
     where
       go : (k : ℕ) → link (loaded c m .topology) h ≡ k → Matches c h k → Joined (loaded c m .topology) h
-      go k e (only O u) = inr (partnered D h k l e O)
+      go k e (only O u) = inr (opposite-partnered D h k l e O)
       go k e (alone n) = inl e
 
   pub load-distinct : CornersFit c → (h : ℕ) → h < sides (loaded c m .topology)

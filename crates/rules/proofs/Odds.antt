@@ -28,14 +28,14 @@ three-more n o x t y f e a b c p q r =
 pub split-odds : (t : ℕ) (m n : Topology) → t < m .triangles → generation m t % 2 ≡ 0 → Splits t m n
     → odds n ≡ odds m + 3
 unfolding odds
-split-odds t m n b flat S =
+split-odds t m n b even S =
     let f : ℕ = m .triangles in
     let g : ℕ → ℕ = λ x. generation n x % 2 in
     let c : total f g + generation m t % 2 ≡ total f (λ x. generation m x % 2) + generation n t % 2 =
     total-change f t (λ x. generation m x % 2) g b (λ x l i. sym (ap (λ (y : ℕ). y % 2) (S .generations x l i))) in
     let d : total (n .triangles) g ≡ total f g + generation n f % 2 + generation n (f + 1) % 2 =
     ap (λ (x : ℕ). total x g) (S .triangles) ∙ total-two f g in
-    three-more _ _ _ _ _ _ _ c d flat (S .generationT) (S .generationF) (S .generationE)
+    three-more _ _ _ _ _ _ _ c d even (S .generationT) (S .generationF) (S .generationE)
 
 pub flip-odds : (s u : ℕ) (m n : Topology) → BasesMeet s u m → Flips s u m n → odds n + 2 ≡ odds m
 unfolding odds

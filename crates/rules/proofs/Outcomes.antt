@@ -6,7 +6,8 @@ use Prim.Native.Nat.{ℕ, _*_, _%_, _<_}
 use native.Mathlib.Omega.{arith}
 use lib.IntN.{ℤ}
 use Rattle.rules.proofs.CageEdges.{load-edges}
-use Rattle.rules.proofs.CallRefusals.{load-judged, refine-judged, whole-step-judged, ring-judged, position-judged}
+use Rattle.rules.proofs.CallRefusals.{load-judged, refine-judged, whole-step-judged, ring-judged}
+use Rattle.rules.proofs.CallRefusals.{position-judged}
 use Rattle.rules.proofs.Carried.{load-found, refine-found, found-refined, step-found, found-step}
 use Rattle.rules.proofs.Chain.{falls}
 use Rattle.rules.proofs.FirstThatHolds.{judged-carried}
@@ -17,7 +18,8 @@ use Rattle.rules.proofs.Refine.{chain-counts}
 use Rattle.rules.proofs.Relaxed.{sound-manifold, sound-bases}
 use Rattle.rules.proofs.Rounding.{half-up, half-up-only}
 use Rattle.rules.specs.Cage.{Cage, cageOf, loaded}
-use Rattle.rules.specs.Calls.{worked, loadCall, refineCall, wholeStepCall, ringRead, ringCall, positionRead, positionCall}
+use Rattle.rules.specs.Calls.{worked, loadCall, refineCall, wholeStepCall, ringRead, ringCall, positionRead}
+use Rattle.rules.specs.Calls.{positionCall}
 use Rattle.rules.specs.Conditions.{OddInChain}
 use Rattle.rules.specs.Numbers.{halfUp}
 use Rattle.rules.specs.Promises.{Nearest, Loaded, ChainFalls, RefineMakes, StepMakes, kobbelt}
@@ -29,7 +31,8 @@ use Rattle.rules.specs.Tables.{Mesh, boundary, link, generation}
 -- ---- load
 
 pub load-makes : (bytes : List ℕ) (m : Mesh) → loadCall bytes m .refusal ≡ 0
-    → (loadCall bytes m ≡ worked (atFirst (loaded (cageOf bytes) m))) × Loaded (cageOf bytes) m (loaded (cageOf bytes) m)
+    → (loadCall bytes m ≡ worked (atFirst (loaded (cageOf bytes) m)))
+    × Loaded (cageOf bytes) m (loaded (cageOf bytes) m)
 unfolding loaded
 load-makes bytes m z =
     let c : Cage = cageOf bytes in
@@ -99,10 +102,11 @@ refine-makes t m z =
     )
 
 -- The chain's count is that of its odd triangles.
-pub chain-counted : (t : ℕ) (m : Mesh) → refineCall t m .refusal ≡ 0 → OddInChain (m .topology) t (chainOdd (m .topology) t)
+pub chain-counted : (t : ℕ) (m : Mesh) → refineCall t m .refusal ≡ 0
+    → OddInChain (m .topology) t (chainOdd (m .topology) t)
 chain-counted t m z =
     let F = refine-found t m (judged-carried (refine-judged t m) z .0) in
-    chain-counts t m (F .sound) (F .inUse) (F .young) (F .evenEnd)
+    chain-counts t m (F .sound) (F .inUse) (F .evenEnd)
 
 pub chain-falls : (m : Mesh) → Sound m → (t : ℕ) → t < m .topology .triangles → generation (m .topology) t % 2 ≡ 1
     → link (m .topology) (3 * t) ≢ boundary → ChainFalls (m .topology) t
@@ -122,8 +126,11 @@ pub whole-step-makes : (m : Mesh) → wholeStepCall m .refusal ≡ 0
     → (wholeStepCall m ≡ worked (wholeStep m)) × StepMakes (generation (m .topology) 0) m (wholeStep m)
 whole-step-makes m z =
     let x = judged-carried (whole-step-judged m) z in
-    let F = step-found m (x .0) in
-    (x .1, subst (λ (g : ℕ). StepMakes g m (wholeStep m)) (sym (F .closed .all 0 (F .sound .someTriangle))) (found-step F))
+    let F = step-found m (x .0) in (
+      x .1,
+      subst (λ (g : ℕ). StepMakes g m (wholeStep m)) (sym (F .closed .all 0 (F .sound .someTriangle)))
+          (found-step F),
+    )
 
 -- ---- queries
 

@@ -1,33 +1,12 @@
--- Different numbers that pass a test: no more than all that pass, and as many only where each that passes is among them.
+-- Different numbers that pass a test: no more than all that pass, and as many only where they are all of them.
 use mathlib.Core.Path.{_≡_, refl, sym, _∙_, subst}
 use mathlib.Core.Bool.{Bool, true, false}
-use Prim.Native.Nat.{ℕ, zero, suc, _≤_, _<_}
+use Prim.Native.Nat.{ℕ, _≤_, _<_}
 use native.Mathlib.Omega.{arith}
-use native.Mathlib.Decide.{ℕ-discrete}
 use lib.Dec.{T, eqb}
-use Rattle.rules.proofs.Decide.{Decides, is-eq, is-any}
-use Rattle.rules.proofs.Edges.{bit-eq, bit-ne}
-use Rattle.rules.proofs.Sums.{total-same, total-zero, total-swap, total-one, total-const}
+use Rattle.rules.proofs.Decide.{Decides, is-eq, bit-yes, bit-no, is-any}
+use Rattle.rules.proofs.Sums.{total-same, total-zero, total-swap, total-one, total-const, total-le, total-tight}
 use Rattle.rules.specs.Below.{any, total, bit, count}
-
-total-le : (n : ℕ) (f g : ℕ → ℕ) → ((h : ℕ) → h < n → f h ≤ g h) → total n f ≤ total n g
-unfolding total
-total-le zero f g e = omega arith
-total-le (suc n) f g e = let a = total-le n f g (λ h l. e h (omega arith)) in let b = e n (omega arith) in omega arith
-
--- Terms that are at most others and add up to as much are those.
-pub total-tight : (n : ℕ) (f g : ℕ → ℕ) → ((h : ℕ) → h < n → f h ≤ g h) → total n f ≡ total n g → (h : ℕ) → h < n
-    → f h ≡ g h
-unfolding total
-total-tight zero f g e s h l = absurd (omega arith)
-total-tight (suc n) f g e s h l =
-    let a = total-le n f g (λ k i. e k (omega arith)) in
-    let b = e n (omega arith) in
-    go (ℕ-discrete h n) (total-tight n f g (λ k i. e k (omega arith)) (omega arith) h) (omega arith)
-  where
-    go : Dec (h ≡ n) → (h < n → f h ≡ g h) → f n ≡ g n → f h ≡ g h
-    go (yes q) ih x = rw q x
-    go (no q) ih x = ih (omega arith)
 
 bit-le : (a b : Bool) → (T a → T b) → bit a ≤ bit b
 bit-le true true f = omega arith
@@ -50,6 +29,17 @@ reached-is : (c : ℕ) (f : ℕ → ℕ) (h : ℕ) → Decides (reached c f h) (
 unfolding reached
 reached-is c f h = is-any c (λ i. eqb (f i) h) (λ i. f i ≡ h) (λ i. is-eq (f i) h)
 
+-- The numbers below c, counted by what f makes of them.
+pub counted-by-value : (n c : ℕ) (f : ℕ → ℕ) → ((i : ℕ) → i < c → f i < n)
+    → total n (λ h. count c (λ i. eqb (f i) h)) ≡ c
+counted-by-value n c f below =
+    let a = total-swap n c (λ h i. bit (eqb (f i) h)) in
+    let b : total c (λ i. total n (λ h. bit (eqb (f i) h))) ≡ total c (λ i. 1) = total-same c _ _ (λ i l.
+    total-one n (f i) (λ h. bit (eqb (f i) h)) (below i l) (λ h k o. bit-no (is-eq (f i) h) (λ q. o (sym q)))
+    ∙ bit-yes (is-eq (f i) (f i)) refl) in
+    let d = total-const c 1 in
+    omega arith
+
 module _ (n c : ℕ) (f : ℕ → ℕ) (p : ℕ → Bool)
     (below : (i : ℕ) → i < c → f i < n)
     (pass : (i : ℕ) → i < c → T (p (f i)))
@@ -62,20 +52,12 @@ module _ (n c : ℕ) (f : ℕ → ℕ) (p : ℕ → Bool)
       go true d =
           let x : Reached c f h = d .holds tt in
           total-one c (x .0) (λ i. bit (eqb (f i) h)) (x .1)
-          (λ j l o. bit-ne (f j) h (λ q. o (differ j (x .0) l (x .1) (q ∙ sym (x .2)))))
-          ∙ bit-eq (f (x .0)) h (x .2)
-      go false d = total-zero c (λ i. bit (eqb (f i) h)) (λ i l. bit-ne (f i) h (λ q. d .passes (i, l, q)))
+          (λ j l o. bit-no (is-eq (f j) h) (λ q. o (differ j (x .0) l (x .1) (q ∙ sym (x .2)))))
+          ∙ bit-yes (is-eq (f (x .0)) h) (x .2)
+      go false d = total-zero c (λ i. bit (eqb (f i) h)) (λ i l. bit-no (is-eq (f i) h) (λ q. d .passes (i, l, q)))
 
   reached-count : count n (reached c f) ≡ c
-  reached-count =
-      let a : count n (reached c f) ≡ total n (λ h. count c (λ i. eqb (f i) h)) =
-      total-same n _ _ (λ h l. sym (once h)) in
-      let b = total-swap n c (λ h i. bit (eqb (f i) h)) in
-      let d : total c (λ i. total n (λ h. bit (eqb (f i) h))) ≡ total c (λ i. 1) = total-same c _ _ (λ i l.
-      total-one n (f i) (λ h. bit (eqb (f i) h)) (below i l) (λ h k o. bit-ne (f i) h (λ q. o (sym q))) ∙ bit-eq
-      (f i) (f i) refl) in
-      let e = total-const c 1 in
-      omega arith
+  reached-count = total-same n _ _ (λ h l. sym (once h)) ∙ counted-by-value n c f below
 
   passes : (h : ℕ) → T (reached c f h) → T (p h)
   passes h t = let x = reached-is c f h .holds t in subst (λ (k : ℕ). T (p k)) (x .2) (pass (x .0) (x .1))
@@ -83,14 +65,14 @@ module _ (n c : ℕ) (f : ℕ → ℕ) (p : ℕ → Bool)
   at-most : (h : ℕ) → h < n → bit (reached c f h) ≤ bit (p h)
   at-most h l = bit-le (reached c f h) (p h) (passes h)
 
-  -- They are no more than all that pass;.
+  -- They are no more than all that pass.
   pub no-more : c ≤ count n p
   no-more =
       let a = reached-count in
       let b = total-le n (λ h. bit (reached c f h)) (λ h. bit (p h)) at-most in
       omega arith
 
-  -- Where they are as many, each that passes is reached;.
+  -- Where they are as many, each that passes is reached.
   pub each-reached : c ≡ count n p → (h : ℕ) → h < n → T (p h) → Reached c f h
   each-reached e h l t =
       let q = total-tight n (λ k. bit (reached c f k)) (λ k. bit (p k)) at-most (reached-count ∙ e) h l in

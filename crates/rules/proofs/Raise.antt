@@ -1,17 +1,15 @@
 -- The loop of refine.
 use mathlib.Core.Path.{_≡_, refl, sym, ap, _∙_, subst}
-use mathlib.Core.Logic.{_≢_}
-use mathlib.Core.Bool.{Bool, true, false}
-use Prim.Native.Nat.{ℕ, zero, suc, _+_, _*_, _/_, _%_, _≤_, _<_}
+use Prim.Native.Nat.{ℕ, zero, suc, _+_, _*_, _%_, _≤_, _<_}
 use native.Mathlib.Omega.{arith}
-use native.Mathlib.Decide.{ℕ-discrete}
 use lib.ListN.{length}
-use lib.Dec.{T, ltb, lt→ltb, ltb→lt}
+use borrow.Author.Tests.{lt-ltb, le-ltb}
 use Rattle.rules.proofs.Bases.{reached}
-use Rattle.rules.proofs.Chain.{Path, ends, across, falls, path-end, topOf, boundaryOf, cut-splitting, path-use, path-top, not-v, stays, lands, hit}
+use Rattle.rules.proofs.Chain.{Path, ends, path-end, topOf, boundaryOf, cut-splitting, path-use, path-high}
+use Rattle.rules.proofs.Chain.{shortens}
 use Rattle.rules.proofs.Cut.{CutResult}
 use Rattle.rules.proofs.Edges.{boundarySides}
-use Rattle.rules.proofs.FaceSplit.{Room}
+use Rattle.rules.proofs.FaceSplit.{Room, room-fewer}
 use Rattle.rules.proofs.Manifold.{Manifold, BasesMeetIn}
 use Rattle.rules.proofs.Past.{Past, past-on}
 use Rattle.rules.proofs.Places.{Places, places-on}
@@ -19,91 +17,18 @@ use Rattle.rules.proofs.Runs.{Splittable, isEven, cut, cut-face}
 use Rattle.rules.proofs.Settled.{nowhere, still-on}
 use Rattle.rules.specs.Promises.{Still, odds}
 use Rattle.rules.specs.Split.{Work, faceSplit, chainEndWithin, raise}
-use Rattle.rules.specs.Tables.{Topology, boundary, link, generation}
-
--- Chains of none or one rise; longer ones are one shorter and end at an even triangle.
-abbrev pub Shorter : Topology → Topology → ℕ → ℕ → Type 0
-Shorter m n x zero = generation m x < generation n x
-Shorter m n x (suc zero) = generation n x ≡ suc (generation m x)
-Shorter m n x (suc (suc j)) =
-    (generation n x ≡ generation m x) × ((w : ℕ) × (generation n w % 2 ≡ 0) × Path n x w (suc j))
-
-module _ (v g p r : ℕ) (m n : Topology) (F : Manifold m) (K : BasesMeetIn nowhere m) (b : v < m .triangles)
-    (fit : Splittable m v) (S : CutResult v g p r m n) where
-  -- A triangle further up is left.
-  pub left : (x : ℕ) → x < m .triangles → generation m x % 2 ≡ 1 → link m (3 * x) ≢ boundary
-      → link m (3 * x) / 3 ≢ v → generation n x ≡ generation m x
-  left x l o q ne = go (ℕ-discrete (generation n x) (generation m x))
-    where
-      go : Dec (generation n x ≡ generation m x) → generation n x ≡ generation m x
-      go (yes e) = e
-      go (no d) = absurd (ne (hit v g p r m n F K b fit S x l o q d))
-
-  not-end : (u : ℕ) → generation m u % 2 ≡ 1 → link m (3 * u) ≢ boundary → u ≢ v
-  not-end = not-v v g p r m n F K b fit S
-
-  shorter-on : (x k : ℕ) → x < m .triangles → generation m x % 2 ≡ 1 → link m (3 * x) ≢ boundary
-      → link m (3 * x) / 3 ≢ v → Shorter m n (link m (3 * x) / 3) (suc k) → Shorter m n x (suc (suc k))
-  shorter-on x zero l o q ne a =
-      let e : generation n x ≡ generation m x = left x l o q ne in
-      (e, lands v g p r m n F K b fit S x l o q e (λ z. omega arith))
-  shorter-on x (suc k) l o q ne a =
-      let e : generation n x ≡ generation m x = left x l o q ne in
-      let s : link n (3 * x) ≡ link m (3 * x) = stays v g p r m n F K b fit S x l q e (a .0) in (
-        e,
-        (
-          a .1 .0,
-          a .1 .1,
-          across {t = x} (omega arith) (λ z. q (sym s ∙ z))
-              (subst (λ (z : ℕ). Path n (z / 3) (a .1 .0) (suc k)) (sym s) (a .1 .2)),
-        ),
-      )
-
-  rises-itself : (x : ℕ) → x ≡ v → generation m x < generation n x
-  rises-itself x e = rw e (S .own)
-
-  rises-by-one : (x : ℕ) → x < m .triangles → generation m x % 2 ≡ 1 → link m (3 * x) ≢ boundary
-      → link m (3 * x) / 3 ≡ v → generation n x ≡ suc (generation m x)
-  rises-by-one x l o q e = S .turns x l (not-end x o q) o q e
-
-  pub shortens : {x w k : ℕ} → x < m .triangles → w ≡ v → Path m x w k → Shorter m n x k
-  shortens {x} l e (ends f) = rises-itself x e
-  shortens {x} l e (across o q p) = shortens-on x l o q e refl p
-    where
-      shortens-on : {u w k : ℕ} (x : ℕ) → x < m .triangles → generation m x % 2 ≡ 1 → link m (3 * x) ≢ boundary
-          → w ≡ v → link m (3 * x) / 3 ≡ u → Path m u w k → Shorter m n x (suc k)
-      shortens-on x l o q e i (ends f) = rises-by-one x l o q (i ∙ e)
-      shortens-on x l o q e i (across {t = u} {k = k} o′ q′ p) =
-          shorter-on x k l o q (λ z. not-end u o′ q′ (sym i ∙ z))
-          (subst (λ (y : ℕ). Shorter m n y (suc k)) (sym i)
-          (shortens-on u (subst (λ (y : ℕ). y < m .triangles) i (falls m F K x l o q .0)) o′ q′ e refl p))
-
--- ---- the loop
-
-ltb-yes : (a b : ℕ) → a < b → ltb a b ≡ true
-ltb-yes a b l = go (ltb a b) (lt→ltb a b l)
-  where
-    go : (c : Bool) → T c → c ≡ true
-    go true x = refl
-    go false x = absurd x
-
-ltb-no : (a b : ℕ) → b ≤ a → ltb a b ≡ false
-ltb-no a b l = go (ltb a b) (ltb→lt a b)
-  where
-    go : (c : Bool) → (T c → a < b) → c ≡ false
-    go true x = let y = x tt in absurd (omega arith)
-    go false x = refl
+use Rattle.rules.specs.Tables.{Topology, generation}
 
 pub raise-stops : (n g t : ℕ) (d : Work) → g < generation (reached d) t → raise n g t d ≡ d
 unfolding raise
 raise-stops zero g t d l = refl
-raise-stops (suc n) g t d l = rw (ltb-yes g (generation (reached d) t) l, raise)
+raise-stops (suc n) g t d l = rw (lt-ltb g (generation (reached d) t) l, raise)
 
 pub raise-splits : (n g t v : ℕ) (d : Work) (x : Splittable (reached d) v) → generation (reached d) t ≤ g
     → chainEndWithin (generation (reached d) t) (reached d) t ≡ v → raise (suc n) g t d ≡ raise n g t (cut v d x)
 unfolding raise
 raise-splits n g t v d x l e =
-    rw (ltb-no g (generation (reached d) t) l, raise)
+    rw (le-ltb g (generation (reached d) t) l, raise)
     (ap (λ (y : ℕ). raise n g t (faceSplit y d)) e ∙ ap (raise n g t) (cut-face v d x))
 
 -- s splits, q of them at the boundary, no child above top.
@@ -178,23 +103,12 @@ module _ (t top v : ℕ) (d : Work) (x : Splittable (reached d) v) (F : Manifold
         places = places-on (X .places) (I .places);
       }
 
-pub room-first : (s : ℕ) (m : Topology) → Room (suc s) m → Room 1 m
-room-first s m R = record {
-  corners = omega (arith, R .corners);
-  links = omega (arith, R .links);
-  generations = omega (arith, R .generations);
-}
-
 pub room-rest : (s v g p r : ℕ) (m n : Topology) → CutResult v g p r m n → Room (suc s) m → Room s n
 room-rest s v g p r m n S R = record {
   corners = omega (arith, R .corners, S .triangles, S .corners);
   links = omega (arith, R .links, S .triangles, S .links);
   generations = omega (arith, R .generations, S .triangles, S .generations);
 }
-
-path-high : {m : Topology} {t v k : ℕ} → Manifold m → BasesMeetIn nowhere m → t < m .triangles → Path m t v (suc k)
-    → (x : Splittable m v) → topOf m v x ≤ generation m t
-path-high F K l (across {t = t} o r p) x = path-top {t = t} F K l o r refl p x
 
 pub raise-chain : (k n t v : ℕ) (d : Work) (x : Splittable (reached d) v) → Manifold (reached d)
     → BasesMeetIn nowhere (reached d) → t < reached d .triangles → Path (reached d) t v (suc k) → suc k ≤ n
@@ -217,7 +131,7 @@ raise-chain zero (suc n) t v d x F K l p i R =
     (one-split t (generation (reached d) t) v d x F K b (path-high F K l p x) R up (λ o. one))
 raise-chain (suc k) (suc n) t v d x F K l p i R =
     let b = path-use F K l p in
-    let R₁ : Room 1 (reached d) = room-first (suc k) (reached d) R in
+    let R₁ : Room 1 (reached d) = room-fewer (suc (suc k)) 1 (reached d) R (omega arith) in
     let S = cut-splitting v d x F b R₁ .result in
     let m : Topology = reached d in
     let N : Topology = reached (cut v d x) in

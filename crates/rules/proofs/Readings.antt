@@ -6,8 +6,9 @@ use lib.IntN.{pos, negsuc}
 use lib.ListN.{replicate, drop}
 use Rattle.rules.proofs.Computing.{computing, fresh, bytes, tetrahedron}
 use Rattle.rules.proofs.Examples.{lineOf, triangleOf, pointOf}
-use Rattle.rules.proofs.Refusals.{refusalAfter, flat, triangle}
-use Rattle.rules.specs.History.{Call, loads, refines, steps, asksRing, asksPosition, after, outcomes, outcome, nothing, cage, lastLoad, edges}
+use Rattle.rules.proofs.Refusals.{refusalAfter, cageAtOrigin, triangle}
+use Rattle.rules.specs.History.{Call, loads, refines, steps, asksRing, asksPosition, after, outcomes, outcome}
+use Rattle.rules.specs.History.{nothing, cage, lastLoad, edges}
 use Rattle.rules.specs.Numbers.{nearestThird, halfUp}
 use Rattle.rules.specs.Tables.{Mesh, topologyOf, meshOf, link, generation}
 
@@ -20,9 +21,9 @@ unfolding tetrahedron
 sideOne = loads tetrahedron ∷ refines 0 ∷ refines 3 ∷ refines 7 ∷ refines 9 ∷ []
 
 unfoldable pub octahedron : List Call
-unfolding flat
+unfolding cageAtOrigin
 octahedron =
-    loads (flat 6 8 (
+    loads (cageAtOrigin 6 8 (
     0 ∷ 1 ∷ 4 ∷ 1 ∷ 2 ∷ 4 ∷ 2 ∷ 3 ∷ 4 ∷ 3 ∷ 0 ∷ 4 ∷ 1 ∷ 0 ∷ 5 ∷ 2 ∷ 1 ∷ 5 ∷ 3 ∷ 2 ∷ 5 ∷ 0 ∷ 3 ∷ 5 ∷ []
     )) ∷ refines 0 ∷ refines 4 ∷ []
 
@@ -33,8 +34,8 @@ longChain =
 
 -- Two triangles that share one side.
 unfoldable pub hinge : List ℕ
-unfolding flat
-hinge = flat 4 2 (0 ∷ 1 ∷ 2 ∷ 1 ∷ 0 ∷ 3 ∷ [])
+unfolding cageAtOrigin
+hinge = cageAtOrigin 4 2 (0 ∷ 1 ∷ 2 ∷ 1 ∷ 0 ∷ 3 ∷ [])
 
 -- A triangle whose first coordinate has these four bytes.
 unfoldable pub withFirst : List ℕ → List ℕ
@@ -52,8 +53,8 @@ signedBytes =
 
 -- Two triangles that share all three sides.
 unfoldable pub foil : List Call
-unfolding flat
-foil = loads (flat 3 2 (0 ∷ 1 ∷ 2 ∷ 0 ∷ 2 ∷ 1 ∷ [])) ∷ refines 0 ∷ refines 1 ∷ []
+unfolding cageAtOrigin
+foil = loads (cageAtOrigin 3 2 (0 ∷ 1 ∷ 2 ∷ 0 ∷ 2 ∷ 1 ∷ [])) ∷ refines 0 ∷ refines 1 ∷ []
 
 -- The same two at generation 18, in 6 triangle slots.
 unfoldable pub atEighteen : Mesh

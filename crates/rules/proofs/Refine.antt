@@ -46,6 +46,20 @@ sound-room s A R = record {
   generations = R .triangles;
 }
 
+-- The base chain of a triangle, where it ends at an even one. Its odd triangles are counted, and are at most half of
+-- the generations up to that of the triangle.
+module _ (t : ℕ) (m : Mesh) (S : Sound m) (b : t < m .topology .triangles)
+    (even : generation (m .topology) (chainEnd (m .topology) t) % 2 ≡ 0) where
+  pub chain-path : Path (m .topology) t (chainEnd (m .topology) t) (chainOdd (m .topology) t)
+  chain-path =
+      way (generation (m .topology) t) (m .topology) (sound-manifold S) (sound-bases S) t b (omega arith) even
+
+  pub chain-counts : OddInChain (m .topology) t (chainOdd (m .topology) t)
+  chain-counts = path-counts chain-path
+
+  pub chain-bound : 2 * chainOdd (m .topology) t ≤ generation (m .topology) t + 1
+  chain-bound = path-short (sound-manifold S) (sound-bases S) b chain-path
+
 module _ (t : ℕ) (m : Mesh) (S : Sound m) (b : t < m .topology .triangles) (young : generation (m .topology) t < 20)
   where
     F : Manifold (m .topology)
@@ -58,7 +72,12 @@ module _ (t : ℕ) (m : Mesh) (S : Sound m) (b : t < m .topology .triangles) (yo
         → Raised t top s q (atFirst m) w → Refined t s q m w
     refined-of top s q i room w X =
         let A : TablesAgree (w .mesh) =
-        agree-on (S .tables) (X .places .size) (X .cornerRoom) (X .linkRoom) (X .generationRoom) in
+        agree-on (S .tables) (record {
+          positions = X .places .size;
+          corners = X .cornerRoom;
+          links = X .linkRoom;
+          generations = X .generationRoom;
+        }) in
         let p = X .places .size in
         let v : reached w .vertices ≤ vertexSlots (w .mesh) = omega (arith, X .vertices) in
         record {
@@ -75,8 +94,7 @@ module _ (t : ℕ) (m : Mesh) (S : Sound m) (b : t < m .topology .triangles) (yo
                 X .triangles,
                 X .boundaryCount,
                 edges-boundary (m .topology) F,
-                edges-boundary (reached w)
-                    (X .manifold),
+                edges-boundary (reached w) (X .manifold),
               );
           rises = X .rises;
           oddByOne = X .oddByOne;
@@ -116,23 +134,9 @@ module _ (t : ℕ) (m : Mesh) (S : Sound m) (b : t < m .topology .triangles) (yo
     pub refine-refined : generation (m .topology) (chainEnd (m .topology) t) % 2 ≡ 0
         → RoomFor (splitsOf (m .topology) t) m
         → Refined t (splitsOf (m .topology) t) 0 m (refine t (atFirst m))
-    unfolding F K
     refine-refined e R =
-        let p = way (generation (m .topology) t) (m .topology) F K t b (omega arith) e in
+        let p = chain-path t m S b e in
         let x = path-fit p in
         let z = boundary-none-of (chainEnd (m .topology) t) x in
         subst (λ (q : ℕ). Refined t (splitsOf (m .topology) t) q m (refine t (atFirst m))) z
         (refine-path (chainOdd (m .topology) t) (chainEnd (m .topology) t) p x R (omega (arith, R .vertices)))
-        -- The chain counts its odd triangles, which are at most half of the generations up to t's.
-
-    module _ (e : generation (m .topology) (chainEnd (m .topology) t) % 2 ≡ 0) where
-      chain-path : Path (m .topology) t (chainEnd (m .topology) t) (chainOdd (m .topology) t)
-      unfolding F K
-      chain-path = way (generation (m .topology) t) (m .topology) F K t b (omega arith) e
-
-      pub chain-counts : OddInChain (m .topology) t (chainOdd (m .topology) t)
-      chain-counts = path-counts chain-path
-
-      pub chain-bound : 2 * chainOdd (m .topology) t ≤ generation (m .topology) t + 1
-      unfolding F K
-      chain-bound = path-short F K b chain-path

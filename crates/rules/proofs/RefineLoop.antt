@@ -3,20 +3,21 @@ use mathlib.Core.Path.{_≡_, refl, sym, _∙_, subst}
 use mathlib.Core.Bool.{Bool, true, false}
 use Prim.Native.Nat.{ℕ, zero, suc, _+_, _*_, _/_, _%_, _≤_, _<_, max}
 use native.Mathlib.Omega.{arith}
-use lib.ListN.{length}
 use Rattle.rules.proofs.Bases.{reached}
 use Rattle.rules.proofs.Carried.{RefineFound}
-use Rattle.rules.proofs.Chain.{Path, ends, across, path-end, path-use, topOf, path-top, path-short, path-fit, way}
-use Rattle.rules.proofs.FaceSplit.{Room, Splitting, face-splitting}
+use Rattle.rules.proofs.Chain.{Path, ends, across, path-end, topOf, path-use, path-high, path-fit, Shorter}
+use Rattle.rules.proofs.Chain.{shortens}
+use Rattle.rules.proofs.FaceSplit.{Room, Splitting, room-fewer, face-splitting}
 use Rattle.rules.proofs.Manifold.{Manifold, BasesMeetIn}
-use Rattle.rules.proofs.Raise.{Shorter, shortens, raise-stops, raise-splits, room-first, room-rest}
-use Rattle.rules.proofs.Refine.{sound-room}
-use Rattle.rules.proofs.Relaxed.{sound-manifold, sound-bases, agree-on}
-use Rattle.rules.proofs.Runs.{Splittable, isEven}
+use Rattle.rules.proofs.Raise.{raise-stops, raise-splits, room-rest}
+use Rattle.rules.proofs.Refine.{sound-room, chain-path, chain-bound}
+use Rattle.rules.proofs.Relaxed.{SameSlots, sound-manifold, sound-bases, agree-on}
+use Rattle.rules.proofs.Runs.{Splittable, isEven, even-of}
 use Rattle.rules.proofs.Settled.{nowhere}
 use Rattle.rules.specs.Calls.{splitsOf}
 use Rattle.rules.specs.Conditions.{RoomFor}
-use Rattle.rules.specs.Split.{Work, atFirst, flip, withFlip, settle, splitPlaced, withSplit, faceSplit, chainEnd, chainOdd, raise, refine}
+use Rattle.rules.specs.Split.{Work, atFirst, flip, withFlip, settle, splitPlaced, withSplit, faceSplit, chainEnd}
+use Rattle.rules.specs.Split.{chainOdd, raise, refine}
 use Rattle.rules.specs.Tables.{Topology, Mesh, TablesAgree, withTopology, link, generation, isBase, vertexSlots}
 
 -- k face splits, each at the end of the base chain of t.
@@ -45,9 +46,6 @@ pub record Ahead (k g t : ℕ) (w : Work) : Type 0 where
   pub room : Room k (reached w)
   pub rising : Rising k g t (reached w)
 
-even-of : {m : Topology} {v : ℕ} → Splittable m v → generation m v % 2 ≡ 0
-even-of (isEven e) = e
-
 -- The end of the chain of t: what is split next.
 pub record End (g v : ℕ) (m : Topology) : Type 0 where
   pub inUse : v < m .triangles
@@ -57,9 +55,11 @@ pub record End (g v : ℕ) (m : Topology) : Type 0 where
 path-young : {m : Topology} {t v k : ℕ} → Manifold m → BasesMeetIn nowhere m → t < m .triangles → Path m t v k
     → generation m v ≤ generation m t
 path-young F K l (ends e) = omega arith
-path-young {m} {v = v} F K l (across {t = t} o r p) = below (path-fit p) (path-top {t = t} F K l o r refl p)
+path-young {m} {t} {v} F K l (across o r p) =
+    below (path-fit p) (path-high F K l (across {t = t} o r p))
   where
-    below : (x : Splittable m v) → ((x : Splittable m v) → topOf m v x ≤ generation m t) → generation m v ≤ generation m t
+    below : (x : Splittable m v) → ((x : Splittable m v) → topOf m v x ≤ generation m t)
+        → generation m v ≤ generation m t
     below (isEven e) f = let h = f (isEven e) in omega arith
 
 pub ahead-end : {k g t : ℕ} {w : Work} → Ahead (suc k) g t w → End g (chainEnd (reached w) t) (reached w)
@@ -79,7 +79,8 @@ pub ahead-splitting : {k g t : ℕ} {w : Work} → Ahead (suc k) g t w →
     Splitting v (suc (generation (reached w) v)) 1 0 w (faceSplit v w)
 ahead-splitting {k} {t = t} {w = w} A =
     let E = ahead-end A in
-    face-splitting (chainEnd (reached w) t) w (A .manifold) (E .inUse) (room-first k (reached w) (A .room)) (E .even)
+    face-splitting (chainEnd (reached w) t) w (A .manifold) (E .inUse)
+    (room-fewer (suc k) 1 (reached w) (A .room) (omega arith)) (E .even)
 
 rising-on : (k n g t : ℕ) (m x : Topology) → Manifold x → BasesMeetIn nowhere x → t < x .triangles
     → generation m t ≡ g → max 1 n ≡ suc k → Shorter m x t n → Rising k g t x
@@ -101,7 +102,8 @@ ahead-on {k} {g} {t} {w} A =
     let E = ahead-end A in
     let S = ahead-splitting A .result in
     let L = A .rising .1 in
-    let s = shortens v _ _ _ m x (A .manifold) (A .basesMeet) (E .inUse) (isEven (E .even)) S (A .inUse) refl (L .path) in
+    let s =
+    shortens v _ _ _ m x (A .manifold) (A .basesMeet) (E .inUse) (isEven (E .even)) S (A .inUse) refl (L .path) in
     let l : t < x .triangles = omega (arith, S .triangles, A .inUse) in
     record {
       manifold = S .manifold;
@@ -120,13 +122,6 @@ raise-is-split-ends (suc k) zero w i A = absurd (omega arith)
 raise-is-split-ends {g} {t} (suc k) (suc n) w i A =
     raise-splits n g t (chainEnd (reached w) t) w (isEven (ahead-end A .even)) (omega (arith, A .rising .0)) refl
     ∙ raise-is-split-ends k n _ (omega arith) (ahead-on A)
-
--- What the loop of refine keeps: the tables keep their slots.
-pub record SameSlots (m n : Mesh) : Type 0 where
-  pub positions : length (n .positions) ≡ length (m .positions)
-  pub corners : length (n .topology .corners) ≡ length (m .topology .corners)
-  pub links : length (n .topology .links) ≡ length (m .topology .links)
-  pub generations : length (n .topology .generations) ≡ length (m .topology .generations)
 
 -- A flip is counted once, so that a face split counts three flips at most.
 pub settle-counts : (s : ℕ) (w : Work) → settle s w .flips ≤ w .flips + 1
@@ -166,13 +161,6 @@ pub record NextSplit (v : ℕ) (w : Work) : Type 0 where
   pub room : RoomFor 1 (w .mesh)
 
 module _ {t : ℕ} {m : Mesh} (R : RefineFound t m) where
-  chain : Path (m .topology) t (chainEnd (m .topology) t) (chainOdd (m .topology) t)
-  chain =
-      way _ (m .topology) (sound-manifold (R .sound)) (sound-bases (R .sound)) t (R .inUse) (omega arith) (R .evenEnd)
-
-  short : 2 * chainOdd (m .topology) t ≤ generation (m .topology) t + 1
-  short = path-short (sound-manifold (R .sound)) (sound-bases (R .sound)) (R .inUse) chain
-
   ahead : Ahead (splitsOf (m .topology) t) (generation (m .topology) t) t (atFirst m)
   ahead = record {
     manifold = sound-manifold (R .sound);
@@ -184,16 +172,24 @@ module _ {t : ℕ} {m : Mesh} (R : RefineFound t m) where
     where
       go : (k : ℕ) → splitsOf (m .topology) t ≡ k → Rising k (generation (m .topology) t) t (m .topology)
       go zero e = absurd (omega arith)
-      go (suc k) e = (refl, record { odd = chainOdd (m .topology) t; path = chain; splits = e })
+      go (suc k) e = (
+        refl,
+        record {
+          odd = chainOdd (m .topology) t;
+          path = chain-path t m (R .sound) (R .inUse) (R .evenEnd);
+          splits = e;
+        },
+      )
 
   -- Where nothing is refused, refine is as many face splits as t takes.
   pub refine-is-split-ends : refine t (atFirst m) ≡ splitEnds (splitsOf (m .topology) t) t (atFirst m)
   unfolding refine
   refine-is-split-ends =
-      raise-is-split-ends (splitsOf (m .topology) t) _ (atFirst m) (omega (arith, short)) ahead
+      raise-is-split-ends (splitsOf (m .topology) t) _ (atFirst m)
+      (omega (arith, chain-bound t m (R .sound) (R .inUse) (R .evenEnd))) ahead
 
   pub few-splits : splitsOf (m .topology) t ≤ 10
-  few-splits = omega (arith, short, R .young)
+  few-splits = omega (arith, chain-bound t m (R .sound) (R .inUse) (R .evenEnd), R .young)
 
   pub refining-begins : Refining t m (atFirst m)
   refining-begins = record {
@@ -229,9 +225,8 @@ module _ {t : ℕ} {m : Mesh} (R : RefineFound t m) where
       pub refining-next : NextSplit (chainEnd (reached w) t) w
       refining-next =
           let E = ahead-end ahead-now in
-          let L = N .slots in
           record {
-            tables = agree-on (R .sound .tables) (L .positions) (L .corners) (L .links) (L .generations);
+            tables = agree-on (R .sound .tables) (N .slots);
             inUse = E .inUse;
             young = omega (arith, E .young, R .young);
             room = record {

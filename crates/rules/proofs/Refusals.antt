@@ -21,13 +21,13 @@ unfoldable pub uneven : Mesh
 uneven = meshOf (topologyOf 0 0 (replicate 27 0) (replicate 27 0) (replicate 8 0)) (replicate 18 (pos 0))
 
 -- A cage of v vertices at the origin and these corners.
-unfoldable pub flat : ℕ → ℕ → List ℕ → List ℕ
+unfoldable pub cageAtOrigin : ℕ → ℕ → List ℕ → List ℕ
 unfolding bytes
-flat v f corners = bytes (v ∷ f ∷ []) ++ replicate (12 * v) 0 ++ bytes corners
+cageAtOrigin v f corners = bytes (v ∷ f ∷ []) ++ replicate (12 * v) 0 ++ bytes corners
 
 unfoldable pub triangle : List ℕ
-unfolding flat
-triangle = flat 3 1 (0 ∷ 1 ∷ 2 ∷ [])
+unfolding cageAtOrigin
+triangle = cageAtOrigin 3 1 (0 ∷ 1 ∷ 2 ∷ [])
 
 -- The same with a first coordinate of 16,777,217.
 unfoldable pub tooFar : List ℕ
@@ -46,16 +46,16 @@ pyramids n zero = []
 pyramids n (suc k) = k ∷ (suc k % n) ∷ n ∷ (suc k % n) ∷ k ∷ (n + 1) ∷ pyramids n k
 
 unfoldable pub doublePyramid : ℕ → List ℕ
-unfolding flat pyramids
-doublePyramid n = flat (n + 2) (2 * n) (pyramids n n)
+unfolding cageAtOrigin pyramids
+doublePyramid n = cageAtOrigin (n + 2) (2 * n) (pyramids n n)
 
 pub record Table : Type 0 where
   pub n1 : refusalAfter [] (loads tetrahedron) uneven ≡ 1
   pub n2 : refusalAfter [] (loads (take 7 tetrahedron)) small ≡ 2
-  pub n3 : refusalAfter [] (loads (flat 3 1 (0 ∷ 0 ∷ 1 ∷ []))) small ≡ 3
+  pub n3 : refusalAfter [] (loads (cageAtOrigin 3 1 (0 ∷ 0 ∷ 1 ∷ []))) small ≡ 3
   pub n4 : refusalAfter [] (loads tooFar) small ≡ 4
-  pub n5 : refusalAfter [] (loads (flat 4 2 (0 ∷ 1 ∷ 2 ∷ 0 ∷ 1 ∷ 3 ∷ []))) small ≡ 5
-  pub n6 : refusalAfter [] (loads (flat 4 1 (0 ∷ 1 ∷ 2 ∷ []))) small ≡ 6
+  pub n5 : refusalAfter [] (loads (cageAtOrigin 4 2 (0 ∷ 1 ∷ 2 ∷ 0 ∷ 1 ∷ 3 ∷ []))) small ≡ 5
+  pub n6 : refusalAfter [] (loads (cageAtOrigin 4 1 (0 ∷ 1 ∷ 2 ∷ []))) small ≡ 6
   pub n7 : refusalAfter [] (refines 0) small ≡ 7
   pub n8 : refusalAfter (loads tetrahedron ∷ []) (refines 4) small ≡ 8
   pub n9 : refusalAfter [] (refines 0) grown ≡ 9
@@ -67,7 +67,7 @@ pub record Table : Type 0 where
   pub n14 : refusalAfter (loads tetrahedron ∷ []) (asksRing 0 (7 ∷ 7 ∷ [])) small ≡ 14
 
 pub refusals : Table
-unfolding computing fresh small uneven tetrahedron flat triangle tooFar grown doublePyramid
+unfolding computing fresh small uneven tetrahedron cageAtOrigin triangle tooFar grown doublePyramid
 refusals = record {
   n1 = refl;
   n2 = refl;

@@ -1,4 +1,4 @@
--- Sound meshes are the manifolds with agreeing tables in which no two bases meet: the five kinds traded for levels, and back.
+-- Sound meshes are the manifolds with agreeing tables in which no two bases meet: the five kinds traded for levels.
 use mathlib.Core.Path.{_≡_, sym, subst}
 use mathlib.Core.Logic.{_⊎_, inl, inr}
 use Prim.Native.Nat.{ℕ, _*_, _/_, _%_, _≤_, _<_}
@@ -6,7 +6,6 @@ use native.Mathlib.Omega.{arith}
 use lib.ListN.{length, getD}
 use lib.IntN.{pos}
 use Rattle.rules.proofs.Bases.{boundary-not-base}
-use Rattle.rules.proofs.Differences.{near}
 use Rattle.rules.proofs.FiveKinds.{kind-level, kind-bases, level-kind}
 use Rattle.rules.proofs.Manifold.{Manifold, Joined, Base, BasesMeetIn}
 use Rattle.rules.proofs.Settled.{nowhere}
@@ -83,15 +82,18 @@ manifold-sound m A F K v f room low near = record {
   generations = low;
 }
 
--- The slots stay, so that the tables go on agreeing.
-pub agree-on : {m n : Mesh} → TablesAgree m → length (n .positions) ≡ length (m .positions)
-    → length (n .topology .corners) ≡ length (m .topology .corners)
-    → length (n .topology .links) ≡ length (m .topology .links)
-    → length (n .topology .generations) ≡ length (m .topology .generations) → TablesAgree n
-agree-on A p c l g = record {
-  positions = omega (arith, A .positions);
-  corners = omega (arith, A .corners);
-  links = omega (arith, A .links);
-  fewVertices = omega (arith, A .fewVertices);
-  fewTriangles = omega (arith, A .fewTriangles);
+-- The tables keep their slots, so that they go on agreeing.
+pub record SameSlots (m n : Mesh) : Type 0 where
+  pub positions : length (n .positions) ≡ length (m .positions)
+  pub corners : length (n .topology .corners) ≡ length (m .topology .corners)
+  pub links : length (n .topology .links) ≡ length (m .topology .links)
+  pub generations : length (n .topology .generations) ≡ length (m .topology .generations)
+
+pub agree-on : {m n : Mesh} → TablesAgree m → SameSlots m n → TablesAgree n
+agree-on A L = record {
+  positions = omega (arith, A .positions, L .positions);
+  corners = omega (arith, A .corners, L .corners, L .generations);
+  links = omega (arith, A .links, L .links, L .generations);
+  fewVertices = omega (arith, A .fewVertices, L .positions);
+  fewTriangles = omega (arith, A .fewTriangles, L .generations);
 }

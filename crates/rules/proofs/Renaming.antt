@@ -7,7 +7,6 @@ use Rattle.rules.specs.Sound.{OneFan, Turns, here, turn}
 use Rattle.rules.specs.Tables.{Topology, sides, origin, target, boundary, link, rotate}
 
 -- `r` renames the sides of m to sides of n. All but those that go keep their partner, ends and level.
-
 pub record Renames (m n : Topology) (Kept : ℕ → Type 0) (r : ℕ → ℕ) : Type 0 where
   pub atBoundary : r boundary ≡ boundary
   pub into : (h : ℕ) → h < sides m → r h < sides n
@@ -18,8 +17,8 @@ pub record Renames (m n : Topology) (Kept : ℕ → Type 0) (r : ℕ → ℕ) : 
   pub stays : (h : ℕ) → h < sides m → Kept h → Partnered m h → Kept (link m h)
 
 module _ (m n : Topology) (Kept : ℕ → Type 0) (r : ℕ → ℕ) (R : Renames m n Kept r) where
-  partnered : (h : ℕ) → h < sides m → Kept h → Partnered m h → Partnered n (r h)
-  partnered h b k M =
+  renamed-partner : (h : ℕ) → h < sides m → Kept h → Partnered m h → Partnered n (r h)
+  renamed-partner h b k M =
       let p : ℕ = link m h in
       let kp : Kept p = R .stays h b k M in
       let bp : p < sides m = M .inUse in
@@ -34,7 +33,7 @@ module _ (m n : Topology) (Kept : ℕ → Type 0) (r : ℕ → ℕ) (R : Renames
 
   pub linked : (h : ℕ) → h < sides m → Kept h → Joined m h → Joined n (r h)
   linked h b k (inl e) = inl (R .links h b k ∙ ap r e ∙ R .atBoundary)
-  linked h b k (inr M) = inr (partnered h b k M)
+  linked h b k (inr M) = inr (renamed-partner h b k M)
 
 -- ---- fans
 

@@ -6,16 +6,19 @@ use Prim.Native.Nat.{ℕ, _*_, _%_, _≤_, _<_}
 use lib.ListN.{length, getD}
 use lib.Dec.{T}
 use lib.IntN.{ℤ, pos, natAbs, _-ℤ_, _*ℤ_}
-use Rattle.rules.proofs.CallRefusals.{load-refusal, refine-refusal, whole-step-refusal, ring-refusal, position-refusal, refused-leaves}
+use Rattle.rules.proofs.CallRefusals.{load-refusal, refine-refusal, whole-step-refusal, ring-refusal}
+use Rattle.rules.proofs.CallRefusals.{position-refusal, refused-leaves}
 use Rattle.rules.proofs.Histories.{every-history}
-use Rattle.rules.proofs.Outcomes.{load-makes, refine-makes, chain-counted, chain-falls, refine-is-split, whole-step-makes, ring-reads, position-reads, half-up-nearest, half-up-alone}
+use Rattle.rules.proofs.Outcomes.{load-makes, refine-makes, chain-counted, chain-falls, refine-is-split}
+use Rattle.rules.proofs.Outcomes.{whole-step-makes, ring-reads, position-reads, half-up-nearest, half-up-alone}
 use Rattle.rules.proofs.RingTheory.{ring-makes}
 use Rattle.rules.proofs.Rounding.{nearest-third, nearest-third-only}
 use Rattle.rules.proofs.SoundTest.{sound-is}
 use Rattle.rules.specs.Below.{fill}
 use Rattle.rules.specs.Cage.{cageOf, loaded}
 use Rattle.rules.specs.Calls.{outcomeOf, zeroPoint, loadCall, refineCall, wholeStepCall, ringCall, positionCall}
-use Rattle.rules.specs.Conditions.{OddInChain, First, loadConditions, refineConditions, wholeStepConditions, ringConditions, positionConditions}
+use Rattle.rules.specs.Conditions.{OddInChain, First, loadConditions, refineConditions, wholeStepConditions}
+use Rattle.rules.specs.Conditions.{ringConditions, positionConditions}
 use Rattle.rules.specs.History.{Call, outcome, lentBuffer, EveryHistory}
 use Rattle.rules.specs.Numbers.{nearestThird, halfUp}
 use Rattle.rules.specs.Promises.{Nearest, Loaded, ChainFalls, RefineMakes, StepMakes, RingMakes, kobbelt}

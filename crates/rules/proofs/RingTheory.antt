@@ -8,7 +8,7 @@ use native.Mathlib.Omega.{arith}
 use native.Mathlib.Decide.{ℕ-discrete}
 use lib.ListN.{length, getD}
 use lib.Dec.{eqb}
-use Rattle.rules.proofs.Edges.{bit-eq, bit-ne}
+use Rattle.rules.proofs.Decide.{is-eq, bit-yes, bit-no}
 use Rattle.rules.proofs.FanTest.{MeetsAll, last, all-counted, fan-met}
 use Rattle.rules.proofs.Fans.{Walked, Inside, Starts, sideAt, Meets, first-side, fan-walked}
 use Rattle.rules.proofs.Relaxed.{sound-manifold}
@@ -85,13 +85,14 @@ module _ (m : Topology) (G : Glued m) (v s : ℕ) (l : List ℕ) (S : Starts m v
   inner-length : ¬ OnBoundary m v → length (neighbours m l) ≡ triangleCount m v
   inner-length n =
       let a = neighbours-count (length l - 1) last-side in
-      let b = bit-ne (rotate m (sideAt l (length l - 1))) boundary (λ q. n (to-boundary (length l - 1) last-side q)) in
+      let b =
+      bit-no (is-eq (rotate m (sideAt l (length l - 1))) boundary) (λ q. n (to-boundary (length l - 1) last-side q)) in
       omega arith
 
   outer-length : OnBoundary m v → length (neighbours m l) ≡ triangleCount m v + 1
   outer-length x =
       let a = neighbours-count (length l - 1) last-side in
-      let b = bit-eq (rotate m (sideAt l (length l - 1))) boundary (of-boundary (length l - 1) last-side x) in
+      let b = bit-yes (is-eq (rotate m (sideAt l (length l - 1))) boundary) (of-boundary (length l - 1) last-side x) in
       omega arith
 
 ring-of : (m : Topology) → Glued m → (v : ℕ) → OneFan m v → RingMakes m v
@@ -112,7 +113,8 @@ ring-of m G v f =
       inUse = W .inUse;
       turns = W .turns;
       ends = W .ends;
-      endsAtBoundary = λ i e. (to-boundary m G v s (fan m v) S W (M .all) i e, of-boundary m G v s (fan m v) S W (M .all) i e);
+      endsAtBoundary = λ i e.
+          (to-boundary m G v s (fan m v) S W (M .all) i e, of-boundary m G v s (fan m v) S W (M .all) i e);
       meets = M .all;
       once = W .once;
       entries = neighbours-at m (fan m v);

@@ -5,10 +5,10 @@ use Prim.Native.Nat.{ℕ, suc, _+_, _*_, _≤_, _<_}
 use native.Mathlib.Omega.{arith}
 use lib.ListN.{length}
 use lib.Dec.{eqb}
+use Rattle.rules.proofs.Entries.{Each}
 use Rattle.rules.proofs.Fans.{sideAt}
 use Rattle.rules.proofs.RingTheory.{ring-makes}
 use Rattle.rules.proofs.Sides.{next-lt, previous-lt}
-use Rattle.rules.proofs.StepPositions.{Each}
 use Rattle.rules.specs.Numbers.{InRange}
 use Rattle.rules.specs.Promises.{RingMakes}
 use Rattle.rules.specs.Ring.{fan, neighbours, ring}

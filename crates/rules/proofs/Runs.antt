@@ -9,6 +9,9 @@ use Rattle.rules.specs.Tables.{Topology, generation}
 pub data Splittable (m : Topology) (v : ℕ) : Type 0 where
   isEven : generation m v % 2 ≡ 0 → Splittable m v
 
+pub even-of : {m : Topology} {v : ℕ} → Splittable m v → generation m v % 2 ≡ 0
+even-of (isEven e) = e
+
 abbrev pub cut : (v : ℕ) (d : Work) → Splittable (reached d) v → Work
 cut v d (isEven e) = faceSplit v d
 

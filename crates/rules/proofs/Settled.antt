@@ -2,15 +2,18 @@
 use mathlib.Core.Path.{_≡_, refl, sym, ap, _∙_, subst}
 use mathlib.Core.Logic.{_≢_, _⊎_, inl, inr}
 use mathlib.Core.List.{List, [], _∷_}
-use Prim.Native.Nat.{ℕ, suc, _+_, _*_, _/_, _%_, _≤_, _<_}
+use Prim.Native.Nat.{ℕ, suc, _*_, _/_, _%_, _≤_, _<_}
 use native.Mathlib.Omega.{arith}
 use native.Mathlib.Decide.{ℕ-discrete, decLe}
 use Rattle.rules.proofs.Bases.{Child, Settling, kept, flipped, settling-manifold}
 use Rattle.rules.proofs.Edges.{boundarySides, settling-boundary}
+use Rattle.rules.proofs.Entries.{Each, Some, each-both, some-with}
+use Rattle.rules.proofs.FlipRead.{flipName, flip-name-else, by-flip-name}
 use Rattle.rules.proofs.Manifold.{Manifold, BasesMeetIn}
 use Rattle.rules.proofs.Past.{Past, past-same, past-on}
-use Rattle.rules.proofs.Settling.{Same, settling-child, settling-bases, settling-same, settling-past, settling-generation, settling-flips, settling-waits, Follow, settling-follow, settling-spread, settling-meets}
-use Rattle.rules.proofs.Sides.{renameTwo, rename-a, rename-b, rename-else}
+use Rattle.rules.proofs.Settling.{Same, settling-child, settling-bases, same-all, settling-same, settling-past}
+use Rattle.rules.proofs.Settling.{settling-generation, settling-flips, settling-waits, Follow, settling-follow}
+use Rattle.rules.proofs.Settling.{settling-spread, settling-meets}
 use Rattle.rules.specs.Promises.{Still, Written}
 use Rattle.rules.specs.Tables.{Topology, sides, boundary, link, generation}
 
@@ -23,16 +26,13 @@ abbrev pub nowhere : ℕ → Type 0
 nowhere x = ⊥
 
 abbrev pub Among : List ℕ → ℕ → Type 0
-Among [] x = ⊥
-Among (c ∷ cs) x = (x ≡ c) ⊎ Among cs x
+Among cs x = Some (λ c. x ≡ c) cs
 
 abbrev pub Children : ℕ → ℕ → Topology → List ℕ → Type 0
-Children p g m [] = Unit {0}
-Children p g m (c ∷ cs) = Child p g c m × Children p g m cs
+Children p g m cs = Each (λ c. Child p g c m) cs
 
 abbrev pub Without : ℕ → List ℕ → Type 0
-Without c [] = Unit {0}
-Without c (d ∷ cs) = (d ≢ c) × Without c cs
+Without c cs = Each (λ d. d ≢ c) cs
 
 abbrev pub Distinct : List ℕ → Type 0
 Distinct [] = Unit {0}
@@ -40,16 +40,13 @@ Distinct (c ∷ cs) = Without c cs × Distinct cs
 
 -- The base of x meets the base of one of them.
 abbrev pub Met : ℕ → Topology → List ℕ → Type 0
-Met x m [] = ⊥
-Met x m (c ∷ cs) = (link m (3 * c) ≡ 3 * x) ⊎ Met x m cs
+Met x m cs = Some (λ c. link m (3 * c) ≡ 3 * x) cs
 
 -- ---- one outcome and the children still to come
 
 pub children-on : (p g c : ℕ) (m k : Topology) (cs : List ℕ) → Settling c m k → Child p g c m → Children p g m cs
     → Without c cs → Children p g k cs
-children-on p g c m k [] o C D w = tt
-children-on p g c m k (d ∷ cs) o C D w =
-    (settling-child p g c d m k o C (D .0) (w .0), children-on p g c m k cs o C (D .1) (w .1))
+children-on p g c m k cs o C = each-both (λ d. settling-child p g c d m k o C) cs
 
 waits-on : (p g c x : ℕ) (m k : Topology) (cs : List ℕ) → Manifold m → Settling c m k → Child p g c m
     → Children p g m cs → Without c cs → x < m .triangles → Met x m cs
@@ -64,9 +61,9 @@ waits-on p g c x m k (d ∷ cs) F o C D w l (inr e) =
 
 met-back : (p g c x : ℕ) (m k : Topology) (cs : List ℕ) → Settling c m k → Child p g c m → Children p g m cs
     → Without c cs → generation k x % 2 ≡ 1 → Met x k cs → Met x m cs
-met-back p g c x m k [] o C D w i e = absurd e
-met-back p g c x m k (d ∷ cs) o C D w i (inl e) = inl (settling-meets p g c d x m k o C (D .0) (w .0) i e)
-met-back p g c x m k (d ∷ cs) o C D w i (inr e) = inr (met-back p g c x m k cs o C (D .1) (w .1) i e)
+met-back p g c x m k cs o C D w i =
+    some-with (λ (d : ℕ) (K : Child p g d m × (d ≢ c)). settling-meets p g c d x m k o C (K .0) (K .1) i) cs
+    (each-both (λ d K ne. (K, ne)) cs D w)
 
 -- ---- all of them
 
@@ -82,9 +79,6 @@ same-on m k n a b = record {
   links = b .links ∙ a .links;
   generations = b .generations ∙ a .generations;
 }
-
-same-all : (m : Topology) → Same m m
-same-all m = record { vertices = refl; triangles = refl; corners = refl; links = refl; generations = refl }
 
 pub settled-same : {cs : List ℕ} {m n : Topology} → Settled cs m n → Same m n
 settled-same (done {m = m}) = same-all m
@@ -108,9 +102,9 @@ settled-past b (then {c = c} {m = m} {k = k} o s) i =
     past-on (settling-past c b m k o i) (settled-past b s (omega (arith, settling-same c m k o .triangles)))
 
 -- A triangle of another generation is left.
-gen-on : (p g c x : ℕ) (m k n : Topology) → Child p g c m → Settling c m k → generation m x ≢ g
+generation-on : (p g c x : ℕ) (m k n : Topology) → Child p g c m → Settling c m k → generation m x ≢ g
     → (generation k x ≢ g → generation n x ≡ generation k x) → generation n x ≡ generation m x
-gen-on p g c x m k n C o e ih =
+generation-on p g c x m k n C o e ih =
     let a : generation k x ≡ generation m x = settling-generation c x m k o (λ q. e (q ∙ C .generations)) in
     ih (λ q. e (sym a ∙ q)) ∙ a
 
@@ -118,7 +112,7 @@ pub settled-generation : (p g x : ℕ) {cs : List ℕ} {m n : Topology} → Sett
     → Distinct cs → generation m x ≢ g → generation n x ≡ generation m x
 settled-generation p g x done K D e = refl
 settled-generation p g x (then {c = c} {cs = cs} {m = m} {k = k} {n = n} o s) K D e =
-    gen-on p g c x m k n (K .0) o e
+    generation-on p g c x m k n (K .0) o e
     (settled-generation p g x s (children-on p g c m k cs o (K .0) (K .1) (D .0)) (D .1))
 
 -- A generation stays, or is one above the children's.
@@ -181,16 +175,16 @@ moved-on : (p g c x : ℕ) (m k n : Topology) (cs : List ℕ) → Child p g c m 
     → generation n x ≢ generation m x → Among (c ∷ cs) x ⊎ Met x m (c ∷ cs)
 moved-on p g c x m k n cs C D w o i ih ne = go (settling-moves c x m k o)
   where
-    og : generation k x % 2 ≡ 1 → Among cs x ⊎ Met x k cs → Among (c ∷ cs) x ⊎ Met x m (c ∷ cs)
-    og j (inl a) = inl (inr a)
-    og j (inr a) = inr (inr (met-back p g c x m k cs o C D w j a))
+    later : generation k x % 2 ≡ 1 → Among cs x ⊎ Met x k cs → Among (c ∷ cs) x ⊎ Met x m (c ∷ cs)
+    later j (inl a) = inl (inr a)
+    later j (inr a) = inr (inr (met-back p g c x m k cs o C D w j a))
 
     go : (generation k x ≡ generation m x) ⊎ ((x ≡ c) ⊎ (link m (3 * c) ≡ 3 * x)) → Among (c ∷ cs) x ⊎ Met x m (c ∷ cs)
     go (inr (inl e)) = inl (inl e)
     go (inr (inr e)) = inr (inl e)
     go (inl e) =
         let j : generation k x % 2 ≡ 1 = ap (λ (y : ℕ). y % 2) e ∙ i in
-        og j (ih (λ q. ne (q ∙ e)) j)
+        later j (ih (λ q. ne (q ∙ e)) j)
 
 pub settled-moved : (p g x : ℕ) {cs : List ℕ} {m n : Topology} → Settled cs m n → Children p g m cs → Distinct cs
     → generation n x ≢ generation m x → generation m x % 2 ≡ 1 → Among cs x ⊎ Met x m cs
@@ -216,6 +210,11 @@ settled-follow p g x t (then {c = c} {cs = cs} {m = m} {k = k} {n = n} o s) F K 
 
 -- ---- what is not written: a triangle whose generation has not changed
 
+-- It is none whose generation has.
+pub unchanged-not : (m n : Topology) {x c : ℕ} → generation n c ≢ generation m c → generation n x ≡ generation m x
+    → x ≢ c
+unchanged-not m n w e q = w (subst (λ (y : ℕ). generation n y ≡ generation m y) q e)
+
 pub still-all : (m : Topology) → Still m m
 still-all m = record {
   grows = omega arith;
@@ -233,7 +232,10 @@ still-on m k n A B = record {
       let g = A .grows in
       B .corners h (omega arith) (late (h / 3) (omega arith) e) ∙ A .corners h l (early (h / 3) (omega arith) e);
   links = λ h l e f. go h l e f;
-  shift = λ h l e. let g = A .grows in moves h (A .shift h l (early (h / 3) (omega arith) e)) (B .shift h (omega arith) (late (h / 3) (omega arith) e));
+  shift = λ h l e.
+      let g = A .grows in
+      moves h (A .shift h l (early (h / 3) (omega arith) e))
+      (B .shift h (omega arith) (late (h / 3) (omega arith) e));
 }
   where
     early-written : (y : ℕ) → Dec (m .triangles ≤ y) → Written m k y → Written m n y
@@ -294,10 +296,9 @@ settling-still c m n F (flipped u B S) = record {
   links = λ h l e f.
       let d = away h f in
       S .links h l (not-c (h / 3) e) (not-u (h / 3) e)
-      ∙ rename-else (3 * c + 1) (3 * u) (3 * u + 1) (3 * c) (link m h) (omega arith) (omega arith);
+      ∙ flip-name-else c u (link m h) (omega arith) (omega arith);
   shift = λ h l e.
-      slide h (S .links h l (not-c (h / 3) e) (not-u (h / 3) e)) (ℕ-discrete (link m h) (3 * c + 1))
-      (ℕ-discrete (link m h) (3 * u + 1));
+      slide h (S .links h l (not-c (h / 3) e) (not-u (h / 3) e));
 }
   where
     to-slot : (h x : ℕ) → link n h ≡ 3 * x → generation n x ≢ generation m x
@@ -306,20 +307,13 @@ settling-still c m n F (flipped u B S) = record {
         let q : link n h / 3 ≡ x = omega arith in
         inr (inr (λ z. w (subst (λ (y : ℕ). generation n y ≡ generation m y) q z)))
 
-    slide : (h : ℕ) → link n h ≡ renameTwo (3 * c + 1) (3 * u) (3 * u + 1) (3 * c) (link m h)
-        → Dec (link m h ≡ 3 * c + 1) → Dec (link m h ≡ 3 * u + 1)
+    slide : (h : ℕ) → link n h ≡ flipName c u (link m h)
         → (link n h ≡ link m h) ⊎ Written m n (link n h / 3)
-    slide h k (yes a) b =
-        to-slot h u
-        (k ∙ ap (renameTwo (3 * c + 1) (3 * u) (3 * u + 1) (3 * c)) a ∙ rename-a (3 * c + 1) (3 * u) (3 * u + 1)
-        (3 * c))
-        (λ z. omega (arith, S .generationU, B .same))
-    slide h k (no a) (yes b) =
-        to-slot h c
-        (k ∙ ap (renameTwo (3 * c + 1) (3 * u) (3 * u + 1) (3 * c)) b ∙ rename-b (3 * c + 1) (3 * u) (3 * u + 1)
-        (3 * c) (omega (arith, B .differ)))
-        (λ z. omega (arith, S .generationS))
-    slide h k (no a) (no b) = inl (k ∙ rename-else (3 * c + 1) (3 * u) (3 * u + 1) (3 * c) (link m h) a b)
+    slide h =
+        by-flip-name c u (λ z. link n h ≡ z → (link n h ≡ link m h) ⊎ Written m n (link n h / 3)) (B .differ) (link m h)
+        (λ _ e. to-slot h u e (λ z. omega (arith, S .generationU, B .same)))
+        (λ _ e. to-slot h c e (λ z. omega (arith, S .generationS)))
+        (λ _ _ e. inl e)
 
     up : (x : ℕ) → Dec (x ≡ c) → Dec (x ≡ u) → generation m x ≤ generation n x
     up x (yes e) d = rw e (omega (arith, S .generationS))
@@ -327,14 +321,10 @@ settling-still c m n F (flipped u B S) = record {
     up x (no e) (no f) = omega (arith, S .generations x e f)
 
     not-c : (x : ℕ) → generation n x ≡ generation m x → x ≢ c
-    not-c x e q =
-        let z : generation n c ≡ generation m c = subst (λ (y : ℕ). generation n y ≡ generation m y) q e in
-        omega (arith, S .generationS)
+    not-c x = unchanged-not m n (λ z. omega (arith, S .generationS))
 
     not-u : (x : ℕ) → generation n x ≡ generation m x → x ≢ u
-    not-u x e q =
-        let z : generation n u ≡ generation m u = subst (λ (y : ℕ). generation n y ≡ generation m y) q e in
-        omega (arith, S .generationU, B .same)
+    not-u x = unchanged-not m n (λ z. omega (arith, S .generationU, B .same))
 
     away : (h : ℕ)
         → (link m h ≡ boundary) ⊎ ((link m h < sides m) × (generation n (link m h / 3) ≡ generation m (link m h / 3)))

@@ -5,12 +5,11 @@ use Prim.Native.Nat.{ℕ, suc, _+_, _*_, _/_, _%_, _≤_, _<_}
 use native.Mathlib.Omega.{arith}
 use native.Mathlib.Decide.{ℕ-discrete}
 use lib.ListN.{length}
-use Rattle.rules.proofs.Bases.{Child, Settling, kept, flipped, boundary-not-base, partner-of, not-child}
+use Rattle.rules.proofs.Bases.{Child, Settling, kept, flipped, partnered-base, not-child}
 use Rattle.rules.proofs.FlipKeeps.{BasesMeet}
-use Rattle.rules.proofs.FlipRead.{Flips}
-use Rattle.rules.proofs.Manifold.{Partnered, Manifold, Base, BasesMeetIn}
+use Rattle.rules.proofs.FlipRead.{Flips, flipName, flip-name-else, by-flip-name}
+use Rattle.rules.proofs.Manifold.{Partnered, Manifold, Base, BasesMeetIn, few, partnered-with}
 use Rattle.rules.proofs.Past.{Past, past-same}
-use Rattle.rules.proofs.Sides.{renameTwo, rename-a, rename-b, rename-else, rename-far}
 use Rattle.rules.specs.Tables.{Topology, sides, origin, boundary, link, generation}
 
 -- ---- a flip, seen from a side of another triangle
@@ -19,22 +18,22 @@ module _ (s u : ℕ) (m n : Topology) (B : BasesMeet s u m) (S : Flips s u m n) 
   -- A base after the flip was one before, of a third triangle.
   pub still-base : (k : ℕ) → Base n k → (k / 3 ≢ s) × (k / 3 ≢ u) × Base m k
   still-base k b =
-      let i : k / 3 ≢ s = λ e. go (subst (λ (x : ℕ). generation n x % 2 ≡ 1) e (b .1)) in
-      let j : k / 3 ≢ u = λ e. og (subst (λ (x : ℕ). generation n x % 2 ≡ 1) e (b .1)) in
+      let i : k / 3 ≢ s = λ e. even-s (subst (λ (x : ℕ). generation n x % 2 ≡ 1) e (b .1)) in
+      let j : k / 3 ≢ u = λ e. even-u (subst (λ (x : ℕ). generation n x % 2 ≡ 1) e (b .1)) in
       (i, j, (b .0, subst (λ (x : ℕ). x % 2 ≡ 1) (S .generations (k / 3) i j) (b .1)))
     where
-      go : generation n s % 2 ≡ 1 → ⊥
-      go q = omega (arith, S .generationS, B .odd)
+      even-s : generation n s % 2 ≡ 1 → ⊥
+      even-s q = omega (arith, S .generationS, B .odd)
 
-      og : generation n u % 2 ≡ 1 → ⊥
-      og q = omega (arith, S .generationU, B .odd)
+      even-u : generation n u % 2 ≡ 1 → ⊥
+      even-u q = omega (arith, S .generationU, B .odd)
 
   -- A link that does not lead into the two is an old one.
   far : (h : ℕ) → h < sides m → h / 3 ≢ s → h / 3 ≢ u → link n h / 3 ≢ s → link n h / 3 ≢ u → link n h ≡ link m h
   far h l i j x y =
-      let e = S .links h l i j in
-      e ∙ rename-far (3 * s + 1) (3 * u) (3 * u + 1) (3 * s) (link m h) (omega (arith, B .differ))
-      (λ q. y (omega (arith, q))) (λ q. x (omega (arith, q)))
+      by-flip-name s u (λ z. link n h ≡ z → link n h ≡ link m h) (B .differ) (link m h)
+      (λ _ e. absurd (y (omega arith)))
+      (λ _ e. absurd (x (omega arith))) (λ _ _ e. e) (S .links h l i j)
 
   pub meets-base : (h : ℕ) → h < sides m → h / 3 ≢ s → h / 3 ≢ u → Base n (link n h)
       → (link n h ≡ link m h) × Base m (link m h)
@@ -43,8 +42,9 @@ module _ (s u : ℕ) (m n : Topology) (B : BasesMeet s u m) (S : Flips s u m n) 
       let e : link n h ≡ link m h = far h l i j (x .0) (x .1) in
       (e, subst (λ (k : ℕ). Base m k) e (x .2))
 
-  third : (p g c : ℕ) → Child p g s m → Child p g c m → c ≢ s → Child p g c n
-  third p g c C D ne =
+  -- Another child stays one.
+  other-child : (p g c : ℕ) → Child p g s m → Child p g c m → c ≢ s → Child p g c n
+  other-child p g c C D ne =
       let nu : c ≢ u = not-child p g s u c m B C D in
       let l = D .inUse in
       record {
@@ -62,8 +62,7 @@ module _ (s u : ℕ) (m n : Topology) (B : BasesMeet s u m) (S : Flips s u m n) 
               arith,
               D .other (y .1),
               ap (λ (z : ℕ). origin m (3 * (z / 3) + 2)) (y .0),
-              S .corners (3 * k + 2)
-                  (omega arith) (omega arith),
+              S .corners (3 * k + 2) (omega arith) (omega arith),
             );
       }
 
@@ -88,7 +87,7 @@ module _ (s u : ℕ) (m n : Topology) (B : BasesMeet s u m) (S : Flips s u m n) 
 pub settling-child : (p g c d : ℕ) (m n : Topology) → Settling c m n → Child p g c m → Child p g d m → d ≢ c
     → Child p g d n
 settling-child p g c d m n (kept x) C D e = D
-settling-child p g c d m n (flipped u B S) C D e = third c u m n B S p g d C D e
+settling-child p g c d m n (flipped u B S) C D e = other-child c u m n B S p g d C D e
 
 pub settling-bases : (p g c : ℕ) (X : ℕ → Type 0) (m n : Topology) → Manifold m → Child p g c m → Settling c m n
     → BasesMeetIn (λ x. (x ≡ c) ⊎ X x) m → BasesMeetIn X n
@@ -103,7 +102,7 @@ settling-bases p g c X m n F C (kept no-base) K = λ h l b d. go h l b d (K h l 
     go h l b d (inl (inr q)) = inl q
     go h l b d (inr (inl q)) =
         let e : link m h ≡ 3 * c = omega (arith, d .0) in
-        let M : Partnered m h = partner-of m h F l (λ w. boundary-not-base m F (subst (λ (x : ℕ). Base m x) w d)) in
+        let M : Partnered m h = partnered-base F l d in
         let f : link m (3 * c) ≡ h = ap (λ (x : ℕ). link m x) (sym e) ∙ M .back in
         absurd (no-base (subst (λ (x : ℕ). Base m x) (sym f) b))
     go h l b d (inr (inr q)) = inr q
@@ -116,14 +115,11 @@ pub record Same (m n : Topology) : Type 0 where
   pub links : length (n .links) ≡ length (m .links)
   pub generations : length (n .generations) ≡ length (m .generations)
 
+pub same-all : (m : Topology) → Same m m
+same-all m = record { vertices = refl; triangles = refl; corners = refl; links = refl; generations = refl }
+
 pub settling-same : (c : ℕ) (m n : Topology) → Settling c m n → Same m n
-settling-same c m n (kept x) = record {
-  vertices = refl;
-  triangles = refl;
-  corners = refl;
-  links = refl;
-  generations = refl;
-}
+settling-same c m n (kept x) = same-all m
 settling-same c m n (flipped u B S) = record {
   vertices = S .vertices;
   triangles = S .triangles;
@@ -136,12 +132,15 @@ pub settling-past : (c b : ℕ) (m n : Topology) → Settling c m n → m .trian
 settling-past c b m n (kept x) i = past-same b m
 settling-past c b m n (flipped u B S) i = S .past b i
 
--- A triangle of another generation is left.
+-- A triangle of another generation is not flipped, and left.
+not-flipped : (s u : ℕ) (m : Topology) → BasesMeet s u m → {x : ℕ} → generation m x ≢ generation m s → (x ≢ s) × (x ≢ u)
+not-flipped s u m B e = ((λ q. e (ap (generation m) q)), (λ q. e (ap (generation m) q ∙ B .same)))
+
 pub settling-generation : (c x : ℕ) (m n : Topology) → Settling c m n → generation m x ≢ generation m c
     → generation n x ≡ generation m x
 settling-generation c x m n (kept y) e = refl
 settling-generation c x m n (flipped u B S) e =
-    S .generations x (λ q. e (ap (λ (y : ℕ). generation m y) q)) (λ q. e (ap (λ (y : ℕ). generation m y) q ∙ B .same))
+    S .generations x (not-flipped c u m B e .0) (not-flipped c u m B e .1)
 
 -- The child whose base meets the base of t flips it.
 pub settling-flips : (p g c t : ℕ) (m n : Topology) → Settling c m n → Child p g c m → link m (3 * c) ≡ 3 * t
@@ -162,16 +161,15 @@ settling-waits p g c d t m n F (flipped u B S) C D ne l e =
     let du : d ≢ u = not-child p g c u d m B C D in
     let ld : 3 * d < sides m = omega (arith, D .inUse) in
     let lc : 3 * c < sides m = omega (arith, C .inUse) in
-    let D′ : Partnered m (3 * d) = partner-of m (3 * d) F ld (λ q. omega (arith, F .slots, F .generationRoom)) in
-    let C′ : Partnered m (3 * c) =
-    partner-of m (3 * c) F lc (λ q. omega (arith, F .slots, F .generationRoom, B .meet, B .useU)) in
+    let D′ : Partnered m (3 * d) = partnered-with F ld e (omega arith) in
+    let C′ : Partnered m (3 * c) = partnered-with F lc (B .meet) (omega (arith, B .useU)) in
     let bd : link m (3 * t) ≡ 3 * d = rw e at (D′ .back) in
     let bc : link m (3 * u) ≡ 3 * c = rw (B .meet) at (C′ .back) in
     let tu : t ≢ u = λ q. ne (omega (arith, sym bd ∙ ap (λ (x : ℕ). link m (3 * x)) q ∙ bc)) in
     let tc : t ≢ c = λ q. du (omega (arith, sym bd ∙ ap (λ (x : ℕ). link m (3 * x)) q ∙ B .meet)) in (
       S .links (3 * d) ld (omega arith) (omega arith)
-          ∙ ap (renameTwo (3 * c + 1) (3 * u) (3 * u + 1) (3 * c)) e
-          ∙ rename-else (3 * c + 1) (3 * u) (3 * u + 1) (3 * c) (3 * t) (omega arith) (omega arith),
+          ∙ ap (flipName c u) e
+          ∙ flip-name-else c u (3 * t) (omega arith) (omega arith),
       S .generations t tc tu,
     )
 
@@ -183,44 +181,23 @@ pub settling-follow : (c x t : ℕ) (m n : Topology) → Manifold m → Settling
     → generation m x ≢ generation m c → Follow x t m → Follow x t n
 settling-follow c x t m n F (kept y) l e f = f
 settling-follow c x t m n F (flipped u B S) l e f = (
-  λ q. gone (ℕ-discrete (link m (3 * x)) (3 * c + 1)) (ℕ-discrete (link m (3 * x)) (3 * u + 1)) q,
-  go
-      (ℕ-discrete (link n (3 * x) / 3) c) (ℕ-discrete (link n (3 * x) / 3) u),
+  λ q. inner (sym k ∙ q),
+  go (ℕ-discrete (link n (3 * x) / 3) c) (ℕ-discrete (link n (3 * x) / 3) u),
 )
   where
     xc : x ≢ c
-    xc q = e (ap (λ (y : ℕ). generation m y) q)
+    xc = not-flipped c u m B e .0
 
     xu : x ≢ u
-    xu q = e (ap (λ (y : ℕ). generation m y) q ∙ B .same)
+    xu = not-flipped c u m B e .1
 
-    k : link n (3 * x) ≡ renameTwo (3 * c + 1) (3 * u) (3 * u + 1) (3 * c) (link m (3 * x))
+    k : link n (3 * x) ≡ flipName c u (link m (3 * x))
     k = S .links (3 * x) (omega arith) (let w = xc in omega arith) (let w = xu in omega arith)
 
-    gone : Dec (link m (3 * x) ≡ 3 * c + 1) → Dec (link m (3 * x) ≡ 3 * u + 1) → link n (3 * x) ≢ boundary
-    gone (yes y) d q =
-        omega (
-          arith,
-          sym k ∙ q,
-          F .slots,
-          F .generationRoom,
-          B .useU,
-          ap
-              (renameTwo (3 * c + 1) (3 * u) (3 * u + 1) (3 * c)) y ∙ rename-a (3 * c + 1) (3 * u) (3 * u + 1) (3 * c),
-        )
-    gone (no y) (yes z) q =
-        omega (
-          arith,
-          sym k ∙ q,
-          F .slots,
-          F .generationRoom,
-          B .useS,
-          ap
-              (renameTwo (3 * c + 1) (3 * u) (3 * u + 1) (3 * c)) z ∙ rename-b (3 * c + 1) (3 * u) (3 * u + 1) (3 * c)
-              (omega (arith, B .differ)),
-        )
-    gone (no y) (no z) q =
-        f .0 (sym (rename-else (3 * c + 1) (3 * u) (3 * u + 1) (3 * c) (link m (3 * x)) y z) ∙ sym k ∙ q)
+    inner : flipName c u (link m (3 * x)) ≢ boundary
+    inner =
+        by-flip-name c u (λ z. z ≢ boundary) (B .differ) (link m (3 * x)) (λ _. omega (arith, few m F, B .useU))
+        (λ _. omega (arith, few m F, B .useS)) (λ _ _. f .0)
 
     near : link n (3 * x) / 3 ≢ c → link n (3 * x) / 3 ≢ u → link n (3 * x) ≡ link m (3 * x)
     near i j = far c u m n B S (3 * x) (omega arith) (let w = xc in omega arith) (let w = xu in omega arith) i j

@@ -1,7 +1,7 @@
 -- Numbers of sides, and tables written and read back by triangles.
 use mathlib.Core.Path.{_≡_, refl, sym, ap, _∙_, subst}
 use mathlib.Core.Logic.{_≢_, _⊎_, inl, inr}
-use mathlib.Core.Bool.{Bool, true, false}
+use mathlib.Core.Bool.{true, false}
 use mathlib.Core.List.{List}
 use Prim.Native.Nat.{ℕ, zero, suc, _+_, _*_, _/_, _%_, _≤_, _<_}
 use native.Mathlib.Omega.{arith}
@@ -9,7 +9,8 @@ use native.Mathlib.Decide.{ℕ-discrete}
 use native.Mathlib.Nat.{add-zero}
 use lib.ListN.{length, getD, set, length-set}
 use lib.Seq.{getD-set-same, getD-set-other}
-use lib.Dec.{T, eqb, eqb-refl, eqb→eq}
+use lib.Dec.{eqb}
+use borrow.Author.Tests.{eq-eqb, ne-eqb}
 use Rattle.rules.specs.Tables.{next, previous, boundary, putThree}
 
 pub next-previous : (h : ℕ) → next (previous h) ≡ h
@@ -45,32 +46,28 @@ renameTwo a a′ b b′ h = elim (eqb h a) [
   | false ↦ elim (eqb h b) [ true ↦ b′ | false ↦ h ]
 ]
 
-pub eqb-yes : (h : ℕ) → eqb h h ≡ true
-eqb-yes h = yes′ (eqb h h) (eqb-refl h)
-  where
-    yes′ : (b : Bool) → T b → b ≡ true
-    yes′ true x = refl
-    yes′ false x = absurd x
-
-pub eqb-no : (h a : ℕ) → h ≢ a → eqb h a ≡ false
-eqb-no h a n = no′ (eqb h a) (eqb→eq h a)
-  where
-    no′ : (b : Bool) → (T b → h ≡ a) → b ≡ false
-    no′ true k = absurd (n (k tt))
-    no′ false k = refl
-
 module _ (a a′ b b′ : ℕ) where
   pub rename-a : renameTwo a a′ b b′ a ≡ a′
   unfolding renameTwo
-  rename-a = rw (eqb-yes, renameTwo)
+  rename-a = rw (eq-eqb a a refl, renameTwo)
 
   pub rename-b : a ≢ b → renameTwo a a′ b b′ b ≡ b′
   unfolding renameTwo
-  rename-b n = let n′ : b ≢ a = λ e. n (sym e) in rw (eqb-no b a, eqb-yes b, renameTwo)
+  rename-b n = let n′ : b ≢ a = λ e. n (sym e) in rw (ne-eqb b a n′, eq-eqb b b refl, renameTwo)
 
   pub rename-else : (h : ℕ) → h ≢ a → h ≢ b → renameTwo a a′ b b′ h ≡ h
   unfolding renameTwo
-  rename-else h n k = rw (eqb-no h a n, eqb-no h b k, renameTwo)
+  rename-else h n k = rw (ne-eqb h a n, ne-eqb h b k, renameTwo)
+
+  -- A fact of the new name of h, by cases.
+  pub by-rename : (P : ℕ → Type 0) → a ≢ b → (h : ℕ) → (h ≡ a → P a′) → (h ≡ b → P b′) → (h ≢ a → h ≢ b → P h)
+      → P (renameTwo a a′ b b′ h)
+  by-rename P n h x y z = go (ℕ-discrete h a) (ℕ-discrete h b)
+    where
+      go : Dec (h ≡ a) → Dec (h ≡ b) → P (renameTwo a a′ b b′ h)
+      go (yes e) d = subst P (sym (ap (renameTwo a a′ b b′) e ∙ rename-a)) (x e)
+      go (no e) (yes f) = subst P (sym (ap (renameTwo a a′ b b′) f ∙ rename-b n)) (y f)
+      go (no e) (no f) = subst P (sym (rename-else h e f)) (z e f)
 
 -- ---- links renamed
 
@@ -179,16 +176,6 @@ row-else l t a b c d u x y z n r = (
   put-else l t a b c d (3 * u + 1) (omega arith) ∙ r .1,
   put-else l t a b c d (3 * u + 2) (omega arith) ∙ r .2,
 )
-
--- A name that is neither of the new ones is an old one.
-pub rename-far : (a a′ b b′ h : ℕ) → a ≢ b → renameTwo a a′ b b′ h ≢ a′ → renameTwo a a′ b b′ h ≢ b′
-    → renameTwo a a′ b b′ h ≡ h
-rename-far a a′ b b′ h n x y = go (ℕ-discrete h a) (ℕ-discrete h b)
-  where
-    go : Dec (h ≡ a) → Dec (h ≡ b) → renameTwo a a′ b b′ h ≡ h
-    go (yes e) d = absurd (x (ap (renameTwo a a′ b b′) e ∙ rename-a a a′ b b′))
-    go (no e) (yes f) = absurd (y (ap (renameTwo a a′ b b′) f ∙ rename-b a a′ b b′ n))
-    go (no e) (no f) = rename-else a a′ b b′ h e f
 
 -- A fact of each slot: v, the two new ones, or another.
 pub by-slot : (v f n : ℕ) (P : ℕ → Type 0) → n ≡ f + 2 → P v → P f → P (f + 1) → ((x : ℕ) → x < f → x ≢ v → P x)

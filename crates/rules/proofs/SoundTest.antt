@@ -7,20 +7,23 @@ use lib.ListN.{length, getD}
 use lib.Dec.{leb}
 use lib.IntN.{ℤ, pos, negℤ}
 use lib.Signed.{_≤ℤ_, leZ}
-use Rattle.rules.proofs.Decide.{Decides, is-self, is-eq, is-lt, is-le, is-not, is-iff, is-then, is-and, is-or, is-all}
+use Rattle.rules.proofs.Decide.{Decides, is-self, is-eq, is-lt, is-le, is-not, is-iff, is-then, is-and, is-or}
+use Rattle.rules.proofs.Decide.{is-all}
 use Rattle.rules.proofs.FanTest.{one-fan-is}
 use Rattle.rules.proofs.Relaxed.{linked-joined}
 use Rattle.rules.proofs.Turning.{Glued}
 use Rattle.rules.specs.Numbers.{InRange, maxCoordinate, inRange}
 use Rattle.rules.specs.Sound.{Linked, OneFan, Sound, role, fiveKinds, isLinked, soundSide, hasOneFan, isSound}
-use Rattle.rules.specs.Tables.{Topology, Mesh, TablesAgree, sides, origin, target, boundary, link, generation, vertexSlots, triangleSlots, tablesAgree}
+use Rattle.rules.specs.Tables.{Topology, Mesh, TablesAgree, sides, origin, target, boundary, link, generation}
+use Rattle.rules.specs.Tables.{vertexSlots, triangleSlots, tablesAgree}
 
 le-is : (a b : ℤ) → Decides (leZ a b) (a ≤ℤ b)
 le-is a b = record { holds = λ t. record { le = t }; passes = λ x. x .le }
 
 pub in-range-is : (z : ℤ) → Decides (inRange z) (InRange z)
 in-range-is z =
-    is-iff (λ x. record { low = x .0; high = x .1 }) (λ r. (r .low, r .high)) (is-and (le-is (negℤ (pos maxCoordinate)) z) (le-is z (pos maxCoordinate)))
+    is-iff (λ x. record { low = x .0; high = x .1 }) (λ r. (r .low, r .high))
+    (is-and (le-is (negℤ (pos maxCoordinate)) z) (le-is z (pos maxCoordinate)))
 
 pub tables-agree-is : (m : Mesh) → Decides (tablesAgree m) (TablesAgree m)
 unfolding tablesAgree
@@ -60,7 +63,8 @@ module _ (m : Topology) (h : ℕ) where
   pub sound-side-is : Decides (soundSide m h) SoundSide
   unfolding soundSide
   sound-side-is =
-      is-iff (λ ((c, d), l). record { corner = c; distinct = d; linked = l }) (λ S. ((S .corner, S .distinct), S .linked))
+      is-iff (λ ((c, d), l). record { corner = c; distinct = d; linked = l })
+      (λ S. ((S .corner, S .distinct), S .linked))
       (is-and (is-and (is-lt (origin m h) (m .vertices)) (is-not (is-eq (origin m h) (target m h))))
       (is-or (is-eq (link m h) boundary) linked-is))
 

@@ -5,112 +5,47 @@ use Prim.Native.Nat.{ℕ, _+_, _*_, _/_, _%_, _≤_, _<_, min}
 use native.Mathlib.Omega.{arith}
 use native.Mathlib.Decide.{ℕ-discrete}
 use lib.ListN.{length}
-use Rattle.rules.proofs.Manifold.{Partnered, Manifold, level, Joined}
+use Rattle.rules.proofs.Manifold.{Manifold, level, Joined, level₀, level₁, level₂, target₀, target₁, target₂}
+use Rattle.rules.proofs.Manifold.{rotate₀, rotate₁, rotate₂, pair-both, few, no-self}
 use Rattle.rules.proofs.Renaming.{Renames, linked, fan-map}
-use Rattle.rules.proofs.Sides.{next-previous, next-0, next-1, next-2, same-triangle, next-lt, previous-lt, renameTwo, rename-a, rename-b, rename-else, by-triangle}
-use Rattle.rules.proofs.SplitRead.{Splits}
+use Rattle.rules.proofs.Sides.{previous-lt, by-triangle}
+use Rattle.rules.proofs.SplitRead.{Splits, splitName, split-name₀, split-name₁, split-name₂, split-name-else}
 use Rattle.rules.specs.Sound.{OneFan, Turns, here, turn}
-use Rattle.rules.specs.Tables.{Topology, sides, next, previous, origin, target, boundary, link, rotate, generation}
+use Rattle.rules.specs.Tables.{Topology, sides, next, previous, origin, target, boundary, link, rotate}
+use Rattle.rules.specs.Tables.{generation}
 
--- ---- facts of one mesh
-
-pub level-of : (m : Topology) (h t i : ℕ) → h / 3 ≡ t → h % 3 ≡ i → level m h ≡ (generation m t + min 1 i) / 2
-level-of m h t i p q = rw (p, q)
-
-module _ (m : Topology) (t : ℕ) where
-  pub level₀ : level m (3 * t) ≡ generation m t / 2
-  level₀ = level-of m (3 * t) t 0 (omega arith) (omega arith) ∙ omega arith
-
-  pub level₁ : level m (3 * t + 1) ≡ (generation m t + 1) / 2
-  level₁ = level-of m (3 * t + 1) t 1 (omega arith) (omega arith)
-
-  pub level₂ : level m (3 * t + 2) ≡ (generation m t + 1) / 2
-  level₂ = level-of m (3 * t + 2) t 2 (omega arith) (omega arith)
-
-  pub target₀ : target m (3 * t) ≡ origin m (3 * t + 1)
-  target₀ = ap (λ (x : ℕ). origin m x) (next-0 t)
-
-  pub target₁ : target m (3 * t + 1) ≡ origin m (3 * t + 2)
-  target₁ = ap (λ (x : ℕ). origin m x) (next-1 t)
-
-  pub target₂ : target m (3 * t + 2) ≡ origin m (3 * t)
-  target₂ = ap (λ (x : ℕ). origin m x) (next-2 t)
-
-  pub rotate₀ : rotate m (3 * t) ≡ link m (3 * t + 2)
-  rotate₀ = let e : previous (3 * t) ≡ 3 * t + 2 = omega arith in ap (λ (x : ℕ). link m x) e
-
-  pub rotate₁ : rotate m (3 * t + 1) ≡ link m (3 * t)
-  rotate₁ = let e : previous (3 * t + 1) ≡ 3 * t = omega arith in ap (λ (x : ℕ). link m x) e
-
-  pub rotate₂ : rotate m (3 * t + 2) ≡ link m (3 * t + 1)
-  rotate₂ = let e : previous (3 * t + 2) ≡ 3 * t + 1 = omega arith in ap (λ (x : ℕ). link m x) e
-
--- A pair of sides linked to each other.
-pub pair : (m : Topology) (a b : ℕ) → link m a ≡ b → link m b ≡ a → b < sides m → origin m b ≡ target m a
-    → target m b ≡ origin m a → level m b ≡ level m a → Partnered m a
-pair m a b e f l o d v = record { inUse = rw e l; back = rw e f; from = rw e o; onto = rw e d; level = rw e v }
-
--- No side is linked to a side of its own triangle.
-pub no-self : (m : Topology) (h : ℕ) → Manifold m → h < sides m → Partnered m h → link m h / 3 ≢ h / 3
-no-self m h F b M e = go (ℕ-discrete (link m h) h) (ℕ-discrete (link m h) (next h))
-  where
-    go : Dec (link m h ≡ h) → Dec (link m h ≡ next h) → ⊥
-    go (yes x) d = F .distinct h b (sym (ap (λ (k : ℕ). origin m k) x) ∙ M .from)
-    go (no x) (yes y) =
-        let q : next (next h) ≡ previous h = omega arith in
-        F .distinct (previous h) (previous-lt h (m .triangles) b)
-        (ap (λ (k : ℕ). origin m k) (sym q) ∙ ap (λ (k : ℕ). target m k) (sym y) ∙ M .onto ∙ ap
-        (λ (k : ℕ). origin m k) (sym (next-previous h)))
-    go (no x) (no y) =
-        let q : link m h ≡ next (next h) = same-triangle h (link m h) e x y in
-        F .distinct (next h) (next-lt h (m .triangles) b) (sym (M .from) ∙ ap (λ (k : ℕ). origin m k) q)
-
--- ---- the split
-
-module _ (t : ℕ) (m n : Topology) (F : Manifold m) (b : t < m .triangles) (flat : generation m t % 2 ≡ 0)
+module _ (t : ℕ) (m n : Topology) (F : Manifold m) (b : t < m .triangles) (even : generation m t % 2 ≡ 0)
     (S : Splits t m n) where
-  r : ℕ → ℕ
-  r = renameTwo (3 * t + 1) (3 * m .triangles) (3 * t + 2) (3 * (m .triangles + 1))
-
-  r₁ : r (3 * t + 1) ≡ 3 * m .triangles
-  unfolding r
-  r₁ = rename-a (3 * t + 1) (3 * m .triangles) (3 * t + 2) (3 * (m .triangles + 1))
-
-  r₂ : r (3 * t + 2) ≡ 3 * (m .triangles + 1)
-  unfolding r
-  r₂ = rename-b (3 * t + 1) (3 * m .triangles) (3 * t + 2) (3 * (m .triangles + 1)) (omega arith)
-
-  r-else : (h : ℕ) → h ≢ 3 * t + 1 → h ≢ 3 * t + 2 → r h ≡ h
-  unfolding r
-  r-else = rename-else (3 * t + 1) (3 * m .triangles) (3 * t + 2) (3 * (m .triangles + 1))
-
-  r₀ : r (3 * t) ≡ 3 * t
-  r₀ = r-else (3 * t) (omega arith) (omega arith)
+  -- The new name of an old side.
+  abbrev name : ℕ → ℕ
+  name = splitName t (m .triangles)
 
   -- A fact of an old side and its new name.
   by-name : (P : ℕ → ℕ → Type 0) → P (3 * t) (3 * t) → P (3 * t + 1) (3 * m .triangles)
       → P (3 * t + 2) (3 * (m .triangles + 1))
-      → ((h : ℕ) → h < sides m → h / 3 ≢ t → P h h) → (h : ℕ) → h < sides m → P h (r h)
-  by-name P p₀ p₁ p₂ q = by-triangle (λ h. h < sides m → P h (r h)) t
-      (λ l. rw r₀ p₀) (λ l. rw r₁ p₁) (λ l. rw r₂ p₂)
-      (λ h i l. subst (λ (k : ℕ). P h k) (sym (r-else h (omega arith) (omega arith))) (q h l i))
+      → ((h : ℕ) → h < sides m → h / 3 ≢ t → P h h) → (h : ℕ) → h < sides m → P h (name h)
+  by-name P p₀ p₁ p₂ q = by-triangle (λ h. h < sides m → P h (name h)) t
+      (λ l. rw (split-name₀ t (m .triangles)) p₀)
+      (λ l. rw (split-name₁ t (m .triangles)) p₁)
+      (λ l. rw (split-name₂ t (m .triangles)) p₂)
+      (λ h i l. subst (λ (k : ℕ). P h k) (sym (split-name-else t (m .triangles) h (omega arith) (omega arith)))
+      (q h l i))
 
   -- The partner of a side of t is not renamed.
-  r-own : (h : ℕ) → h < sides m → h / 3 ≡ t → r (link m h) ≡ link m h
-  r-own h l e = go (F .linked h l)
+  own-name : (h : ℕ) → h < sides m → h / 3 ≡ t → name (link m h) ≡ link m h
+  own-name h l e = go (F .linked h l)
     where
-      go : Joined m h → r (link m h) ≡ link m h
+      go : Joined m h → name (link m h) ≡ link m h
       go (inl x) =
-          r-else (link m h) (omega (arith, F .slots, F .generationRoom)) (omega (arith, F .slots, F .generationRoom))
+          split-name-else t (m .triangles) (link m h) (omega (arith, few m F)) (omega (arith, few m F))
       go (inr M) =
           let y : link m h / 3 ≢ h / 3 = no-self m h F l M in
-          r-else (link m h) (omega arith) (omega arith)
+          split-name-else t (m .triangles) (link m h) (omega arith) (omega arith)
 
-  renames : Renames m n (λ _. Unit {0}) r
-  unfolding r
+  renames : Renames m n (λ _. Unit {0}) name
   renames = record {
     atBoundary =
-        r-else boundary (omega (arith, F .slots, F .generationRoom)) (omega (arith, F .slots, F .generationRoom));
+        split-name-else t (m .triangles) boundary (omega (arith, few m F)) (omega (arith, few m F));
     into =
         by-name (λ h k. k < sides n) (omega (arith, S .triangles)) (omega (arith, S .triangles))
         (omega (arith, S .triangles)) (λ h l i. omega (arith, S .triangles));
@@ -127,10 +62,10 @@ module _ (t : ℕ) (m n : Topology) (F : Manifold m) (b : t < m .triangles) (fla
         (omega (arith, level₀ n (m .triangles), level₁ m t, S .generationF))
         (omega (arith, level₀ n (m .triangles + 1), level₂ m t, S .generationE))
         (λ h l i. ap (λ (x : ℕ). (x + min 1 (h % 3)) / 2) (S .generations (h / 3) (omega arith) i)) h l;
-    links = λ h l k. by-name (λ h k. link n k ≡ r (link m h))
-        (S .linksT .0 ∙ sym (r-own (3 * t) (omega arith) (omega arith)))
-        (S .linksF .0 ∙ sym (r-own (3 * t + 1) (omega arith) (omega arith)))
-        (S .linksE .0 ∙ sym (r-own (3 * t + 2) (omega arith) (omega arith)))
+    links = λ h l k. by-name (λ h k. link n k ≡ name (link m h))
+        (S .linksT .0 ∙ sym (own-name (3 * t) (omega arith) (omega arith)))
+        (S .linksF .0 ∙ sym (own-name (3 * t + 1) (omega arith) (omega arith)))
+        (S .linksE .0 ∙ sym (own-name (3 * t + 2) (omega arith) (omega arith)))
         (λ h l i. S .links h l i) h l;
     stays = λ h l k M. tt;
   }
@@ -149,8 +84,8 @@ module _ (t : ℕ) (m n : Topology) (F : Manifold m) (b : t < m .triangles) (fla
       (λ _ _ _. z .1) (λ _ _ _. z .2)
       (λ h u v w′ l. q h (omega arith) w′) h j) h i)
 
-  old : (h k : ℕ) → r h ≡ k → h < sides m → Joined n k
-  old h k e l = rw e at (linked m n (λ _. Unit {0}) r renames h l tt (F .linked h l))
+  old : (h k : ℕ) → name h ≡ k → h < sides m → Joined n k
+  old h k e l = rw e at (linked m n (λ _. Unit {0}) name renames h l tt (F .linked h l))
 
   linked′ : (k : ℕ) → k < sides n → Joined n k
   linked′ =
@@ -160,32 +95,20 @@ module _ (t : ℕ) (m n : Topology) (F : Manifold m) (b : t < m .triangles) (fla
       let gT = S .generationT in
       let gF = S .generationF in
       let gE = S .generationE in
-      by-new (λ k. Joined n k) (
-        old (3 * t) (3 * t) r₀ (omega arith),
-        inr (pair n (3 * t + 1) (3 * f + 2) (S .linksT .1) (S .linksF .2) (omega arith)
-            (S .cornersF .2 ∙ sym (target₁ n t ∙ S .cornersT .2)) (target₂ n f ∙ S .cornersF .0 ∙ sym
-            (S .cornersT .1)) (omega (arith, level₂ n f, level₁ n t))),
-        inr (pair n (3 * t + 2) (3 * e + 1) (S .linksT .2) (S .linksE .1) (omega arith)
-            (S .cornersE .1 ∙ sym (target₂ n t ∙ S .cornersT .0)) (target₁ n e ∙ S .cornersE .2 ∙ sym
-            (S .cornersT .2)) (omega (arith, level₁ n e, level₂ n t))),
-      ) (
-        old (3 * t + 1) (3 * f) r₁ (omega arith),
-        inr (pair n (3 * f + 1) (3 * e + 2) (S .linksF .1) (S .linksE .2) (omega arith)
-            (S .cornersE .2 ∙ sym (target₁ n f ∙ S .cornersF .2)) (target₂ n e ∙ S .cornersE .0 ∙ sym
-            (S .cornersF .1)) (omega (arith, level₂ n e, level₁ n f))),
-        inr (pair n (3 * f + 2) (3 * t + 1) (S .linksF .2) (S .linksT .1) (omega arith)
-            (S .cornersT .1 ∙ sym (target₂ n f ∙ S .cornersF .0)) (target₁ n t ∙ S .cornersT .2 ∙ sym
-            (S .cornersF .2)) (omega (arith, level₁ n t, level₂ n f))),
-      ) (
-        old (3 * t + 2) (3 * e) r₂ (omega arith),
-        inr (pair n (3 * e + 1) (3 * t + 2) (S .linksE .1) (S .linksT .2) (omega arith)
-            (S .cornersT .2 ∙ sym (target₁ n e ∙ S .cornersE .2)) (target₂ n t ∙ S .cornersT .0 ∙ sym
-            (S .cornersE .1)) (omega (arith, level₂ n t, level₁ n e))),
-        inr (pair n (3 * e + 2) (3 * f + 1) (S .linksE .2) (S .linksF .1) (omega arith)
-            (S .cornersF .1 ∙ sym (target₂ n e ∙ S .cornersE .0)) (target₁ n f ∙ S .cornersF .2 ∙ sym
-            (S .cornersE .2)) (omega (arith, level₁ n f, level₂ n e))),
-      )
-      (λ h l i. old h h (r-else h (omega arith) (omega arith)) l)
+      let tf = pair-both n (3 * t + 1) (3 * f + 2) (S .linksT .1) (S .linksF .2) (omega arith) (omega arith)
+      (S .cornersF .2 ∙ sym (target₁ n t ∙ S .cornersT .2)) (target₂ n f ∙ S .cornersF .0 ∙ sym (S .cornersT .1))
+      (omega (arith, level₂ n f, level₁ n t)) in
+      let te = pair-both n (3 * t + 2) (3 * e + 1) (S .linksT .2) (S .linksE .1) (omega arith) (omega arith)
+      (S .cornersE .1 ∙ sym (target₂ n t ∙ S .cornersT .0)) (target₁ n e ∙ S .cornersE .2 ∙ sym (S .cornersT .2))
+      (omega (arith, level₁ n e, level₂ n t)) in
+      let fe = pair-both n (3 * f + 1) (3 * e + 2) (S .linksF .1) (S .linksE .2) (omega arith) (omega arith)
+      (S .cornersE .2 ∙ sym (target₁ n f ∙ S .cornersF .2)) (target₂ n e ∙ S .cornersE .0 ∙ sym (S .cornersF .1))
+      (omega (arith, level₂ n e, level₁ n f)) in
+      by-new (λ k. Joined n k)
+      (old (3 * t) (3 * t) (split-name₀ t (m .triangles)) (omega arith), inr (tf .0), inr (te .0))
+      (old (3 * t + 1) (3 * f) (split-name₁ t (m .triangles)) (omega arith), inr (fe .0), inr (tf .1))
+      (old (3 * t + 2) (3 * e) (split-name₂ t (m .triangles)) (omega arith), inr (te .1), inr (fe .1))
+      (λ h l i. old h h (split-name-else t (m .triangles) h (omega arith) (omega arith)) l)
 
   inA : origin m (3 * t) < m .vertices
   inA = F .corner (3 * t) (omega arith)
@@ -220,22 +143,16 @@ module _ (t : ℕ) (m n : Topology) (F : Manifold m) (b : t < m .triangles) (fla
       let ca = F .distinct (3 * t + 2) (omega arith) in
       by-new (λ k. origin n k ≢ target n k) (
         omega (arith, S .cornersT .0, S .cornersT .1, target₀ n t, target₀ m t),
-        omega
-            (arith, S .cornersT .1, S .cornersT .2, target₁ n t),
-        omega
-            (arith, S .cornersT .2, S .cornersT .0, target₂ n t),
+        omega (arith, S .cornersT .1, S .cornersT .2, target₁ n t),
+        omega (arith, S .cornersT .2, S .cornersT .0, target₂ n t),
       ) (
         omega (arith, S .cornersF .0, S .cornersF .1, target₀ n f, target₁ m t),
-        omega
-            (arith, S .cornersF .1, S .cornersF .2, target₁ n f),
-        omega
-            (arith, S .cornersF .2, S .cornersF .0, target₂ n f),
+        omega (arith, S .cornersF .1, S .cornersF .2, target₁ n f),
+        omega (arith, S .cornersF .2, S .cornersF .0, target₂ n f),
       ) (
         omega (arith, S .cornersE .0, S .cornersE .1, target₀ n e, target₂ m t),
-        omega
-            (arith, S .cornersE .1, S .cornersE .2, target₁ n e),
-        omega
-            (arith, S .cornersE .2, S .cornersE .0, target₂ n e),
+        omega (arith, S .cornersE .1, S .cornersE .2, target₁ n e),
+        omega (arith, S .cornersE .2, S .cornersE .0, target₂ n e),
       )
       (λ h l i q. F .distinct h l (sym (S .corners h l i) ∙ q ∙ S .corners (next h) (omega arith) (omega arith)))
 
@@ -244,66 +161,59 @@ module _ (t : ℕ) (m n : Topology) (F : Manifold m) (b : t < m .triangles) (fla
   go-on : {s h k : ℕ} → Turns n s h → rotate n h ≡ k → k < 3 * m .triangles + 6 → Turns n s k
   go-on p e l = turn p e (omega (arith, S .triangles))
 
-  link-r : (h : ℕ) → h < sides m → h / 3 ≢ t → link n h ≡ r (link m h)
-  unfolding r
-  link-r h l i = S .links h l i
-
-  step : (h : ℕ) → h < sides m → rotate m h < sides m → Turns n (r h) (r (rotate m h))
+  step : (h : ℕ) → h < sides m → rotate m h < sides m → Turns n (name h) (name (rotate m h))
   step =
       let f : ℕ = m .triangles in
       let e : ℕ = f + 1 in
-      by-name (λ h k. rotate m h < sides m → Turns n k (r (rotate m h)))
-      (λ l. let q : r (rotate m (3 * t)) ≡ link m (3 * t + 2) = rw rotate₀
-      (r-own (3 * t + 2) (omega arith) (omega arith)) in
+      by-name (λ h k. rotate m h < sides m → Turns n k (name (rotate m h)))
+      (λ l. let q : name (rotate m (3 * t)) ≡ link m (3 * t + 2) = rw rotate₀
+      (own-name (3 * t + 2) (omega arith) (omega arith)) in
       rw q
       (go-on (go-on here (rotate₀ n t ∙ S .linksT .2) (omega arith)) (rotate₁ n e ∙ S .linksE .0)
       (omega (arith, rotate₀ m t))))
-      (λ l. let q : r (rotate m (3 * t + 1)) ≡ link m (3 * t) = rw rotate₁
-      (r-own (3 * t) (omega arith) (omega arith)) in
+      (λ l. let q : name (rotate m (3 * t + 1)) ≡ link m (3 * t) = rw rotate₁
+      (own-name (3 * t) (omega arith) (omega arith)) in
       rw q
       (go-on (go-on here (rotate₀ n f ∙ S .linksF .2) (omega arith)) (rotate₁ n t ∙ S .linksT .0)
       (omega (arith, rotate₁ m t))))
-      (λ l. let q : r (rotate m (3 * t + 2)) ≡ link m (3 * t + 1) = rw rotate₂
-      (r-own (3 * t + 1) (omega arith) (omega arith)) in
+      (λ l. let q : name (rotate m (3 * t + 2)) ≡ link m (3 * t + 1) = rw rotate₂
+      (own-name (3 * t + 1) (omega arith) (omega arith)) in
       rw q
       (go-on (go-on here (rotate₀ n e ∙ S .linksE .2) (omega arith)) (rotate₁ n f ∙ S .linksF .0)
       (omega (arith, rotate₂ m t))))
-      (λ h l i q. turn here (link-r (previous h) (previous-lt h (m .triangles) l) (omega arith))
+      (λ h l i q. turn here (S .links (previous h) (previous-lt h (m .triangles) l) (omega arith))
       (renames .into (rotate m h) q))
 
   every : (v : ℕ) → v < m .vertices → (k : ℕ) → k < sides n → origin n k ≡ v
-      → (h : ℕ) × (h < sides m) × (origin m h ≡ v) × Turns n (r h) k
+      → (h : ℕ) × (h < sides m) × (origin m h ≡ v) × Turns n (name h) k
   every v l =
       let f : ℕ = m .triangles in
       let e : ℕ = f + 1 in
-      by-new (λ k. origin n k ≡ v → (h : ℕ) × (h < sides m) × (origin m h ≡ v) × Turns n (r h) k) (
-        (λ q. (3 * t, omega arith, sym (S .cornersT .0) ∙ q, rw r₀ here)),
+      by-new (λ k. origin n k ≡ v → (h : ℕ) × (h < sides m) × (origin m h ≡ v) × Turns n (name h) k) (
+        (λ q. (3 * t, omega arith, sym (S .cornersT .0) ∙ q, rw (split-name₀ t (m .triangles)) here)),
         (λ q. (
           3 * t + 1,
           omega arith,
           sym (S .cornersT .1) ∙ q,
-          rw r₁
-              (go-on here (rotate₀ n f ∙ S .linksF .2) (omega arith)),
+          rw (split-name₁ t (m .triangles)) (go-on here (rotate₀ n f ∙ S .linksF .2) (omega arith)),
         )),
         (λ q. absurd (omega (arith, S .cornersT .2))),
       ) (
-        (λ q. (3 * t + 1, omega arith, sym (S .cornersF .0) ∙ q, rw r₁ here)),
+        (λ q. (3 * t + 1, omega arith, sym (S .cornersF .0) ∙ q, rw (split-name₁ t (m .triangles)) here)),
         (λ q. (
           3 * t + 2,
           omega arith,
           sym (S .cornersF .1) ∙ q,
-          rw r₂
-              (go-on here (rotate₀ n e ∙ S .linksE .2) (omega arith)),
+          rw (split-name₂ t (m .triangles)) (go-on here (rotate₀ n e ∙ S .linksE .2) (omega arith)),
         )),
         (λ q. absurd (omega (arith, S .cornersF .2))),
       ) (
-        (λ q. (3 * t + 2, omega arith, sym (S .cornersE .0) ∙ q, rw r₂ here)),
+        (λ q. (3 * t + 2, omega arith, sym (S .cornersE .0) ∙ q, rw (split-name₂ t (m .triangles)) here)),
         (λ q. (
           3 * t,
           omega arith,
           sym (S .cornersE .1) ∙ q,
-          rw r₀
-              (go-on here (rotate₀ n t ∙ S .linksT .2) (omega arith)),
+          rw (split-name₀ t (m .triangles)) (go-on here (rotate₀ n t ∙ S .linksT .2) (omega arith)),
         )),
         (λ q. absurd (omega (arith, S .cornersE .2))),
       )
@@ -311,12 +221,11 @@ module _ (t : ℕ) (m n : Topology) (F : Manifold m) (b : t < m .triangles) (fla
         h,
         i,
         sym (S .corners h i j) ∙ q,
-        subst (λ (x : ℕ). Turns n x h)
-            (sym (r-else h (omega arith) (omega arith))) here,
+        subst (λ (x : ℕ). Turns n x h) (sym (split-name-else t (m .triangles) h (omega arith) (omega arith))) here,
       ))
 
   fan-old : (v : ℕ) → v < m .vertices → OneFan n v
-  fan-old v l = fan-map m n r step v (λ h i. (renames .into h i, renames .origin h i tt)) (every v l) (F .fan v l)
+  fan-old v l = fan-map m n name step v (λ h i. (renames .into h i, renames .origin h i tt)) (every v l) (F .fan v l)
 
   fan-new : OneFan n (m .vertices)
   fan-new =
@@ -329,17 +238,20 @@ module _ (t : ℕ) (m n : Topology) (F : Manifold m) (b : t < m .triangles) (fla
         first = 3 * t + 2;
         inUse = omega (arith, S .triangles);
         out = S .cornersT .2;
-        all = by-new (λ k. origin n k ≡ m .vertices → Turns n (3 * t + 2) k)
-            ((λ q. absurd (omega (arith, S .cornersT .0))), (λ q. absurd (omega (arith, S .cornersT .1))), (λ q. here)) (
-              (λ q. absurd (omega (arith, S .cornersF .0))),
-              (λ q. absurd (omega (arith, S .cornersF .1))),
-              (λ q. go-on here (rotate₂ n t ∙ S .linksT .1) (omega arith)),
-            ) (
-              (λ q. absurd (omega (arith, S .cornersE .0))),
-              (λ q. absurd (omega (arith, S .cornersE .1))),
-              (λ q. go-on (go-on here (rotate₂ n t ∙ S .linksT .1) (omega arith)) (rotate₂ n f ∙ S .linksF .1)
-                  (omega arith)),
-            )
+        all = by-new (λ k. origin n k ≡ m .vertices → Turns n (3 * t + 2) k) (
+          (λ q. absurd (omega (arith, S .cornersT .0))),
+          (λ q. absurd (omega (arith, S .cornersT .1))),
+          (λ q. here),
+        ) (
+          (λ q. absurd (omega (arith, S .cornersF .0))),
+          (λ q. absurd (omega (arith, S .cornersF .1))),
+          (λ q. go-on here (rotate₂ n t ∙ S .linksT .1) (omega arith)),
+        ) (
+          (λ q. absurd (omega (arith, S .cornersE .0))),
+          (λ q. absurd (omega (arith, S .cornersE .1))),
+          (λ q. go-on (go-on here (rotate₂ n t ∙ S .linksT .1) (omega arith)) (rotate₂ n f ∙ S .linksF .1)
+              (omega arith)),
+        )
             (λ h l i q. absurd (omega (arith, S .corners h l i, F .corner h l)));
       }
 

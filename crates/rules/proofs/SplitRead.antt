@@ -8,9 +8,27 @@ use lib.ListN.{length, getD, set, drop, length-set}
 use lib.Seq.{getD-set-same, getD-set-other, lt-length-set, drop-set-lt}
 use Rattle.rules.proofs.Manifold.{Manifold, Joined}
 use Rattle.rules.proofs.Past.{Past, drop-put, drop-told, joined-below}
-use Rattle.rules.proofs.Sides.{renameTwo, Mutual, relinked, length-put, put-else, Row, put-row, row-else}
+use Rattle.rules.proofs.Sides.{renameTwo, rename-a, rename-b, rename-else, Mutual, relinked, length-put}
+use Rattle.rules.proofs.Sides.{put-else, Row, put-row, row-else}
 use Rattle.rules.specs.Split.{split}
 use Rattle.rules.specs.Tables.{Topology, sides, origin, boundary, link, generation, putThree}
+
+-- The names of the old sides after the split of t: its sides 1 and 2 become the bases of the new slots f and f + 1.
+abbrev pub splitName : ℕ → ℕ → ℕ → ℕ
+splitName t f = renameTwo (3 * t + 1) (3 * f) (3 * t + 2) (3 * (f + 1))
+
+module _ (t f : ℕ) where
+  pub split-name₀ : splitName t f (3 * t) ≡ 3 * t
+  split-name₀ = rename-else (3 * t + 1) (3 * f) (3 * t + 2) (3 * (f + 1)) (3 * t) (omega arith) (omega arith)
+
+  pub split-name₁ : splitName t f (3 * t + 1) ≡ 3 * f
+  split-name₁ = rename-a (3 * t + 1) (3 * f) (3 * t + 2) (3 * (f + 1))
+
+  pub split-name₂ : splitName t f (3 * t + 2) ≡ 3 * (f + 1)
+  split-name₂ = rename-b (3 * t + 1) (3 * f) (3 * t + 2) (3 * (f + 1)) (omega arith)
+
+  pub split-name-else : (h : ℕ) → h ≢ 3 * t + 1 → h ≢ 3 * t + 2 → splitName t f h ≡ h
+  split-name-else = rename-else (3 * t + 1) (3 * f) (3 * t + 2) (3 * (f + 1))
 
 -- n is m with triangle t split: f and f + 1 are the two new slots.
 pub record Splits (t : ℕ) (m n : Topology) : Type 0 where
@@ -23,8 +41,7 @@ pub record Splits (t : ℕ) (m n : Topology) : Type 0 where
   pub linksT : Row (n .links) 0 t (link m (3 * t)) (3 * m .triangles + 2) (3 * (m .triangles + 1) + 1)
   pub linksF : Row (n .links) 0 (m .triangles) (link m (3 * t + 1)) (3 * (m .triangles + 1) + 2) (3 * t + 1)
   pub linksE : Row (n .links) 0 (m .triangles + 1) (link m (3 * t + 2)) (3 * t + 2) (3 * m .triangles + 1)
-  pub links : (h : ℕ) → h < sides m → h / 3 ≢ t
-      → link n h ≡ renameTwo (3 * t + 1) (3 * m .triangles) (3 * t + 2) (3 * (m .triangles + 1)) (link m h)
+  pub links : (h : ℕ) → h < sides m → h / 3 ≢ t → link n h ≡ splitName t (m .triangles) (link m h)
   pub generationT : generation n t ≡ suc (generation m t)
   pub generationF : generation n (m .triangles) ≡ suc (generation m t)
   pub generationE : generation n (m .triangles + 1) ≡ suc (generation m t)
@@ -46,8 +63,8 @@ pub rows : (l : List ℕ) (d t f e a₀ a₁ a₂ b₀ b₁ b₂ c₀ c₁ c₂ 
     → Row (putThree e (c₀, c₁, c₂) (putThree f (b₀, b₁, b₂) (putThree t (a₀, a₁, a₂) l))) d t a₀ a₁ a₂
     × Row (putThree e (c₀, c₁, c₂) (putThree f (b₀, b₁, b₂) (putThree t (a₀, a₁, a₂) l))) d f b₀ b₁ b₂
     × Row (putThree e (c₀, c₁, c₂) (putThree f (b₀, b₁, b₂) (putThree t (a₀, a₁, a₂) l))) d e c₀ c₁ c₂
-    × ((h : ℕ) → h / 3 ≢ t → h / 3 ≢ f → h / 3 ≢ e → getD
-    (putThree e (c₀, c₁, c₂) (putThree f (b₀, b₁, b₂) (putThree t (a₀, a₁, a₂) l))) h d ≡ getD l h d)
+    × ((h : ℕ) → h / 3 ≢ t → h / 3 ≢ f → h / 3 ≢ e
+    → getD (putThree e (c₀, c₁, c₂) (putThree f (b₀, b₁, b₂) (putThree t (a₀, a₁, a₂) l))) h d ≡ getD l h d)
 rows l d t f e a₀ a₁ a₂ b₀ b₁ b₂ c₀ c₁ c₂ p q r =
     let l₁ : List ℕ = putThree t (a₀, a₁, a₂) l in
     let l₂ : List ℕ = putThree f (b₀, b₁, b₂) l₁ in
@@ -147,8 +164,8 @@ module _ (t : ℕ) (m : Topology) (F : Manifold m) (b : t < m .triangles)
           }
         where
           drop-three : (l : List ℕ) (t c : ℕ) (x y z : ℕ × ℕ × ℕ) → t < m .triangles → m .triangles + 2 ≤ c
-              → drop (3 * c) (putThree (m .triangles + 1) z (putThree (m .triangles) y (putThree t x l))) ≡ drop
-              (3 * c) l
+              → drop (3 * c) (putThree (m .triangles + 1) z (putThree (m .triangles) y (putThree t x l)))
+              ≡ drop (3 * c) l
           drop-three l t c x y z i j =
               drop-put (putThree (m .triangles) y (putThree t x l)) (m .triangles + 1) c z (omega arith)
               ∙ drop-put (putThree t x l) (m .triangles) c y (omega arith)

@@ -8,6 +8,7 @@ use lib.ListN.{length, getD, drop, length-set}
 use lib.IntN.{ℤ, pos, negℤ, _+ℤ_}
 use lib.Signed.{_≤ℤ_}
 use Rattle.rules.proofs.Differences.{its, nat, add, neg, at-most, at-most-gives}
+use Rattle.rules.proofs.Entries.{Each}
 use Rattle.rules.proofs.Past.{drop-put}
 use Rattle.rules.proofs.Rounding.{moved-in-range}
 use Rattle.rules.proofs.Sides.{length-put, put-else, put-at}
@@ -50,14 +51,11 @@ module _ (m : Mesh) (v k : ℕ) (three : k < 3) where
       go : Dec (v ≡ n) → (v < n → getD (moveVertices n m put) (3 * v + k) (pos 0) ≡ movedCoordinate m v k)
           → getD (moveVertices n m put) (3 * v + k) (pos 0) ≡ movedCoordinate m v k
       go (yes e) ih =
-          move-else n m put (3 * v + k) (omega arith) ∙ rw e (put-at l n (movedCoordinate m n) (pos 0) (omega arith) k three)
+          move-else n m put (3 * v + k) (omega arith)
+          ∙ rw e (put-at l n (movedCoordinate m n) (pos 0) (omega arith) k three)
       go (no e) ih = ih (omega arith)
 
 -- ---- sums over a ring
-
-abbrev pub Each : (ℕ → Type 0) → List ℕ → Type 0
-Each P [] = Unit {0}
-Each P (x ∷ xs) = P x × Each P xs
 
 -- A sum of coordinates in range lies between the limits, as many times as there are summands.
 sum-range : (m : Mesh) (k : ℕ) (vs : List ℕ) → Each (λ v. InRange (coordinate m v k)) vs
@@ -67,7 +65,8 @@ sum-range m k [] a = (at-most (neg (nat 0)) (nat 0) (omega arith), at-most (nat 
 sum-range m k (v ∷ vs) a = go (a .0) (sum-range m k vs (a .1))
   where
     go : InRange (coordinate m v k)
-        → (negℤ (pos (length vs * maxCoordinate)) ≤ℤ sumOver m k vs) × (sumOver m k vs ≤ℤ pos (length vs * maxCoordinate))
+        → (negℤ (pos (length vs * maxCoordinate)) ≤ℤ sumOver m k vs)
+        × (sumOver m k vs ≤ℤ pos (length vs * maxCoordinate))
         → (negℤ (pos (suc (length vs) * maxCoordinate)) ≤ℤ (coordinate m v k +ℤ sumOver m k vs))
         × ((coordinate m v k +ℤ sumOver m k vs) ≤ℤ pos (suc (length vs) * maxCoordinate))
     go r s =
@@ -78,8 +77,7 @@ sum-range m k (v ∷ vs) a = go (a .0) (sum-range m k vs (a .1))
         let b₀ = at-most-gives (neg (nat (length vs * maxCoordinate))) t (s .0) in
         let b₁ = at-most-gives t (nat (length vs * maxCoordinate)) (s .1) in (
           at-most (neg (nat (suc (length vs) * maxCoordinate))) (add c t) (omega arith),
-          at-most (add c t)
-              (nat (suc (length vs) * maxCoordinate)) (omega arith),
+          at-most (add c t) (nat (suc (length vs) * maxCoordinate)) (omega arith),
         )
 
 -- A vertex in range whose ring entries are in range moves to a place in range.

@@ -9,6 +9,7 @@ use lib.ListN.{length, getD}
 use lib.IntN.{ℤ, pos}
 use Rattle.rules.proofs.Bases.{reached}
 use Rattle.rules.proofs.Chain.{falls}
+use Rattle.rules.proofs.Cut.{Spread}
 use Rattle.rules.proofs.Edges.{boundarySides, no-boundary}
 use Rattle.rules.proofs.FaceSplit.{Room, face-positions, face-splitting}
 use Rattle.rules.proofs.Manifold.{Manifold, BasesMeetIn}
@@ -38,8 +39,8 @@ pub record Midway (g i : ℕ) (d e : Work) : Type 0 where
   pub past : (b : ℕ) → reached e .triangles ≤ b → Past b (reached d) (reached e)
   pub places : Places (d .mesh) (e .mesh)
   pub centres : (t k : ℕ) → t < i → k < 3 → coordinate (e .mesh) (reached d .vertices + t) k ≡ centre (d .mesh) t k
-  pub todo : (x : ℕ) → i ≤ x → x < reached d .triangles → generation (reached e) x ≡ g
-  pub todoCorners : (h : ℕ) → i ≤ h / 3 → h < sides (reached d) → origin (reached e) h ≡ origin (reached d) h
+  pub waiting : (x : ℕ) → i ≤ x → x < reached d .triangles → generation (reached e) x ≡ g
+  pub waitingCorners : (h : ℕ) → i ≤ h / 3 → h < sides (reached d) → origin (reached e) h ≡ origin (reached d) h
   pub ready : (x : ℕ) → x < reached e .triangles → (x < i) ⊎ (reached d .triangles ≤ x)
       → (generation (reached e) x ≡ suc g) ⊎ (generation (reached e) x ≡ suc (suc g))
 
@@ -47,8 +48,7 @@ pub record Midway (g i : ℕ) (d e : Work) : Type 0 where
 ready-on : (g i : ℕ) (d e n : Topology) (x : ℕ)
     → (x < e .triangles → (x < i) ⊎ (d .triangles ≤ x) → (generation e x ≡ suc g) ⊎ (generation e x ≡ suc (suc g)))
     → generation e i ≡ g → (x < suc i) ⊎ (d .triangles ≤ x)
-    → ((x < e .triangles) × (x ≢ i) × (generation n x ≡ generation e x)) ⊎ ((generation n x ≡ suc
-    (generation e i)) ⊎ (generation n x ≡ suc (suc (generation e i))))
+    → Spread i (suc (generation e i)) e n x
     → (generation n x ≡ suc g) ⊎ (generation n x ≡ suc (suc g))
 ready-on g i d e n x r q w (inr (inl z)) = inl (z ∙ ap suc q)
 ready-on g i d e n x r q w (inr (inr z)) = inr (z ∙ ap (λ (y : ℕ). suc (suc y)) q)
@@ -58,7 +58,7 @@ ready-on g i d e n x r q w (inl z) = elim (r (z .0) (less w)) [ inl y ↦ inl (z
     less (inl y) = let ne = z .1 in inl (omega arith)
     less (inr y) = inr y
 
-module _ (g : ℕ) (flat : g % 2 ≡ 0) (d : Work) (F : Manifold (reached d)) (K : BasesMeetIn nowhere (reached d))
+module _ (g : ℕ) (even : g % 2 ≡ 0) (d : Work) (F : Manifold (reached d)) (K : BasesMeetIn nowhere (reached d))
     (G : (x : ℕ) → x < reached d .triangles → generation (reached d) x ≡ g)
     (R : Room (reached d .triangles) (reached d))
     (P : 3 * (reached d .vertices + reached d .triangles) ≤ length (d .mesh .positions)) where
@@ -77,8 +77,8 @@ module _ (g : ℕ) (flat : g % 2 ≡ 0) (d : Work) (F : Manifold (reached d)) (K
     past = λ b l. past-same b (reached d);
     places = places-same (d .mesh);
     centres = λ t k i j. absurd (omega arith);
-    todo = λ x i l. G x l;
-    todoCorners = λ h i l. refl;
+    waiting = λ x i l. G x l;
+    waitingCorners = λ h i l. refl;
     ready = λ x l w. elim w [ inl q ↦ absurd (omega arith) | inr q ↦ absurd (omega arith) ];
   }
 
@@ -97,21 +97,27 @@ module _ (g : ℕ) (flat : g % 2 ≡ 0) (d : Work) (F : Manifold (reached d)) (K
   unfolding centre
   centre-stays i k e l j M = rw (at 0 (omega arith), at 1 (omega arith), at 2 (omega arith))
     where
-      at : (n : ℕ) → n < 3 → coordinate (e .mesh) (origin (reached e) (3 * i + n)) k ≡ coordinate (d .mesh) (origin (reached d) (3 * i + n)) k
+      at : (n : ℕ) → n < 3
+          → coordinate (e .mesh) (origin (reached e) (3 * i + n)) k
+          ≡ coordinate (d .mesh) (origin (reached d) (3 * i + n)) k
       at n q =
           let c = F .corner (3 * i + n) (omega arith) in
-          ap (λ (v : ℕ). coordinate (e .mesh) v k) (M .todoCorners (3 * i + n) (omega arith) (omega arith))
+          ap (λ (v : ℕ). coordinate (e .mesh) v k) (M .waitingCorners (3 * i + n) (omega arith) (omega arith))
           ∙ M .places .old (3 * origin (reached d) (3 * i + n) + k) (omega arith)
 
-  centres-on : (i : ℕ) (e : Work) → i < reached d .triangles → (M : Midway g i d e) → Places (e .mesh) (faceSplit i e .mesh)
-      → (t k : ℕ) → t < suc i → k < 3 → coordinate (faceSplit i e .mesh) (reached d .vertices + t) k ≡ centre (d .mesh) t k
+  centres-on : (i : ℕ) (e : Work) → i < reached d .triangles → (M : Midway g i d e)
+      → Places (e .mesh) (faceSplit i e .mesh)
+      → (t k : ℕ) → t < suc i → k < 3
+      → coordinate (faceSplit i e .mesh) (reached d .vertices + t) k ≡ centre (d .mesh) t k
   centres-on i e l M Q t k j q = go (ℕ-discrete t i)
     where
       go : Dec (t ≡ i) → coordinate (faceSplit i e .mesh) (reached d .vertices + t) k ≡ centre (d .mesh) t k
-      go (no n) = Q .old (3 * (reached d .vertices + t) + k) (omega (arith, M .vertices)) ∙ M .centres t k (omega arith) q
+      go (no n) =
+          Q .old (3 * (reached d .vertices + t) + k) (omega (arith, M .vertices)) ∙ M .centres t k (omega arith) q
       go (yes x) =
           let v : reached d .vertices + t ≡ reached e .vertices = omega (arith, M .vertices) in
-          let r : 3 * reached e .vertices + 3 ≤ length (e .mesh .positions) = omega (arith, P, M .vertices, M .places .size) in
+          let r : 3 * reached e .vertices + 3 ≤ length (e .mesh .positions) =
+          omega (arith, P, M .vertices, M .places .size) in
           ap (λ (u : ℕ). coordinate (faceSplit i e .mesh) u k) v
           ∙ ap (λ (p : List ℤ). getD p (3 * reached e .vertices + k) (pos 0)) (face-positions i e)
           ∙ put-at (e .mesh .positions) (reached e .vertices) (centre (e .mesh) i) (pos 0) r k q
@@ -121,11 +127,12 @@ module _ (g : ℕ) (flat : g % 2 ≡ 0) (d : Work) (F : Manifold (reached d)) (K
   further : (i : ℕ) (e : Work) → i < reached d .triangles → Midway g i d e → Midway g (suc i) d (faceSplit i e)
   further i e l M =
       let t = M .triangles in
-      let gi : generation (reached e) i ≡ g = M .todo i (omega arith) l in
+      let gi : generation (reached e) i ≡ g = M .waiting i (omega arith) l in
       let X = face-splitting i e (M .manifold) (omega arith) (room-at i e l M) (omega arith) in
       let S = X .result in
-      let stays : (x : ℕ) → suc i ≤ x → x < reached d .triangles → generation (reached (faceSplit i e)) x ≡ generation (reached e) x =
-      λ x j k. let a = M .todo x (omega arith) k in S .keeps x (omega arith) (omega arith) (omega arith) in
+      let stays : (x : ℕ) → suc i ≤ x → x < reached d .triangles → generation (reached (faceSplit i e)) x
+      ≡ generation (reached e) x =
+      λ x j k. let a = M .waiting x (omega arith) k in S .keeps x (omega arith) (omega arith) (omega arith) in
       record {
         manifold = S .manifold;
         basesMeet = S .basesMeet (M .basesMeet);
@@ -140,9 +147,9 @@ module _ (g : ℕ) (flat : g % 2 ≡ 0) (d : Work) (F : Manifold (reached d)) (K
         past = λ b j. past-on (M .past b (omega (arith, S .triangles))) (S .past b j);
         places = places-on (M .places) (X .places);
         centres = centres-on i e l M (X .places);
-        todo = λ x j k. stays x j k ∙ M .todo x (omega arith) k;
-        todoCorners = λ h j k.
-            S .still .corners h (omega arith) (stays (h / 3) j (omega arith)) ∙ M .todoCorners h (omega arith) k;
+        waiting = λ x j k. stays x j k ∙ M .waiting x (omega arith) k;
+        waitingCorners = λ h j k.
+            S .still .corners h (omega arith) (stays (h / 3) j (omega arith)) ∙ M .waitingCorners h (omega arith) k;
         ready = λ x j w.
             ready-on g i (reached d) (reached e) (reached (faceSplit i e)) x (M .ready x) gi w (S .spread x j);
       }
@@ -151,7 +158,7 @@ module _ (g : ℕ) (flat : g % 2 ≡ 0) (d : Work) (F : Manifold (reached d)) (K
   unfolding refine
   refine-even i e l M =
       let t = M .triangles in
-      let gi : generation (reached e) i ≡ g = M .todo i (omega arith) l in
+      let gi : generation (reached e) i ≡ g = M .waiting i (omega arith) l in
       raise-cuts (generation (reached e) i) i e (isEven (omega arith)) (M .manifold) (M .basesMeet) (omega arith)
       (room-at i e l M)
 

@@ -2,11 +2,11 @@
 use mathlib.Core.Path.{_≡_, refl, sym, ap, ap₂, _∙_}
 use mathlib.Core.Logic.{_≢_}
 use mathlib.Core.Bool.{Bool, true, false}
-use Prim.Native.Nat.{ℕ, zero, suc, _+_, _*_, _<_}
+use Prim.Native.Nat.{ℕ, zero, suc, _+_, _*_, _<_, _≤_}
 use native.Mathlib.Omega.{arith}
 use native.Mathlib.Decide.{ℕ-discrete}
 use lib.Dec.{eqb}
-use Rattle.rules.proofs.Sides.{eqb-yes, eqb-no}
+use borrow.Author.Tests.{eq-eqb, ne-eqb}
 use Rattle.rules.specs.Below.{total}
 
 pub total-same : (n : ℕ) (f g : ℕ → ℕ) → ((h : ℕ) → h < n → f h ≡ g h) → total n f ≡ total n g
@@ -65,8 +65,8 @@ pub total-change₂ : (n i j : ℕ) (f g : ℕ → ℕ) → i < n → j < n → 
     → total n g + f i + f j ≡ total n f + g i + g j
 total-change₂ n i j f g l k ne e =
     let mid : ℕ → ℕ = λ h. pick (eqb h i) (g h) (f h) in
-    let mi : mid i ≡ g i = ap (λ (b : Bool). pick b (g i) (f i)) (eqb-yes i) in
-    let mo : (h : ℕ) → h ≢ i → mid h ≡ f h = λ h q. ap (λ (b : Bool). pick b (g h) (f h)) (eqb-no h i q) in
+    let mi : mid i ≡ g i = ap (λ (b : Bool). pick b (g i) (f i)) (eq-eqb i i refl) in
+    let mo : (h : ℕ) → h ≢ i → mid h ≡ f h = λ h q. ap (λ (b : Bool). pick b (g h) (f h)) (ne-eqb h i q) in
     let a : total n mid + f i ≡ total n f + mid i = total-change n i f mid l (λ h w q. sym (mo h q)) in
     let b : total n g + mid j ≡ total n mid + g j = total-change n j mid g k (λ h w q. on h w q (ℕ-discrete h i)) in
     let c : mid j ≡ f j = mo j (λ q. ne (sym q)) in
@@ -77,12 +77,16 @@ total-change₂ n i j f g l k ne e =
     pick false x y = y
 
     on : (h : ℕ) → h < n → h ≢ j → Dec (h ≡ i) → pick (eqb h i) (g h) (f h) ≡ g h
-    on h w q (yes z) = ap (λ (b : Bool). pick b (g h) (f h)) (ap (λ (x : ℕ). eqb x i) z ∙ eqb-yes i)
-    on h w q (no z) = ap (λ (b : Bool). pick b (g h) (f h)) (eqb-no h i z) ∙ e h w z q
+    on h w q (yes z) = ap (λ (b : Bool). pick b (g h) (f h)) (eq-eqb h i z)
+    on h w q (no z) = ap (λ (b : Bool). pick b (g h) (f h)) (ne-eqb h i z) ∙ e h w z q
 
 -- A sum over sides, triangle by triangle.
 abbrev pub row : (ℕ → ℕ) → ℕ → ℕ
 row f t = f (3 * t) + f (3 * t + 1) + f (3 * t + 2)
+
+pub row-same : (f g : ℕ → ℕ) (t : ℕ) → f (3 * t) ≡ g (3 * t) → f (3 * t + 1) ≡ g (3 * t + 1)
+    → f (3 * t + 2) ≡ g (3 * t + 2) → row f t ≡ row g t
+row-same f g t a b c = omega arith
 
 pub total-rows : (n : ℕ) (f : ℕ → ℕ) → total (3 * n) f ≡ total n (row f)
 unfolding total
@@ -105,11 +109,25 @@ total-two n f =
     let a : suc n ≡ n + 1 = omega arith in
     ap (λ (x : ℕ). total x f) e ∙ ap (λ (x : ℕ). total n f + f n + f x) a
 
-pub zero-each : (n : ℕ) (f : ℕ → ℕ) → total n f ≡ 0 → (h : ℕ) → h < n → f h ≡ 0
+pub total-le : (n : ℕ) (f g : ℕ → ℕ) → ((h : ℕ) → h < n → f h ≤ g h) → total n f ≤ total n g
 unfolding total
-zero-each zero f e h l = absurd (omega arith)
-zero-each (suc n) f e h l = go (ℕ-discrete h n) (zero-each n f (omega arith) h)
+total-le zero f g e = omega arith
+total-le (suc n) f g e = let a = total-le n f g (λ h l. e h (omega arith)) in let b = e n (omega arith) in omega arith
+
+-- Terms that are at most others and add up to as much are those.
+pub total-tight : (n : ℕ) (f g : ℕ → ℕ) → ((h : ℕ) → h < n → f h ≤ g h) → total n f ≡ total n g → (h : ℕ) → h < n
+    → f h ≡ g h
+unfolding total
+total-tight zero f g e s h l = absurd (omega arith)
+total-tight (suc n) f g e s h l =
+    let a = total-le n f g (λ k i. e k (omega arith)) in
+    let b = e n (omega arith) in
+    go (ℕ-discrete h n) (total-tight n f g (λ k i. e k (omega arith)) (omega arith) h) (omega arith)
   where
-    go : Dec (h ≡ n) → (h < n → f h ≡ 0) → f h ≡ 0
-    go (yes q) ih = rw q (omega arith)
-    go (no q) ih = ih (omega arith)
+    go : Dec (h ≡ n) → (h < n → f h ≡ g h) → f n ≡ g n → f h ≡ g h
+    go (yes q) ih x = rw q x
+    go (no q) ih x = ih (omega arith)
+
+pub zero-each : (n : ℕ) (f : ℕ → ℕ) → total n f ≡ 0 → (h : ℕ) → h < n → f h ≡ 0
+zero-each n f e h l =
+    sym (total-tight n (λ _. 0) f (λ k i. omega arith) (total-zero n (λ _. 0) (λ k i. refl) ∙ sym e) h l)

@@ -1,11 +1,10 @@
 -- Turning about the corners of triangles that are glued along their sides.
 use mathlib.Core.Path.{_≡_, sym, ap, _∙_}
-use mathlib.Core.Logic.{_≢_, inl, inr}
+use mathlib.Core.Logic.{_≢_}
 use Prim.Native.Nat.{ℕ, _/_, _<_}
 use native.Mathlib.Omega.{arith}
 use native.Mathlib.Decide.{ℕ-discrete}
-use Rattle.rules.proofs.Edges.{few}
-use Rattle.rules.proofs.Manifold.{Partnered, Manifold, Joined}
+use Rattle.rules.proofs.Manifold.{Partnered, Manifold, Joined, partnered, few}
 use Rattle.rules.proofs.Sides.{next-previous, previous-next, next-lt, previous-lt}
 use Rattle.rules.specs.Tables.{Topology, sides, next, previous, origin, target, boundary, link, rotate}
 
@@ -22,12 +21,10 @@ not-next : (h k : ℕ) → h / 3 ≡ k / 3 → k ≢ next h → h ≢ next k →
 not-next h k t e f = omega arith
 
 module _ (m : Topology) (G : Glued m) where
-  partner : (h : ℕ) → h < sides m → link m h ≢ boundary → Partnered m h
-  partner h l n = elim (G .joined h l) [ inl e ↦ absurd (n e) | inr M ↦ M ]
-
   -- The side that a turn crosses.
   crossed : (h : ℕ) → h < sides m → rotate m h < sides m → Partnered m (previous h)
-  crossed h l i = partner (previous h) (previous-lt h (m .triangles) l) (λ e. omega (arith, G .few))
+  crossed h l i =
+      partnered (G .joined (previous h) (previous-lt h (m .triangles) l)) (λ e. omega (arith, G .few))
 
   pub rotate-origin : (h : ℕ) → h < sides m → rotate m h < sides m → origin m (rotate m h) ≡ origin m h
   rotate-origin h l i = crossed h l i .from ∙ ap (λ (k : ℕ). origin m k) (next-previous h)
@@ -53,7 +50,7 @@ module _ (m : Topology) (G : Glued m) where
   pub before : (h : ℕ) → h < sides m → link m h ≢ boundary
       → (k : ℕ) × (k < sides m) × (origin m k ≡ origin m h) × (rotate m k ≡ h)
   before h l n =
-      let M : Partnered m h = partner h l n in (
+      let M : Partnered m h = partnered (G .joined h l) n in (
         next (link m h),
         next-lt (link m h) (m .triangles) (M .inUse),
         M .onto,

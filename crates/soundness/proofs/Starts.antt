@@ -60,7 +60,8 @@ module _ (c l : List ℕ) (h v x : ℕ) where
           ]);
           lowest = λ _. rw e (λ n. elim b [
             | inl q ↦ absurd (n q)
-            | inr (f, _) ↦ below-more (λ k. getD c k 0 ≡ v → h + 1 ≤ k + 1) h (λ k j q. absurd (f k j q)) (λ _. omega arith)
+            | inr (f, _) ↦ below-more (λ k. getD c k 0 ≡ v → h + 1 ≤ k + 1) h (λ k j q. absurd (f k j q))
+                (λ _. omega arith)
           ]);
         }
 

@@ -7,8 +7,9 @@ use mathlib.Core.List.{List}
 use mathlib.Core.Path.{_≡_}
 use lib.ListN.{length, getD, set, List·getD-eq-default}
 use lib.Seq.{getD-set-same, getD-set-other, set-out}
-use Rattle.rules.proofs.Bases.{base-yes}
+use Rattle.rules.proofs.Bases.{base-is}
 use Rattle.rules.proofs.Carried.{RefineFound}
+use Rattle.rules.proofs.Decide.{when-true}
 use Rattle.rules.proofs.RefineLoop.{settle-counts, Refining, few-splits, refining-next}
 use Rattle.rules.specs.Calls.{splitsOf}
 use Rattle.rules.specs.Split.{Work, split, flip, withFlip, splitPlaced, settle, chainEnd}
@@ -23,7 +24,7 @@ base-within m h e = go (decLt (h / 3) (length (m .generations)))
     go (yes l) = l
     go (no l) =
         let z : getD (m .generations) (h / 3) 0 ≡ 0 = List·getD-eq-default (m .generations) 0 (omega arith) in
-        absurd (omega (arith, base-yes m h e .1))
+        absurd (omega (arith, when-true (base-is m h) e .1))
 
 -- A slot that is written, and one that is not written above k.
 written-at-most : (l : List ℕ) (i v : ℕ) → getD (set l i v) i 0 ≤ v

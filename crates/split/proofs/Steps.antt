@@ -10,7 +10,8 @@ use lib.ListN.{getD}
 use Rattle.points.specs.declared.Point.{Point}
 use Rattle.points.specs.Axes.{eachAxis, thirds}
 use Rattle.rules.specs.Split.{Work, centre, split, splitPlaced, flip, settle, faceSplit}
-use Rattle.rules.specs.Tables.{Topology, Mesh, meshOf, withTopology, origin, link, isBase, coordinate, withCounts, relink}
+use Rattle.rules.specs.Tables.{Topology, Mesh, meshOf, withTopology, origin, link, isBase, coordinate, withCounts}
+use Rattle.rules.specs.Tables.{relink}
 use Rattle.tables.specs.declared.Triangle.{Triangle}
 use Rattle.tables.specs.Lent.{triangleAt, put, putPoint}
 use Rattle.split.specs.Made.{splitCounted, childrenOf, flippedOf}
@@ -42,7 +43,8 @@ centre-steps m t a b c r ea eb ec er = rw (er, ec, eb, ea, centre, add-zero (3 *
 module _ (s : ℕ) (w : Work) (b : Bool) (e : b ≡ isBase (w .mesh .topology) (link (w .mesh .topology) (3 * s))) where
   pub settle-flips : (n : Topology) → b ≡ true
       → n ≡ flip s (link (w .mesh .topology) (3 * s) / 3) (w .mesh .topology)
-      → _≡_ {A = Work} (record { mesh = withTopology n (w .mesh); splits = w .splits; flips = w .flips + 1 }) (settle s w)
+      → _≡_ {A = Work} (record { mesh = withTopology n (w .mesh); splits = w .splits; flips = w .flips + 1 })
+      (settle s w)
   unfolding settle
   settle-flips n met en = rw (settle, ← e, met, en, add-one (w .flips))
 

@@ -4,9 +4,8 @@ use native.Mathlib.Nat.{add-zero}
 use native.Mathlib.Omega.{arith}
 use mathlib.Core.Logic.{_≢_}
 use mathlib.Core.Path.{_≡_, refl, subst}
-use borrow.Author.Tests.{eq-eqb}
-use Rattle.rules.proofs.Chain.{odd-is, odd-not}
-use Rattle.rules.proofs.Sides.{eqb-no}
+use borrow.Author.Tests.{eq-eqb, ne-eqb}
+use Rattle.rules.proofs.Decide.{odd-test, even-test}
 use Rattle.rules.specs.Split.{chainEndWithin, chainOddWithin, chainEnd, chainOdd}
 use Rattle.rules.specs.Tables.{Topology, link, boundary, generation}
 use Rattle.split.specs.declared.Chain.{Chain}
@@ -39,17 +38,19 @@ module _ {m : Topology} {t : ℕ} where
       pub walk-even : generation m end % 2 ≡ 0 → _≡_ {A = Chain} (record { odd = odd; end = end }) (chainOf m t)
       unfolding chainOddWithin chainEndWithin
       walk-even e =
-          rw (← add-zero odd) (stops (suc k) 0 w (rw (odd-not _ e, chainOddWithin)) (rw (odd-not _ e, chainEndWithin)))
+          rw (← add-zero odd)
+          (stops (suc k) 0 w (rw (even-test _ e, chainOddWithin)) (rw (even-test _ e, chainEndWithin)))
 
       module _ (o : generation m end % 2 ≡ 1) where
         pub walk-boundary : link m (3 * end) ≡ boundary
             → _≡_ {A = Chain} (record { odd = odd + 1; end = end }) (chainOf m t)
         unfolding chainOddWithin chainEndWithin
         walk-boundary e =
-            stops (suc k) 1 w (rw (odd-is _ o, eq-eqb _ _ e, chainOddWithin)) (rw (odd-is _ o, eq-eqb _ _ e, chainEndWithin))
+            stops (suc k) 1 w (rw (odd-test _ o, eq-eqb _ _ e, chainOddWithin))
+            (rw (odd-test _ o, eq-eqb _ _ e, chainEndWithin))
 
         pub walk-on : link m (3 * end) ≢ boundary → Walking m t (odd + 1) (link m (3 * end) / 3) k
         unfolding chainOddWithin chainEndWithin
         walk-on e =
-            let n = rw (odd-is _ o, eqb-no _ _ e, chainOddWithin) at (w .odds) in
-            record { odds = omega arith; ends = rw (odd-is _ o, eqb-no _ _ e, chainEndWithin) at (w .ends) }
+            let n = rw (odd-test _ o, ne-eqb _ _ e, chainOddWithin) at (w .odds) in
+            record { odds = omega arith; ends = rw (odd-test _ o, ne-eqb _ _ e, chainEndWithin) at (w .ends) }

@@ -286,8 +286,8 @@ pub fn base_chain(links: &[u32], generations: &[u8], t: u32) -> Chain
     Chain { odd, end }
 }
 
-// The refinement of t, by as many face splits as it takes. The end of the base chain is found anew for each, as a flip may
-// move what lies across a base to another slot.
+// The refinement of t, by as many face splits as it takes. The end of the base chain is found anew for each, as a flip
+// may move what lies across a base to another slot.
 pub fn refine(
     positions: &mut [i32],
     corners: &mut [u32],

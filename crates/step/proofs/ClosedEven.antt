@@ -2,21 +2,11 @@
 use mathlib.Core.Bool.{Bool, true, false, not}
 use mathlib.Core.Path.{_≡_, _∙_}
 use Prim.Native.Nat.{ℕ, _%_}
-use native.Mathlib.Decide.{ℕ-discrete}
-use native.Mathlib.Omega.{arith}
-use borrow.Author.Tests.{eq-eqb, ne-eqb}
 use lib.Dec.{eqb}
+use Rattle.rules.proofs.Decide.{is-eq, is-same, even-is}
 use Rattle.rules.specs.Below.{all}
 use Rattle.rules.specs.Calls.{closedEven}
-use Rattle.rules.specs.Tables.{Topology, sides, link, boundary, generation, odd}
-
--- A generation is odd where it is not even.
-even-test : (g : ℕ) → eqb (g % 2) 0 ≡ not (odd g)
-even-test g = go (ℕ-discrete (g % 2) 0)
-  where
-    go : Dec (g % 2 ≡ 0) → eqb (g % 2) 0 ≡ not (odd g)
-    go (yes e) = rw (eq-eqb (g % 2) 0 e, ne-eqb (g % 2) 1 (λ q. omega arith))
-    go (no e) = rw (ne-eqb (g % 2) 0 e, eq-eqb (g % 2) 1 (omega arith))
+use Rattle.rules.specs.Tables.{Topology, sides, link, boundary, generation}
 
 module _ (m : Topology) (a : Bool) (ea : a ≡ all (sides m) (λ h. not (eqb (link m h) boundary))) where
   pub on-boundary : a ≡ false → false ≡ closedEven m
@@ -31,4 +21,4 @@ module _ (m : Topology) (a : Bool) (ea : a ≡ all (sides m) (λ h. not (eqb (li
 
     pub of-one : b ≡ true → eqb (g % 2) 0 ≡ closedEven m
     unfolding closedEven
-    of-one e = even-test g ∙ rw (closedEven, ← ea, inner, ← eg, ← eb, e)
+    of-one e = is-same (is-eq (g % 2) 0) (even-is g) ∙ rw (closedEven, ← ea, inner, ← eg, ← eb, e)

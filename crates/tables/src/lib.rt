@@ -8,7 +8,8 @@ ghost use Rattle.points.specs.Axes.{eachAxis};
 ghost use Rattle.rules.specs.Calls.{roomFor};
 ghost use Rattle.rules.specs.Tables.{Topology, meshOf, coordinate, putThree, relink};
 ghost use Rattle.tables.specs.declared.Counts.{Counts};
-ghost use Rattle.tables.specs.Lent.{meshNow, topologyNow, TrianglesAgree, VerticesAgree, triangleAt, entries, put, putPoint};
+ghost use Rattle.tables.specs.Lent.{meshNow, topologyNow, TrianglesAgree, VerticesAgree};
+ghost use Rattle.tables.specs.Lent.{triangleAt, entries, put, putPoint};
 
 pub mod sides;
 

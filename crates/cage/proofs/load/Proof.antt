@@ -1,10 +1,10 @@
 -- `cage::load` meets its contract: conditions 1 and 2 are decided here, the others with working room of a fitting size.
 use borrow.Author.Tests.{not-true, not-false}
 use native.Mathlib.Omega.{arith}
-use mathlib.Core.Path.{_≡_, sym, _∙_}
+use mathlib.Core.Path.{_≡_, refl, sym, _∙_}
 use Rattle.rules.proofs.CageTests.{sizes-fit-is}
 use Rattle.rules.proofs.Decide.{when-true}
-use Rattle.rules.proofs.LoadTests.{refusal-1, refusal-2, load-refused}
+use Rattle.rules.proofs.LoadTests.{load-by-tests, load-refused}
 use Rattle.rules.proofs.SoundTest.{tables-agree-is}
 use Rattle.rules.specs.Cage.{sizesFit}
 use Rattle.rules.specs.Conditions.{SizesFit}
@@ -29,15 +29,19 @@ agree c =
     sym (c .tables-agree .ensures (at .vertices) (at .triangles))
 
 fit : (c : tie.After-sizes-fit)
-    → let at = c .before .before .before .before .before .before .before .before .before .before .before .before .before in
+    → let at =
+    c .before .before .before .before .before .before .before .before .before .before .before .before .before in
     sizesFit (at .args .cage .now) (mesh at) ≡ c .sizes-fit .result
 fit c =
-    let at = c .before .before .before .before .before .before .before .before .before .before .before .before .before .args in
+    let at =
+    c .before .before .before .before .before .before .before .before .before .before .before .before .before .args in
     sym (c .sizes-fit .ensures (at .vertices) (at .triangles) (at .corners .now) (at .links .now))
 
 -- What is known where both are passed.
 known : (c : tie.Else2)
-    → let at = c .before .before .before .before .before .before .before .before .before .before .before .before .before .before in
+    → let at =
+    c .before .before .before .before .before .before .before .before .before .before .before .before .before
+    .before in
     TablesAgree (mesh at) × SizesFit (at .args .cage .now) (mesh at)
 known c =
     let at-else = c .before .before .before .before in (
@@ -61,7 +65,10 @@ same-length-4 : tie.Need-same-length-4
 same-length-4 c = search needs
 
 returns : tie.Need-returns
-returns c = load-refused _ _ (refusal-1 _ _ (agree (c .before) ∙ not-true _ (c .if1 .taken))) (λ e. omega arith)
+returns c =
+    load-refused _ _
+    (load-by-tests _ _ (agree (c .before) ∙ not-true _ (c .if1 .taken)) refl refl refl refl refl)
+    (λ e. omega arith)
 
 sizes-fit-requires : tie.Need-sizes-fit-requires
 sizes-fit-requires c κs = search needs
@@ -82,7 +89,8 @@ returns-2 : tie.Need-returns-2
 returns-2 c =
     let at-else = c .before .before .before .before in
     load-refused _ _
-    (refusal-2 _ _ (agree (at-else .before) ∙ not-false _ (at-else .if1 .left)) (fit (c .before) ∙ not-true _ (c .if2 .taken)))
+    (load-by-tests _ _ (agree (at-else .before) ∙ not-false _ (at-else .if1 .left))
+    (fit (c .before) ∙ not-true _ (c .if2 .taken)) refl refl refl refl)
     (λ e. omega arith)
 
 load-within-256-requires : tie.Need-load-within-256-requires

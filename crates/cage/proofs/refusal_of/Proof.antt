@@ -2,7 +2,8 @@
 use borrow.Author.Tests.{not-true, not-false}
 use native.Mathlib.Omega.{arith}
 use mathlib.Core.Path.{sym, _∙_}
-use Rattle.cage.proofs.Refusals.{Fits, decode-read, refuses-3, refuses-4, readable, refuses-5, in-use, holds, refuses-6, refuses-none}
+use Rattle.cage.proofs.Refusals.{Fits, decode-read, refuses-3, refuses-4, readable, refuses-5, in-use, holds}
+use Rattle.cage.proofs.Refusals.{refuses-6, refuses-none}
 use Rattle.cage.specs.Decoded.{decoded}
 use Rattle.cage.specs.Pairing.{Matched}
 use borrow.Author.Needs.{needs}
@@ -26,9 +27,11 @@ fit c =
 
 matched : (c : tie.Else3)
     → let at-pair = c .before .before .before .before .before .before .before .before .before in
-    let at-decode = at-pair .before .before .before .before .before .before .before .before .before .before .before .before .before in
+    let at-decode =
+    at-pair .before .before .before .before .before .before .before .before .before .before .before .before .before in
     let at = at-decode .before .before .before .before .before .before .before .before .args in
-    Matched (decoded (at .vertices) (at .triangles) (at-decode .decode .last .1 .1 .1 .0)) (at-pair .pair .last .1 .1 .1 .1 .1 .1 .0)
+    Matched (decoded (at .vertices) (at .triangles) (at-decode .decode .last .1 .1 .1 .0))
+    (at-pair .pair .last .1 .1 .1 .1 .1 .1 .0)
 matched c =
     let at-pair = c .before .before .before .before .before .before .before .before .before in
     rw (not-false (at-pair .pair .result) (c .if3 .left)) at (at-pair .pair .ensures)
@@ -84,7 +87,9 @@ returns-2 c =
 pair-requires : tie.Need-pair-requires
 pair-requires c κs =
     let at-else2 = c .before .before .before .before .before in
-    let room = at-else2 .before .before .before .before .before .before .before .before .before .before .before .before .before .before .before .pre .1 in
+    let room =
+    at-else2 .before .before .before .before .before .before .before .before .before .before .before .before .before
+    .before .before .pre .1 in
     (readable (fit at-else2), (room .headRoom, (room .nextRoom, (room .slotRoom, room .partnerRoom))))
 
 same-length-3 : tie.Need-same-length-3
@@ -113,7 +118,9 @@ returns-3 c =
 fans-requires : tie.Need-fans-requires
 fans-requires c κs =
     let at-else3 = c .before .before in
-    let at-else2 = at-else3 .before .before .before .before .before .before .before .before .before .before .before .before .before .before .before in
+    let at-else2 =
+    at-else3 .before .before .before .before .before .before .before .before .before .before .before .before .before
+    .before .before in
     in-use (fit at-else2) (matched at-else3)
 
 same-length-8 : tie.Need-same-length-8
@@ -134,8 +141,10 @@ same-length-12 c = search needs
 returns-4 : tie.Need-returns-4
 returns-4 c =
     let at-else3 = c .before .before .before .before in
-    let at-else2 = at-else3 .before .before .before .before .before .before .before .before .before .before .before .before .before .before .before in (
-      refuses-6 (fit at-else2) (matched at-else3) (rw (not-true (c .before .fans .result) (c .if4 .taken)) at (c .before .fans .ensures)),
+    let at-else2 = at-else3 .before .before .before .before .before .before .before .before .before .before .before
+    .before .before .before .before in (
+      refuses-6 (fit at-else2) (matched at-else3)
+          (rw (not-true (c .before .fans .result) (c .if4 .taken)) at (c .before .fans .ensures)),
       λ e. absurd (omega arith),
     )
 
@@ -157,8 +166,10 @@ same-length-17 c = search needs
 returns-5 : tie.Need-returns-5
 returns-5 c =
     let at-else3 = c .before .before .before .before in
-    let at-else2 = at-else3 .before .before .before .before .before .before .before .before .before .before .before .before .before .before .before in (
-      refuses-none (fit at-else2) (matched at-else3) (rw (not-false (c .before .fans .result) (c .if4 .left)) at (c .before .fans .ensures)),
+    let at-else2 = at-else3 .before .before .before .before .before .before .before .before .before .before .before
+    .before .before .before .before in (
+      refuses-none (fit at-else2) (matched at-else3)
+          (rw (not-false (c .before .fans .result) (c .if4 .left)) at (c .before .fans .ensures)),
       λ e. holds (fit at-else2) (matched at-else3),
     )
 

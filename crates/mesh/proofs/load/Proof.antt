@@ -1,7 +1,7 @@
 -- `mesh::load` meets its contract.
 use borrow.Author.Needs.{needs}
 use mathlib.Core.List.{[]}
-use mathlib.Core.Path.{_≡_, ap₂, _∙_}
+use mathlib.Core.Path.{ap₂, _∙_}
 use Prim.Native.Nat.{ℕ}
 use Rattle.rules.specs.Calls.{outcomeOf, zeroPoint}
 use Rattle.rules.specs.Tables.{Mesh}
@@ -29,7 +29,8 @@ returns : tie.Need-returns
 returns c =
     let at = c .before .before .before .before .before .before .before in
     let args = at .before .before .before .before .before .before .before .before .before .args in
-    let m = meshNow (args .counts) (args .positions .now) (args .corners .now) (args .links .now) (args .generations .now) in
+    let m =
+    meshNow (args .counts) (args .positions .now) (args .corners .now) (args .links .now) (args .generations .now) in
     ap₂ (λ (r : ℕ) (n : Mesh). outcomeOf r 0 0 0 zeroPoint n []) (at .load .ensures .0) (at .load .ensures .1)
     ∙ load-whole (args .cage .now) m
 

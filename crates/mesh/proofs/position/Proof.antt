@@ -1,7 +1,7 @@
 -- `mesh::position` meets its contract.
 use borrow.Author.Needs.{needs}
 use mathlib.Core.List.{[]}
-use mathlib.Core.Path.{_≡_, ap, _∙_}
+use mathlib.Core.Path.{ap, _∙_}
 use Rattle.points.specs.declared.Point.{Point}
 use Rattle.rules.specs.Calls.{outcomeOf}
 use Rattle.rules.specs.Tables.{Mesh}

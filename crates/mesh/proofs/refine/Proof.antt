@@ -1,11 +1,10 @@
 -- `mesh::refine` meets its contract.
 use borrow.Author.Needs.{needs}
 use mathlib.Core.List.{[]}
-use mathlib.Core.Path.{_≡_, sym, ap, _∙_, subst}
+use mathlib.Core.Path.{sym, ap, _∙_}
 use Prim.Native.Nat.{max}
 use Rattle.rules.proofs.Carried.{refine-found}
-use Rattle.rules.specs.Calls.{Outcome, worked, unless, splitsOf, refineRefusal, refineCall}
-use Rattle.rules.specs.Split.{atFirst}
+use Rattle.rules.specs.Calls.{worked}
 use Rattle.rules.specs.Split as rules
 use Rattle.rules.specs.Tables.{Mesh}
 use Rattle.tables.specs.Lent.{meshNow}

@@ -1,15 +1,16 @@
 -- `mesh::refine_refusal` meets its contract.
 use borrow.Author.Needs.{needs}
 use borrow.Author.Tests.{le-leb, lt-leb, eq-eqb, ne-eqb, not-true, not-false}
-use mathlib.Core.Bool.{Bool, true, false}
-use mathlib.Core.Path.{_≡_, sym, ap, _∙_, subst}
-use Prim.Native.Nat.{ℕ, _%_, max}
+use mathlib.Core.Bool.{false}
+use mathlib.Core.Path.{_≡_, sym, ap, _∙_}
+use Prim.Native.Nat.{_%_, max}
 use lib.Dec.{eqb, leb}
 use Rattle.rules.specs.Calls.{splitsOf, roomFor}
 use Rattle.rules.specs.Split.{chainEnd}
 use Rattle.rules.specs.Tables.{Mesh, generation, odd}
 use Rattle.tables.specs.Lent.{meshNow}
-use Rattle.mesh.proofs.Refusing.{refine-standing, refine-eight, refine-nine, refine-ten, refine-eleven, refine-none}
+use Rattle.mesh.proofs.Refusing.{refine-standing, refine-eight, refine-nine, refine-ten, refine-eleven}
+use Rattle.mesh.proofs.Refusing.{refine-none}
 use Rattle.mesh.proofs.refine_refusal.Statement.{statement}
 use Rattle.mesh.proofs.refine_refusal.Tie as tie
 
@@ -96,7 +97,8 @@ generation-at-requires c κs = search needs
 returns-3 : tie.Need-returns-3
 returns-3 c =
     let at = c .before in
-    refine-nine (start at .args .t) (mesh at) _ (at-if1 at .before .not-sound .ensures) (at-if1 at .if1 .left) (in-use at)
+    refine-nine (start at .args .t) (mesh at) _ (at-if1 at .before .not-sound .ensures) (at-if1 at .if1 .left)
+    (in-use at)
     (eq-eqb _ _ (sym (age at) ∙ c .if3 .taken))
 
 base-chain-requires : tie.Need-base-chain-requires
@@ -109,8 +111,8 @@ returns-4 : tie.Need-returns-4
 returns-4 c =
     let at-chain = c .before .before in
     let at = before-chain at-chain in
-    refine-ten (start at .args .t) (mesh at) _ (at-if1 at .before .not-sound .ensures) (at-if1 at .if1 .left) (in-use at)
-    (young at-chain) (eq-eqb _ _ (ap (λ g. g % 2) (sym (end-age (c .before))) ∙ c .if4 .taken))
+    refine-ten (start at .args .t) (mesh at) _ (at-if1 at .before .not-sound .ensures) (at-if1 at .if1 .left)
+    (in-use at) (young at-chain) (eq-eqb _ _ (ap (λ g. g % 2) (sym (end-age (c .before))) ∙ c .if4 .taken))
 
 splits-requires : tie.Need-splits-requires
 splits-requires c κs = search needs
@@ -121,14 +123,16 @@ has-room-requires c κs = search needs
 returns-5 : tie.Need-returns-5
 returns-5 c =
     let at = at-age (c .before) in
-    refine-eleven (start at .args .t) (mesh at) _ (at-if1 at .before .not-sound .ensures) (at-if1 at .if1 .left) (in-use at)
-    (young (at-chain (at-end (c .before)))) (even-end (c .before)) (sym (room-is (c .before)) ∙ not-true _ (c .if5 .taken))
+    refine-eleven (start at .args .t) (mesh at) _ (at-if1 at .before .not-sound .ensures) (at-if1 at .if1 .left)
+    (in-use at) (young (at-chain (at-end (c .before)))) (even-end (c .before))
+    (sym (room-is (c .before)) ∙ not-true _ (c .if5 .taken))
 
 returns-6 : tie.Need-returns-6
 returns-6 c =
     let at = at-age (c .before) in
-    refine-none (start at .args .t) (mesh at) _ (at-if1 at .before .not-sound .ensures) (at-if1 at .if1 .left) (in-use at)
-    (young (at-chain (at-end (c .before)))) (even-end (c .before)) (sym (room-is (c .before)) ∙ not-false _ (c .if5 .left))
+    refine-none (start at .args .t) (mesh at) _ (at-if1 at .before .not-sound .ensures) (at-if1 at .if1 .left)
+    (in-use at) (young (at-chain (at-end (c .before)))) (even-end (c .before))
+    (sym (room-is (c .before)) ∙ not-false _ (c .if5 .left))
 
 pub refine-refusal-spec : {M : Type 1} → statement M
 refine-refusal-spec =

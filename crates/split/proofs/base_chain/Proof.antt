@@ -30,7 +30,8 @@ module _ (c : tie.After-generation-at2 Inv-loop μ-loop) (n : Counts) (corners :
       let args = loop-head .before .before .before .before .args in
       topologyNow n corners (args .links .now) (args .generations .now)
 
-  walking : Walking topology (loop-head .before .before .before .before .args .t) (loop-head .loop .odd) (loop-head .loop .end) (suc (loop-head .loop .left - 1))
+  walking : Walking topology (loop-head .before .before .before .before .args .t) (loop-head .loop .odd)
+      (loop-head .loop .end) (suc (loop-head .loop .left - 1))
   walking = walk-more (loop-head .loop .left) (c .before .loop-test .taken) (loop-head .loop .inv .0 n corners)
 
 is-odd : (c : tie.Else1 Inv-loop μ-loop) →
@@ -74,7 +75,8 @@ returns c n corners =
     walk-ends (rw none at (c .before .loop .inv .0 n corners))
 
 returns-2 : tie.Need-returns-2 Inv-loop μ-loop
-returns-2 c n corners = walk-even _ (walking (c .before) n corners) (rw (← c .before .generation-at2 .ensures) (c .if1 .taken))
+returns-2 c n corners =
+    walk-even _ (walking (c .before) n corners) (rw (← c .before .generation-at2 .ensures) (c .if1 .taken))
 
 returns-3 : tie.Need-returns-3 Inv-loop μ-loop
 returns-3 c n corners =

@@ -74,7 +74,8 @@ add-t54 : tie.Need-add-t54
 add-t54 c = search needs
 
 returns : tie.Need-returns
-returns c = rw (add-one (c .before .before .before .before .before .before .before .before .before .args .t1 .generation))
+returns c =
+    rw (add-one (c .before .before .before .before .before .before .before .before .before .args .t1 .generation))
 
 pub children-spec : {M : Type 1} → statement M
 children-spec =

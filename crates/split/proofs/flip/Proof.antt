@@ -50,7 +50,9 @@ store-requires : tie.Need-store-requires
 store-requires c κs =
     let at-relink2 = c .before .before .before .before .before in
     let at-relink = at-relink2 .before .before .before .before .before in
-    let at-start = at-relink .before .before .before .before .before .before .before .before .before .before .before .before .before .before .before .before .before in
+    let at-start =
+    at-relink .before .before .before .before .before .before .before .before .before .before .before .before .before
+    .before .before .before .before in
     omega (arith, at-start .pre, at-relink .relink .kept, at-relink2 .relink2 .kept)
 
 store-requires-2 : tie.Need-store-requires-2
@@ -58,7 +60,9 @@ store-requires-2 c κs =
     let at-store = c .before .before .before .before .before .before .before .before .before in
     let at-relink2 = at-store .before .before .before .before .before .before in
     let at-relink = at-relink2 .before .before .before .before .before in
-    let at-start = at-relink .before .before .before .before .before .before .before .before .before .before .before .before .before .before .before .before .before in
+    let at-start =
+    at-relink .before .before .before .before .before .before .before .before .before .before .before .before .before
+    .before .before .before .before in
     omega (arith, at-start .pre, at-relink .relink .kept, at-relink2 .relink2 .kept, at-store .store .kept)
 
 same-length : tie.Need-same-length

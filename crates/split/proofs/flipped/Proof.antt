@@ -50,7 +50,9 @@ element-copy-out-t46 : tie.Need-element-copy-out-t46
 element-copy-out-t46 c = search needs
 
 returns : tie.Need-returns
-returns c = rw (add-one (c .before .before .before .before .before .before .before .before .before .before .args .t1 .generation))
+returns c =
+    rw (add-one
+    (c .before .before .before .before .before .before .before .before .before .before .args .t1 .generation))
 
 pub flipped-spec : {M : Type 1} → statement M
 flipped-spec =

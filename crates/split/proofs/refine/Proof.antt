@@ -16,7 +16,8 @@ use Rattle.split.proofs.refine.Tie as tie
 
 abbrev Inv-loop : tie.InvT-loop
 Inv-loop positions₀ corners₀ links₀ generations₀ t splits work₀ positions corners links generations work =
-    Refining t (workNow work₀ positions₀ corners₀ links₀ generations₀ .mesh) (workNow work positions corners links generations)
+    Refining t (workNow work₀ positions₀ corners₀ links₀ generations₀ .mesh)
+    (workNow work positions corners links generations)
 
 abbrev μ-loop : tie.MeasureT-loop
 μ-loop positions₀ corners₀ links₀ generations₀ t splits work₀ positions corners links generations work =
@@ -71,7 +72,8 @@ loop-again : tie.Need-loop-again Inv-loop μ-loop
 loop-again c =
     let at-face-split = c .before .before .before .before .before .before .before in
     let at = at-face-split .before .before .before .before .before in
-    rw (at-face-split .face-split .ensures, end-is at) (refining-on (start at .pre .0) (loop-head at .loop .inv) (more at))
+    rw (at-face-split .face-split .ensures, end-is at)
+    (refining-on (start at .pre .0) (loop-head at .loop .inv) (more at))
 
 same-length : tie.Need-same-length Inv-loop μ-loop
 same-length c = c .before .before .loop .inv .slots .positions

@@ -19,7 +19,9 @@ module _ (c : tie.After-is-base) where
   start = c .before .before .before .before .before .before
 
   abbrev topology : Topology
-  topology = let args = start .args in topologyNow (countsOf (args .work)) (args .corners .now) (args .links .now) (args .generations .now)
+  topology =
+      let args = start .args in
+      topologyNow (countsOf (args .work)) (args .corners .now) (args .links .now) (args .generations .now)
 
   abbrev side : ℕ
   side = link topology (3 * start .args .s)
@@ -50,7 +52,8 @@ add-flip c = search needs
 flip-requires : tie.Need-flip-requires
 flip-requires c κs =
     let at = c .before .before .before .before .before in
-    let within = base-within (topology at) (side at) (sym (tested at) ∙ c .before .before .before .before .if1 .taken) in
+    let within =
+    base-within (topology at) (side at) (sym (tested at) ∙ c .before .before .before .before .if1 .taken) in
     omega (arith, start at .pre)
 
 same-length : tie.Need-same-length

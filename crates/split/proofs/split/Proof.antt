@@ -58,7 +58,9 @@ store-requires-2 c κs =
     let at-store = c .before .before .before .before .before .before .before .before .before in
     let at-relink2 = at-store .before .before .before .before .before .before in
     let at-relink = at-relink2 .before .before .before .before .before in
-    let at-start = at-relink .before .before .before .before .before .before .before .before .before .before .before .before .before .before in
+    let at-start =
+    at-relink .before .before .before .before .before .before .before .before .before .before .before .before .before
+    .before in
     omega (arith, at-start .pre, at-relink .relink .kept, at-relink2 .relink2 .kept, at-store .store .kept)
 
 store-requires-3 : tie.Need-store-requires-3
@@ -67,7 +69,9 @@ store-requires-3 c κs =
     let at-store = at-store2 .before .before .before .before .before .before .before .before .before .before in
     let at-relink2 = at-store .before .before .before .before .before .before in
     let at-relink = at-relink2 .before .before .before .before .before in
-    let at-start = at-relink .before .before .before .before .before .before .before .before .before .before .before .before .before .before in
+    let at-start =
+    at-relink .before .before .before .before .before .before .before .before .before .before .before .before .before
+    .before in
     omega (
       arith,
       at-start .pre,

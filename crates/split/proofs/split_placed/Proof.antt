@@ -35,7 +35,8 @@ returns c =
     let at-store-point = at-split .before .before .before .before .before in
     let at-centre = at-store-point .before .before in
     let work = at-centre .before .before .before .before .before .before .before .args .work in
-    split-placed-steps _ _ _ _ _ (at-centre .centre .ensures (countsOf work) _ _) (at-store-point .store-point .ensures) (at-split .split .ensures)
+    split-placed-steps _ _ _ _ _ (at-centre .centre .ensures (countsOf work) _ _) (at-store-point .store-point .ensures)
+    (at-split .split .ensures)
 
 pub split-placed-spec : {M : Type 1} → statement M
 split-placed-spec =

@@ -3,9 +3,9 @@ use borrow.Author.Needs.{needs}
 use borrow.Author.Tests.{eq-eqb, ne-eqb, not-true, not-false}
 use native.Mathlib.Omega.{arith}
 use mathlib.Core.Bool.{true, false}
-use mathlib.Core.Path.{_≡_, sym, _∙_}
+use mathlib.Core.Path.{_≡_, refl, sym, _∙_}
 use lib.Dec.{eqb}
-use Rattle.rules.proofs.StepRefusals.{longRing, refused-12, refused-9, refused-13, refused-11, not-refused}
+use Rattle.rules.proofs.StepRefusals.{longRing, step-by-tests}
 use Rattle.rules.specs.Calls.{closedEven, roomFor}
 use Rattle.rules.specs.Sound.{Sound}
 use Rattle.rules.specs.Tables.{Mesh, generation}
@@ -60,8 +60,8 @@ closed-even-requires c κs =
 
 returns : tie.Need-returns
 returns c = (
-  refused-12 (c .before .before .before .before .before .pre .0)
-      (sym (c .before .closed-even .ensures _ _) ∙ not-true _ (c .if1 .taken)),
+  step-by-tests (c .before .before .before .before .before .pre .0)
+      (sym (c .before .closed-even .ensures _ _) ∙ not-true _ (c .if1 .taken)) refl refl refl,
   λ e. absurd (omega arith),
 )
 
@@ -71,7 +71,7 @@ shared-slice-read-if2 c = let S = sound (c .before) in omega (arith, S .someTria
 returns-2 : tie.Need-returns-2
 returns-2 c =
     let inner = c .before .before in
-    (refused-9 (sound inner) (even inner) (eq-eqb _ _ (c .if2 .taken)), λ e. absurd (omega arith))
+    (step-by-tests (sound inner) (even inner) (eq-eqb _ _ (c .if2 .taken)) refl refl, λ e. absurd (omega arith))
 
 moves-requires : tie.Need-moves-requires
 moves-requires c κs =
@@ -87,8 +87,8 @@ returns-3 c =
     let at-moves = c .before .before in
     let second = at-moves .before .before in
     let inner = second .before .before in (
-      refused-13 (sound inner) (even inner) (young second)
-          (not-false _ (sym (at-moves .moves .ensures _ (closed inner) .0) ∙ not-true _ (c .if3 .taken))),
+      step-by-tests (sound inner) (even inner) (young second)
+          (not-false _ (sym (at-moves .moves .ensures _ (closed inner) .0) ∙ not-true _ (c .if3 .taken))) refl,
       λ e. absurd (omega arith),
     )
 
@@ -103,7 +103,7 @@ returns-4 c =
     let third = c .before .before in
     let second = third .before .before .before .before in
     let inner = second .before .before in (
-      refused-11 (sound inner) (even inner) (young second) (short third)
+      step-by-tests (sound inner) (even inner) (young second) (short third)
           (sym (room-told (c .before)) ∙ not-true _ (c .if4 .taken)),
       λ e. absurd (omega arith),
     )
@@ -117,7 +117,7 @@ returns-5 c =
     let at-moves = third .before .before in
     let second = at-moves .before .before in
     let inner = second .before .before in (
-      not-refused (sound inner) (even inner) (young second) (short third)
+      step-by-tests (sound inner) (even inner) (young second) (short third)
           (sym (room-told (c .before)) ∙ not-false _ (c .if4 .left)),
       λ e. at-moves .moves .ensures _ (closed inner) .1 (not-false _ (third .if3 .left)),
     )

@@ -3,7 +3,7 @@ use borrow.Author.Needs.{needs}
 use Prim.Native.Nat.{_-_, _≤_}
 use native.Mathlib.Omega.{arith}
 use mathlib.Core.Path.{_≡_, refl, _∙_}
-use Rattle.rules.proofs.RefineLoop.{SameSlots}
+use Rattle.rules.proofs.Relaxed.{SameSlots}
 use Rattle.rules.proofs.StepLoop.{step-slots, step-on}
 use Rattle.rules.specs.Split.{atFirst}
 use Rattle.rules.specs.Step.{refineFirst}

@@ -2,7 +2,6 @@
 use borrow.Author.Needs.{needs}
 use borrow.Author.Tests.{le-leb, lt-leb}
 use Prim.Native.Nat.{ℕ, _+_, _*_, _≤_, _<_}
-use native.Mathlib.Omega.{arith}
 use mathlib.Core.Bool.{true, false}
 use mathlib.Core.Path.{_≡_, refl}
 use lib.Dec.{leb}
@@ -38,8 +37,8 @@ add-triangles c = search needs
 returns : tie.Need-returns
 returns c corners links =
     let args = c .before .before .before .args in
-    room-by-triangles (args .splits) (meshNow (args .counts) (args .positions .now) corners links (args .generations .now))
-    (c .if1 .taken)
+    room-by-triangles (args .splits)
+    (meshNow (args .counts) (args .positions .now) corners links (args .generations .now)) (c .if1 .taken)
 
 returns-2 : tie.Need-returns-2
 returns-2 c corners links =

@@ -32,7 +32,8 @@ returns : tie.Need-returns Inv-loop μ-loop
 unfolding cornersFit
 returns c =
     let at-test = c .before .before in
-    sym (all-fails _ _ _ (at-test .loop-test .taken) (sym (c .before .corner-fits .ensures) ∙ not-true _ (c .if1 .taken)))
+    sym (all-fails _ _ _ (at-test .loop-test .taken)
+    (sym (c .before .corner-fits .ensures) ∙ not-true _ (c .if1 .taken)))
 
 add-h : tie.Need-add-h Inv-loop μ-loop
 add-h c = search needs

@@ -76,7 +76,9 @@ wide-requires-2 c κs = search needs
 
 stamped-at-requires : tie.Need-stamped-at-requires Inv-loop μ-loop
 stamped-at-requires c κs =
-    let stamps = c .before .before .before .before .before .before .before .before .before .before .before .before .pre .1 .1 .0 .stamps in
+    let stamps =
+    c .before .before .before .before .before .before .before .before .before .before .before .before .pre .1 .1 .0
+    .stamps in
     omega (arith, origin c .1, stamp-most stamps (c .wide2 .result) (origin c .1))
 
 mul-links : tie.Need-mul-links Inv-loop μ-loop
@@ -108,7 +110,8 @@ loop-again c =
       cursor (omega arith) (last c),
       rw (at-wide2 .before .before .previous .ensures)
           (linking-more h (inv .1) (omega arith) (inv .2) (last c)
-          (matches h (inv .1) (omega arith) (pre .1 .1 .0) (origin at-wide2 .0) (origin at-wide2 .1) (c .before .before .stamped-at .ensures))),
+          (matches h (inv .1) (omega arith) (pre .1 .1 .0) (origin at-wide2 .0) (origin at-wide2 .1)
+          (c .before .before .stamped-at .ensures))),
     )
 
 same-length : tie.Need-same-length Inv-loop μ-loop

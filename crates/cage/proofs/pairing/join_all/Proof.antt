@@ -76,7 +76,8 @@ same-length-4 c = search needs
 returns-2 : tie.Need-returns-2 Inv-loop μ-loop
 returns-2 c =
     let pre = c .before .before .before .before .before .before .before .pre in
-    let e : c .before .loop .v ≡ c .before .before .before .before .before .before .before .args .vertices = omega arith in
+    let e : c .before .loop .v ≡ c .before .before .before .before .before .before .before .args .vertices =
+    omega arith in
     all-matched (pre .0 .corner) (rw e at (c .before .loop .inv .3))
 
 pub join-all-spec : {M : Type 1} → statement M

@@ -8,7 +8,8 @@ use Rattle.rules.specs.Tables.{next}
 use Rattle.rules.proofs.Sides.{next-lt}
 use Rattle.cage.specs.Decoded.{decoded}
 use Rattle.cage.specs.Pairing.{Last, Stamping}
-use Rattle.cage.proofs.Stamps.{Cursor, cursor, starts, goes-on, stamp-most, stamping-none, twice, stamping-more, is-taken, is-free}
+use Rattle.cage.proofs.Stamps.{Cursor, cursor, starts, goes-on, stamp-most, stamping-none, twice, stamping-more}
+use Rattle.cage.proofs.Stamps.{is-taken, is-free}
 use Rattle.cage.proofs.pairing.stamp.Statement.{statement}
 use Rattle.cage.proofs.pairing.stamp.Tie as tie
 

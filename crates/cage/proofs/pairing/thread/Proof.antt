@@ -20,11 +20,13 @@ abbrev μ-loop : tie.MeasureT-loop
 μ-loop corners triangles vertices heads₀ nexts₀ h₀ heads nexts h = 3 * triangles - h
 
 -- The vertex that a turn reads.
-below : (c : tie.After-wide Inv-loop μ-loop) → c .wide .result < c .before .before .before .before .before .before .before .args .vertices
+below : (c : tie.After-wide Inv-loop μ-loop)
+    → c .wide .result < c .before .before .before .before .before .before .before .args .vertices
 below c =
     let at-test = c .before .before in
     rw (c .wide .ensures)
-    (at-test .before .before .before .before .before .pre .0 .corner (at-test .before .loop .h) (at-test .loop-test .taken))
+    (at-test .before .before .before .before .before .pre .0 .corner (at-test .before .loop .h)
+    (at-test .loop-test .taken))
 
 loop-holds : tie.Need-loop-holds Inv-loop μ-loop
 loop-holds c =

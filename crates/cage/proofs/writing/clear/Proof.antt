@@ -10,7 +10,8 @@ use Rattle.cage.proofs.writing.clear.Statement.{statement}
 use Rattle.cage.proofs.writing.clear.Tie as tie
 
 abbrev Inv-loop : tie.InvT-loop
-Inv-loop count generations₀ i₀ generations i = (i ≤ count) × (length generations ≡ length generations₀) × (generations ≡ fill i (λ k. 0) generations₀)
+Inv-loop count generations₀ i₀ generations i =
+    (i ≤ count) × (length generations ≡ length generations₀) × (generations ≡ fill i (λ k. 0) generations₀)
 
 abbrev μ-loop : tie.MeasureT-loop
 μ-loop count generations₀ i₀ generations i = count - i

@@ -10,7 +10,8 @@ use Rattle.cage.proofs.writing.copy.Statement.{statement}
 use Rattle.cage.proofs.writing.copy.Tie as tie
 
 abbrev Inv-loop : tie.InvT-loop
-Inv-loop list count table₀ i₀ table i = (i ≤ count) × (length table ≡ length table₀) × (table ≡ fill i (λ k. getD list k 0) table₀)
+Inv-loop list count table₀ i₀ table i =
+    (i ≤ count) × (length table ≡ length table₀) × (table ≡ fill i (λ k. getD list k 0) table₀)
 
 abbrev μ-loop : tie.MeasureT-loop
 μ-loop list count table₀ i₀ table i = count - i

@@ -13,7 +13,9 @@ use Rattle.cage.proofs.writing.place.Statement.{statement}
 use Rattle.cage.proofs.writing.place.Tie as tie
 
 abbrev Inv-loop : tie.InvT-loop
-Inv-loop cage count positions₀ i₀ positions i = (i ≤ count) × (length positions ≡ length positions₀) × (positions ≡ fill i (λ k. signed (numberAt cage (8 + 4 * k))) positions₀)
+Inv-loop cage count positions₀ i₀ positions i =
+    (i ≤ count) × (length positions ≡ length positions₀)
+    × (positions ≡ fill i (λ k. signed (numberAt cage (8 + 4 * k))) positions₀)
 
 abbrev μ-loop : tie.MeasureT-loop
 μ-loop cage count positions₀ i₀ positions i = count - i

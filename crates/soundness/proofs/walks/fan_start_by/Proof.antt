@@ -1,12 +1,12 @@
 -- `soundness::walks::fan_start_by` meets its contract: the walks meet all sides where each vertex has one fan,
 -- and then the start kept for a vertex is where its ring starts.
 use borrow.Author.Needs.{needs}
-use Prim.Native.Nat.{ℕ, suc, _+_, _-_, _≤_, _<_}
+use Prim.Native.Nat.{ℕ, _+_, _-_, _≤_, _<_}
 use native.Mathlib.Decide.{decLt}
 use native.Mathlib.Omega.{arith}
 use mathlib.Core.Bool.{Bool, true, false, not}
 use mathlib.Core.List.{List}
-use mathlib.Core.Path.{_≡_, refl, sym, _∙_}
+use mathlib.Core.Path.{_≡_, refl, _∙_}
 use lib.Dec.{ltb}
 use lib.ListN.{getD}
 use Rattle.rules.proofs.Decide.{is-lt, is-iff, is-then, is-all, is-same, when-true}
