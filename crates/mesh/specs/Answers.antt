@@ -14,13 +14,13 @@ use Rattle.mesh.specs.declared.FoundRing.{FoundRing}
 use Rattle.mesh.specs.declared.RingRead.{RingRead}
 use Rattle.mesh.specs.declared.PositionRead.{PositionRead}
 
--- Of a call that may write the tables.
+-- The outcome of a call that may write the tables.
 abbrev pub workedOutcome : Worked → List ℤ → List ℕ → List ℕ → List ℕ → Outcome
 workedOutcome a positions corners links generations =
     outcomeOf (a .refusal) (a .splits) (a .flips) 0 zeroPoint
     (meshNow (a .counts) positions corners links generations) []
 
--- Of a call that reads a ring.
+-- The outcome of a call that reads a ring.
 abbrev pub ringOutcome : RingRead → List ℤ → List ℕ → List ℕ → List ℕ → List ℕ → Outcome
 ringOutcome a positions corners links generations buffer =
     outcomeOf (a .refusal) 0 0 (a .length) zeroPoint (meshNow (a .counts) positions corners links generations) buffer
@@ -38,7 +38,7 @@ pub record FoundFor (v room : ℕ) (m : Mesh) (a : FoundRing) : Type 0 where
   pub refused : (buffer : List ℕ) → length buffer ≡ room → a .refusal ≡ ringRefusal v buffer m
   pub found : a .refusal ≡ 0 → Found v room m a
 
--- Of a call that reads a position.
+-- The outcome of a call that reads a position.
 abbrev pub positionOutcome : PositionRead → List ℤ → List ℕ → List ℕ → List ℕ → Outcome
 positionOutcome a positions corners links generations =
     outcomeOf (a .refusal) 0 0 0 (a .point .x, a .point .y, a .point .z)

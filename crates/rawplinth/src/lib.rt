@@ -1,5 +1,5 @@
-// The calls of crate mesh under the names by which a program in C or Rust links them (include/rawplinth.h). A slice is a
-// pointer and a length.
+// The calls of crate mesh under the names by which C and Rust link them (include/rawplinth.h). A slice is a pointer and
+// a length.
 use mesh::PositionRead;
 use mesh::RingRead;
 use mesh::Worked;
@@ -19,8 +19,10 @@ pub extern "C" fn rawplinth_load(
     counts: Counts,
     cage: &[u8],
 ) -> Worked
-    ensures { λ r. ⌜ workedOutcome r (now (positions .exit)) (now (corners .exit)) (now (links .exit)) (now (generations .exit))
-        ≡ loadCall (now (cage .entry)) (meshNow counts (now (positions .entry)) (now (corners .entry)) (now (links .entry)) (now (generations .entry))) ⌝ }
+    ensures { λ r. ⌜ workedOutcome r (now (positions .exit)) (now (corners .exit)) (now (links .exit))
+        (now (generations .exit))
+        ≡ loadCall (now (cage .entry)) (meshNow counts (now (positions .entry)) (now (corners .entry)) (now (links .entry))
+        (now (generations .entry))) ⌝ }
 {
     mesh::load(positions, corners, links, generations, counts, cage)
 }
@@ -35,8 +37,10 @@ pub extern "C" fn rawplinth_refine(
     counts: Counts,
     triangle: u32,
 ) -> Worked
-    ensures { λ r. ⌜ workedOutcome r (now (positions .exit)) (now (corners .exit)) (now (links .exit)) (now (generations .exit))
-        ≡ refineCall triangle (meshNow counts (now (positions .entry)) (now (corners .entry)) (now (links .entry)) (now (generations .entry))) ⌝ }
+    ensures { λ r. ⌜ workedOutcome r (now (positions .exit)) (now (corners .exit)) (now (links .exit))
+        (now (generations .exit))
+        ≡ refineCall triangle (meshNow counts (now (positions .entry)) (now (corners .entry)) (now (links .entry))
+        (now (generations .entry))) ⌝ }
 {
     mesh::refine(positions, corners, links, generations, counts, triangle)
 }
@@ -50,8 +54,10 @@ pub extern "C" fn rawplinth_whole_step(
     generations: &mut [u8],
     counts: Counts,
 ) -> Worked
-    ensures { λ r. ⌜ workedOutcome r (now (positions .exit)) (now (corners .exit)) (now (links .exit)) (now (generations .exit))
-        ≡ wholeStepCall (meshNow counts (now (positions .entry)) (now (corners .entry)) (now (links .entry)) (now (generations .entry))) ⌝ }
+    ensures { λ r. ⌜ workedOutcome r (now (positions .exit)) (now (corners .exit)) (now (links .exit))
+        (now (generations .exit))
+        ≡ wholeStepCall (meshNow counts (now (positions .entry)) (now (corners .entry)) (now (links .entry))
+        (now (generations .entry))) ⌝ }
 {
     mesh::whole_step(positions, corners, links, generations, counts)
 }
@@ -67,8 +73,10 @@ pub extern "C" fn rawplinth_ring(
     vertex: u32,
     buffer: &mut [u32],
 ) -> RingRead
-    ensures { λ r. ⌜ ringOutcome r (now (positions .entry)) (now (corners .entry)) (now (links .entry)) (now (generations .entry)) (now (buffer .exit))
-        ≡ ringCall vertex (now (buffer .entry)) (meshNow counts (now (positions .entry)) (now (corners .entry)) (now (links .entry)) (now (generations .entry))) ⌝ }
+    ensures { λ r. ⌜ ringOutcome r (now (positions .entry)) (now (corners .entry)) (now (links .entry))
+        (now (generations .entry)) (now (buffer .exit))
+        ≡ ringCall vertex (now (buffer .entry)) (meshNow counts (now (positions .entry)) (now (corners .entry)) (now (links .entry))
+        (now (generations .entry))) ⌝ }
 {
     mesh::ring(
         positions,
@@ -91,8 +99,10 @@ pub extern "C" fn rawplinth_position(
     counts: Counts,
     vertex: u32,
 ) -> PositionRead
-    ensures { λ r. ⌜ positionOutcome r (now (positions .entry)) (now (corners .entry)) (now (links .entry)) (now (generations .entry))
-        ≡ positionCall vertex (meshNow counts (now (positions .entry)) (now (corners .entry)) (now (links .entry)) (now (generations .entry))) ⌝ }
+    ensures { λ r. ⌜ positionOutcome r (now (positions .entry)) (now (corners .entry)) (now (links .entry))
+        (now (generations .entry))
+        ≡ positionCall vertex (meshNow counts (now (positions .entry)) (now (corners .entry)) (now (links .entry))
+        (now (generations .entry))) ⌝ }
 {
     mesh::position(positions, corners, links, generations, counts, vertex)
 }

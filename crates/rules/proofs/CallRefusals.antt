@@ -1,9 +1,9 @@
 -- For each call: its refusal is the first of its conditions that holds, and what a call that is carried out has found.
-use mathlib.Core.Path.{_≡_, refl, sym, ap, _∙_}
+use mathlib.Core.Path.{_≡_, refl, sym, ap, _∙_, subst}
 use mathlib.Core.Logic.{_≢_}
 use mathlib.Core.Bool.{not}
 use mathlib.Core.List.{List, []}
-use Prim.Native.Nat.{ℕ, _+_, _*_, _≤_, _<_, _%_}
+use Prim.Native.Nat.{ℕ, suc, _+_, _*_, _≤_, _<_, _%_, max}
 use native.Mathlib.Omega.{arith}
 use lib.ListN.{length}
 use lib.Dec.{eqb, leb, ltb}
@@ -13,6 +13,7 @@ use Rattle.rules.proofs.Decide.{Decides, is-eq, is-lt, is-le, is-not, i
 use Rattle.rules.proofs.Decide.{is-any}
 use Rattle.rules.proofs.FirstThatHolds.{Judged, first-if, first-unless, judged, judged-refusal, judged-refused}
 use Rattle.rules.proofs.Load.{fans-fit-is}
+use Rattle.rules.proofs.Refine.{chain-counts}
 use Rattle.rules.proofs.Relaxed.{sound-manifold, sound-bases}
 use Rattle.rules.proofs.SoundTest.{tables-agree-is, sound-is}
 use Rattle.rules.specs.Below.{any}
@@ -20,11 +21,13 @@ use Rattle.rules.specs.Cage.{Cage, cageOf, loaded}
 use Rattle.rules.specs.Calls.{outcomeOf, zeroPoint, worked, roomFor, splitsOf, closedEven, loadRefusal}
 use Rattle.rules.specs.Calls.{refineRefusal, wholeStepRefusal, ringRefusal, positionRefusal, loadCall, refineCall}
 use Rattle.rules.specs.Calls.{wholeStepCall, ringRead, ringCall, positionRead, positionCall}
-use Rattle.rules.specs.Conditions.{RoomFor, ClosedEven, First, none, LongRing, loadConditions, refineConditions}
+use Rattle.rules.specs.Conditions.{EndsAtBoundary, OddInChain, atEven, atBoundary, onward, RoomFor, TooFewSlots}
+use Rattle.rules.specs.Conditions.{ClosedEven, First, none, LongRing, loadConditions, refineConditions}
 use Rattle.rules.specs.Conditions.{wholeStepConditions, ringConditions, positionConditions}
 use Rattle.rules.specs.History.{Call, loads, refines, steps, asksRing, asksPosition, outcome, lentBuffer}
 use Rattle.rules.specs.Ring.{ring}
-use Rattle.rules.specs.Split.{atFirst, refine}
+use Rattle.rules.specs.Sound.{Sound}
+use Rattle.rules.specs.Split.{atFirst, chainEnd, chainOdd, refine}
 use Rattle.rules.specs.Step.{wholeStep}
 use Rattle.rules.specs.Tables.{Topology, Mesh, sides, boundary, link, generation, vertexSlots, triangleSlots}
 
@@ -52,6 +55,34 @@ closed-even-is m some =
     (λ t l. is-eq (generation m t) (generation m 0))))
     (even-is (generation m 0)))
 
+-- The odd triangles of a base chain have one number.
+one-number : {m : Topology} {t j k : ℕ} → OddInChain m t j → OddInChain m t k → j ≡ k
+one-number (atEven e) (atEven f) = refl
+one-number (atEven e) (atBoundary f l) = absurd (omega arith)
+one-number (atEven e) (onward f l c) = absurd (omega arith)
+one-number (atBoundary e l) (atEven f) = absurd (omega arith)
+one-number (atBoundary e l) (atBoundary f k) = refl
+one-number (atBoundary e l) (onward f n c) = absurd (n l)
+one-number (onward e n c) (atEven f) = absurd (omega arith)
+one-number (onward e n c) (atBoundary f l) = absurd (n l)
+one-number (onward e n c) (onward f l d) = ap suc (one-number c d)
+
+-- A base chain of sound tables that does not end at the boundary.
+module _ (t : ℕ) (m : Mesh) (S : Sound m) (u : t < m .topology .triangles) (e : ¬ EndsAtBoundary (m .topology) t) where
+  pub ends-even : generation (m .topology) (chainEnd (m .topology) t) % 2 ≡ 0
+  ends-even =
+      even-is (generation (m .topology) (chainEnd (m .topology) t)) .holds
+      (is-not (ends-at-boundary-is (m .topology) (sound-manifold S) (sound-bases S) t u) .passes e)
+
+  pub chain-counted : OddInChain (m .topology) t (chainOdd (m .topology) t)
+  chain-counted = chain-counts t m S u ends-even
+
+  pub too-few-is : Decides (not (roomFor (splitsOf (m .topology) t) m)) (TooFewSlots t m)
+  too-few-is =
+      is-iff (λ n. (chainOdd (m .topology) t, chain-counted, n))
+      (λ (k, c, n) R. n (subst (λ (j : ℕ). RoomFor (max 1 j) m) (one-number chain-counted c) R))
+      (is-not (room-is (splitsOf (m .topology) t) m))
+
 long-ring-is : (m : Topology) → Decides (any (m .vertices) (λ v. ltb 12 (length (ring m v)))) (LongRing m)
 long-ring-is m =
     is-any (m .vertices) (λ v. ltb 12 (length (ring m v))) (λ v. 12 < length (ring m v))
@@ -78,8 +109,8 @@ refine-refusal-first t m =
     first-if 8 (unused-is t (m .topology .triangles)) (λ u.
     first-if 9 (is-eq (generation (m .topology) t) 20) (λ _.
     first-if 10 (ends-at-boundary-is (m .topology) (sound-manifold S) (sound-bases S) t
-    (stable (is-lt t (m .topology .triangles)) u)) (λ _.
-    first-unless 11 (room-is (splitsOf (m .topology) t) m) (λ _. none))))))
+    (stable (is-lt t (m .topology .triangles)) u)) (λ e.
+    first-if 11 (too-few-is t m S (stable (is-lt t (m .topology .triangles)) u) e) (λ _. none))))))
 
 pub whole-step-refusal-first : (m : Mesh) → First (wholeStepConditions m) (wholeStepRefusal m)
 unfolding wholeStepRefusal

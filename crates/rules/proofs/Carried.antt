@@ -5,14 +5,12 @@ use mathlib.Core.List.{List}
 use Prim.Native.Nat.{ℕ, _%_, _<_}
 use native.Mathlib.Omega.{arith}
 use Rattle.rules.proofs.CageTests.{sizes-fit-is, corners-fit-is, coordinates-fit-is, sides-differ-is}
-use Rattle.rules.proofs.CallRefusals.{room-is, closed-even-is, load-refusal-first, refine-refusal-first}
-use Rattle.rules.proofs.CallRefusals.{whole-step-refusal-first}
-use Rattle.rules.proofs.ChainEnd.{ends-at-boundary-is}
-use Rattle.rules.proofs.Decide.{is-lt, is-not, stable, even-is}
+use Rattle.rules.proofs.CallRefusals.{room-is, closed-even-is, ends-even, chain-counted, load-refusal-first}
+use Rattle.rules.proofs.CallRefusals.{refine-refusal-first, whole-step-refusal-first}
+use Rattle.rules.proofs.Decide.{is-lt, stable}
 use Rattle.rules.proofs.FirstThatHolds.{none-hold}
 use Rattle.rules.proofs.Load.{fans-fit-is}
 use Rattle.rules.proofs.Refine.{Refined, refine-refined}
-use Rattle.rules.proofs.Relaxed.{sound-manifold, sound-bases}
 use Rattle.rules.proofs.SoundTest.{tables-agree-is, sound-is}
 use Rattle.rules.proofs.WholeStep.{step-makes}
 use Rattle.rules.specs.Cage.{Cage, cageOf}
@@ -21,7 +19,7 @@ use Rattle.rules.specs.Conditions.{SizesFit, CornersFit, RoomFor, Closed
 use Rattle.rules.specs.Conditions.{FansFit}
 use Rattle.rules.specs.Promises.{StepMakes}
 use Rattle.rules.specs.Sound.{Sound}
-use Rattle.rules.specs.Split.{atFirst, chainEnd, refine}
+use Rattle.rules.specs.Split.{atFirst, chainEnd, chainOdd, refine}
 use Rattle.rules.specs.Step.{wholeStep}
 use Rattle.rules.specs.Tables.{Mesh, TablesAgree, generation}
 
@@ -71,10 +69,10 @@ refine-found t m z =
       sound = S;
       inUse = u;
       young = omega arith;
-      evenEnd =
-          even-is (generation (m .topology) (chainEnd (m .topology) t)) .holds
-          (is-not (ends-at-boundary-is (m .topology) (sound-manifold S) (sound-bases S) t u) .passes e);
-      room = stable (room-is (splitsOf (m .topology) t) m) r;
+      evenEnd = ends-even t m S u e;
+      room =
+          stable (room-is (splitsOf (m .topology) t) m)
+          (λ n. r (chainOdd (m .topology) t, chain-counted t m S u e, n));
     }
 
 pub found-refined : {t : ℕ} {m : Mesh} → RefineFound t m

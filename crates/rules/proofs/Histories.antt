@@ -172,7 +172,12 @@ good-kept bytes m G =
       refines = λ t z. carried-refines t m z;
     }
 
+module _ (calls : List Call) (m : Mesh) (bytes : List ℕ) (e : lastLoad calls m nothing ≡ cage bytes) where
+  good-after : Good bytes (after calls m)
+  good-after = subst (λ (o : LastLoad). Holds o (after calls m)) e (history-holds calls m nothing tt)
+
+  pub history-sound : Sound (after calls m)
+  history-sound = good-after .sound
+
 pub every-history : EveryHistory
-every-history calls m bytes e =
-    good-kept bytes (after calls m)
-    (subst (λ (o : LastLoad). Holds o (after calls m)) e (history-holds calls m nothing tt))
+every-history calls m bytes e = good-kept bytes (after calls m) (good-after calls m bytes e)

@@ -14,17 +14,15 @@ use Rattle.rules.proofs.FirstThatHolds.{judged-carried}
 use Rattle.rules.proofs.Histories.{found-refines}
 use Rattle.rules.proofs.Kobbelt.{refine-is-kobbelt}
 use Rattle.rules.proofs.Load.{loaded-loads, links-are, load-sound, loaded-past, loaded-positions-past}
-use Rattle.rules.proofs.Refine.{chain-counts}
 use Rattle.rules.proofs.Relaxed.{sound-manifold, sound-bases}
 use Rattle.rules.proofs.Rounding.{half-up, half-up-only}
 use Rattle.rules.specs.Cage.{Cage, cageOf, loaded}
 use Rattle.rules.specs.Calls.{worked, loadCall, refineCall, wholeStepCall, ringRead, ringCall, positionRead}
 use Rattle.rules.specs.Calls.{positionCall}
-use Rattle.rules.specs.Conditions.{OddInChain}
 use Rattle.rules.specs.Numbers.{halfUp}
 use Rattle.rules.specs.Promises.{Nearest, Loaded, ChainFalls, RefineMakes, StepMakes, kobbelt}
 use Rattle.rules.specs.Sound.{Sound}
-use Rattle.rules.specs.Split.{atFirst, chainOdd, refine}
+use Rattle.rules.specs.Split.{atFirst, refine}
 use Rattle.rules.specs.Step.{wholeStep}
 use Rattle.rules.specs.Tables.{Mesh, boundary, link, generation}
 
@@ -102,12 +100,6 @@ refine-makes t m z =
     )
 
 -- The chain's count is that of its odd triangles.
-pub chain-counted : (t : ℕ) (m : Mesh) → refineCall t m .refusal ≡ 0
-    → OddInChain (m .topology) t (chainOdd (m .topology) t)
-chain-counted t m z =
-    let F = refine-found t m (judged-carried (refine-judged t m) z .0) in
-    chain-counts t m (F .sound) (F .inUse) (F .evenEnd)
-
 pub chain-falls : (m : Mesh) → Sound m → (t : ℕ) → t < m .topology .triangles → generation (m .topology) t % 2 ≡ 1
     → link (m .topology) (3 * t) ≢ boundary → ChainFalls (m .topology) t
 chain-falls m S t l o n =

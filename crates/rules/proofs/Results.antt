@@ -7,26 +7,29 @@ use lib.ListN.{length, getD}
 use lib.Dec.{T}
 use lib.IntN.{ℤ, pos, natAbs, _-ℤ_, _*ℤ_}
 use Rattle.rules.proofs.CallRefusals.{load-refusal, refine-refusal, whole-step-refusal, ring-refusal}
-use Rattle.rules.proofs.CallRefusals.{position-refusal, refused-leaves}
-use Rattle.rules.proofs.Histories.{every-history}
-use Rattle.rules.proofs.Outcomes.{load-makes, refine-makes, chain-counted, chain-falls, refine-is-split}
+use Rattle.rules.proofs.CallRefusals.{position-refusal, refused-leaves, chain-counted}
+use Rattle.rules.proofs.Histories.{every-history, history-sound}
+use Rattle.rules.proofs.Load.{links-are}
+use Rattle.rules.proofs.Outcomes.{load-makes, refine-makes, chain-falls, refine-is-split}
 use Rattle.rules.proofs.Outcomes.{whole-step-makes, ring-reads, position-reads, half-up-nearest, half-up-alone}
 use Rattle.rules.proofs.RingTheory.{ring-makes}
 use Rattle.rules.proofs.Rounding.{nearest-third, nearest-third-only}
 use Rattle.rules.proofs.SoundTest.{sound-is}
 use Rattle.rules.specs.Below.{fill}
-use Rattle.rules.specs.Cage.{cageOf, loaded}
+use Rattle.rules.specs.Cage.{Cage, cageOf, loaded}
 use Rattle.rules.specs.Calls.{outcomeOf, zeroPoint, loadCall, refineCall, wholeStepCall, ringCall, positionCall}
-use Rattle.rules.specs.Conditions.{OddInChain, First, loadConditions, refineConditions, wholeStepConditions}
+use Rattle.rules.specs.Conditions.{SidesDiffer, EndsAtBoundary, OddInChain, First, loadConditions}
+use Rattle.rules.specs.Conditions.{refineConditions, wholeStepConditions}
 use Rattle.rules.specs.Conditions.{ringConditions, positionConditions}
-use Rattle.rules.specs.History.{Call, outcome, lentBuffer, EveryHistory}
+use Rattle.rules.specs.History.{Call, outcome, lentBuffer, after, lastLoad, nothing, cage, EveryHistory}
 use Rattle.rules.specs.Numbers.{nearestThird, halfUp}
-use Rattle.rules.specs.Promises.{Nearest, Loaded, ChainFalls, RefineMakes, StepMakes, RingMakes, kobbelt}
+use Rattle.rules.specs.Promises.{Nearest, Matches, Loaded, ChainFalls, RefineMakes, StepMakes, RingMakes, kobbelt}
 use Rattle.rules.specs.Ring.{ring}
 use Rattle.rules.specs.Sound.{Sound, isSound}
 use Rattle.rules.specs.Split.{atFirst, chainOdd, refine}
 use Rattle.rules.specs.Step.{wholeStep}
-use Rattle.rules.specs.Tables.{Mesh, boundary, link, generation, coordinate}
+use Rattle.rules.specs.Tables.{Mesh, TablesAgree, vertexSlots, triangleSlots, boundary, link, generation}
+use Rattle.rules.specs.Tables.{coordinate}
 
 -- ---- soundness (The cage and the lent tables)
 
@@ -36,7 +39,7 @@ sound-test m = (sound-is m .holds, sound-is m .passes)
 
 -- ---- numbers (Face split and flip; Whole step)
 
--- Three times the nearest third of s is at most 1 away from s, and that of no other whole number is.
+-- The nearest third of s is the one whole number q with |3 q - s| ≤ 1.
 pub third-near : (s : ℤ) → natAbs (pos 3 *ℤ nearestThird s -ℤ s) ≤ 1
 third-near = nearest-third
 
@@ -82,6 +85,11 @@ pub load-carried : (bytes : List ℕ) (m : Mesh) → loadCall bytes m .refusal �
     × Loaded (cageOf bytes) m (loaded (cageOf bytes) m)
 load-carried = load-makes
 
+-- In the tables that condition 6 is judged in, the links are the matching opposite sides.
+pub links-match : (c : Cage) (m : Mesh) → TablesAgree m → c .vertices ≤ vertexSlots m → c .triangles ≤ triangleSlots m
+    → SidesDiffer c → (h : ℕ) → h < 3 * c .triangles → Matches c h (link (loaded c m .topology) h)
+links-match = links-are
+
 -- ---- refine (Refine one triangle)
 
 -- A refine that is carried out answers and leaves what `refine` makes, and that is sound and counted.
@@ -90,8 +98,8 @@ pub refine-carried : (t : ℕ) (m : Mesh) → refineCall t m .refusal ≡ 0
     (refineCall t m ≡ outcomeOf 0 (w .splits) (w .flips) 0 zeroPoint (w .mesh) []) × RefineMakes t m w
 refine-carried = refine-makes
 
--- The number of splits that condition 11 asks room for is counted along the whole base chain.
-pub chain-whole : (t : ℕ) (m : Mesh) → refineCall t m .refusal ≡ 0
+-- The odd triangles of a base chain that does not end at the boundary are counted, all of them.
+pub chain-whole : (t : ℕ) (m : Mesh) → Sound m → t < m .topology .triangles → ¬ EndsAtBoundary (m .topology) t
     → OddInChain (m .topology) t (chainOdd (m .topology) t)
 chain-whole = chain-counted
 
@@ -100,7 +108,7 @@ pub chain-steps : (m : Mesh) → Sound m → (t : ℕ) → t < m .topology .tria
     → link (m .topology) (3 * t) ≢ boundary → ChainFalls (m .topology) t
 chain-steps = chain-falls
 
--- Refine is the recursive procedure of the source (document 000, section 4), at any depth that suffices.
+-- Refine is the recursive procedure of Kobbelt's section 4, with the outline's face split, at any depth that suffices.
 pub refine-recursive : (t n : ℕ) (m : Mesh) → refineCall t m .refusal ≡ 0 → generation (m .topology) t < n
     → refine t (atFirst m) ≡ kobbelt n t (atFirst m)
 refine-recursive = refine-is-split
@@ -138,3 +146,8 @@ position-carried = position-reads
 -- demanded; and a refine that follows makes and reports what is demanded.
 pub third-demand : EveryHistory
 third-demand = every-history
+
+-- From an accepted load on the tables are sound, so that no later call is refused with 1 or 7.
+pub sound-after : (calls : List Call) (m : Mesh) (bytes : List ℕ) → lastLoad calls m nothing ≡ cage bytes
+    → Sound (after calls m)
+sound-after = history-sound

@@ -36,7 +36,7 @@ opposite c h k = eqb (c .corner k) (c .corner (next h)) && eqb (c .corner (next 
 abbrev pub parallel : Cage → ℕ → ℕ → Bool
 parallel c h k = eqb (c .corner k) (c .corner h) && eqb (c .corner (next k)) (c .corner (next h))
 
--- The side opposite to h, or the boundary.
+-- The side opposite to h, or the boundary. Condition 5 leaves at most one; before it is tested, the lowest is meant.
 unfoldable pub partner : Cage → ℕ → ℕ
 partner c h =
     let k = lowest (3 * c .triangles) (opposite c h) in

@@ -11,7 +11,8 @@ use Rattle.rules.specs.Ring.{ring}
 use Rattle.rules.specs.Sound.{isSound}
 use Rattle.rules.specs.Split.{Work, atFirst, chainEnd, chainOdd, refine}
 use Rattle.rules.specs.Step.{wholeStep}
-use Rattle.rules.specs.Tables.{Topology, Mesh, tablesAgree, vertexSlots, triangleSlots, sides, link, boundary, generation, odd, coordinate}
+use Rattle.rules.specs.Tables.{Topology, Mesh, tablesAgree, vertexSlots, triangleSlots, sides, link, boundary}
+use Rattle.rules.specs.Tables.{generation, odd, coordinate}
 
 -- What a call returns, and what it leaves: the mesh with its counts V and F, and the ring buffer, empty where none is
 -- lent. Only `outcomeOf` builds it.
@@ -60,7 +61,8 @@ firstOf (n if holds ∷ rest) = elim holds [ true ↦ n | false ↦ firstOf rest
 abbrev pub roomFor : ℕ → Mesh → Bool
 roomFor s m = leb (m .topology .vertices + s) (vertexSlots m) && leb (m .topology .triangles + 2 * s) (triangleSlots m)
 
--- The face splits that refining t takes. (Refine one triangle)
+-- The face splits that refining t takes: one for each odd triangle of its base chain, and one where t is even, as its
+-- chain has none. (Refine one triangle)
 abbrev pub splitsOf : Topology → ℕ → ℕ
 splitsOf m t = max 1 (chainOdd m t)
 
@@ -71,7 +73,7 @@ closedEven m =
     && all (m .triangles) (λ t. eqb (generation m t) (generation m 0))
     && not (odd (generation m 0))
 
--- The number that a load is refused with; below, those of the other calls. (Refused inputs, its second table)
+-- The number that a load is refused with; below, those of the other calls. (Refused inputs, below the table)
 unfoldable pub loadRefusal : List ℕ → Mesh → ℕ
 loadRefusal bytes m =
     let c = cageOf bytes in
@@ -128,7 +130,7 @@ positionRefusal v m =
 -- ---- the calls
 
 -- The outcome where nothing is refused. A refusal returns its number with zeros, and leaves all that is lent as it
--- stood. (Refused inputs, first lines)
+-- stood. (Refused inputs, below the table)
 abbrev pub unless : ℕ → Mesh → List ℕ → Outcome → Outcome
 unless zero m buffer done = done
 unless (suc n) m buffer done = outcomeOf (suc n) 0 0 0 zeroPoint m buffer

@@ -1,15 +1,15 @@
 -- The conditions of the refusals as statements, which the tests that the calls compute decide. (Refused inputs)
-use Prim.Native.Nat.{ℕ, suc, _+_, _*_, _/_, _%_, _≤_, _<_}
+use Prim.Native.Nat.{ℕ, suc, _+_, _*_, _/_, _%_, _≤_, _<_, max}
 use mathlib.Core.List.{List, [], _∷_}
 use mathlib.Core.Logic.{_≢_}
 use mathlib.Core.Path.{_≡_}
 use lib.ListN.{length}
-use Rattle.rules.specs.Calls.{splitsOf}
 use Rattle.rules.specs.Cage.{Cage, cageOf, loaded}
 use Rattle.rules.specs.Numbers.{InRange}
 use Rattle.rules.specs.Ring.{ring}
 use Rattle.rules.specs.Sound.{OneFan, Sound}
-use Rattle.rules.specs.Tables.{Topology, Mesh, TablesAgree, vertexSlots, triangleSlots, sides, next, link, boundary, generation}
+use Rattle.rules.specs.Tables.{Topology, Mesh, TablesAgree, vertexSlots, triangleSlots, sides, next, link}
+use Rattle.rules.specs.Tables.{boundary, generation}
 
 -- ---- a cage
 
@@ -57,10 +57,15 @@ pub data OddInChain (m : Topology) : ℕ → ℕ → Type 0 where
   onward : {t k : ℕ} → generation m t % 2 ≡ 1 → link m (3 * t) ≢ boundary → OddInChain m (link m (3 * t) / 3) k
       → OddInChain m t (suc k)
 
--- Not 11: there are slots for s face splits.
+-- There are slots for s face splits.
 pub record RoomFor (s : ℕ) (m : Mesh) : Type 0 where
   pub vertices : m .topology .vertices + s ≤ vertexSlots m
   pub triangles : m .topology .triangles + 2 * s ≤ triangleSlots m
+
+-- 11, of a refine: there are too few slots for a split for each odd triangle in the base chain of t, or for one split
+-- where t is even.
+abbrev pub TooFewSlots : ℕ → Mesh → Type 0
+TooFewSlots t m = (k : ℕ) × OddInChain (m .topology) t k × (¬ RoomFor (max 1 k) m)
 
 -- Not 12: no side is on the boundary, and all triangles are of one even generation.
 pub record ClosedEven (m : Topology) : Type 0 where
@@ -86,7 +91,7 @@ pub data First : List Condition → ℕ → Type 1 where
   this : {n : ℕ} {P : Type 0} {rest : List Condition} → P → First (n when P ∷ rest) n
   later : {n k : ℕ} {P : Type 0} {rest : List Condition} → ¬ P → First rest k → First (n when P ∷ rest) k
 
--- ---- the conditions of each call, in its order (Refused inputs, its second table)
+-- ---- the conditions of each call, in its order (Refused inputs, below the table)
 
 abbrev pub loadConditions : List ℕ → Mesh → List Condition
 loadConditions bytes m =
@@ -106,7 +111,7 @@ refineConditions t m =
     ∷ 8 when (¬ (t < m .topology .triangles))
     ∷ 9 when (generation (m .topology) t ≡ 20)
     ∷ 10 when EndsAtBoundary (m .topology) t
-    ∷ 11 when (¬ RoomFor (splitsOf (m .topology) t) m)
+    ∷ 11 when TooFewSlots t m
     ∷ []
 
 abbrev pub wholeStepConditions : Mesh → List Condition

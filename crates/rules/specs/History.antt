@@ -74,7 +74,7 @@ lastLoad (c ∷ cs) m before = lastLoad cs (outcome c m .mesh) (opens c m before
 unfoldable pub edges : Topology → ℕ
 edges m = count (sides m) (λ h. ltb h (link m h))
 
--- Of the tables. (Every history)
+-- V - E + F of the tables. (Every history)
 abbrev pub characteristic : Topology → ℤ
 characteristic m = pos (m .vertices) -ℤ pos (edges m) +ℤ pos (m .triangles)
 
@@ -88,7 +88,7 @@ joins c a b h =
 unfoldable pub cageEdges : Cage → ℕ
 cageEdges c = total (c .vertices) (λ a. count a (λ b. any (3 * c .triangles) (joins c a b)))
 
--- Of a cage. (Every history)
+-- V - E + F of a cage. (Every history)
 abbrev pub cageCharacteristic : Cage → ℤ
 cageCharacteristic c = pos (c .vertices) -ℤ pos (cageEdges c) +ℤ pos (c .triangles)
 

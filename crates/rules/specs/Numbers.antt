@@ -20,7 +20,7 @@ signed n = elim (ltb n 2147483648) [ true ↦ pos n | false ↦ pos n -ℤ pos 4
 abbrev pub maxCoordinate : ℕ
 maxCoordinate = 16777216
 
--- A coordinate that the paper allows. (The cage and the lent tables, "Sound")
+-- A coordinate in range. (The cage and the lent tables, "Sound")
 pub record InRange (z : ℤ) : Type 0 where
   pub low : negℤ (pos maxCoordinate) ≤ℤ z
   pub high : z ≤ℤ pos maxCoordinate
@@ -42,7 +42,8 @@ nearestThird s = floorDiv (s +ℤ pos 1) 3
 unfoldable pub halfUp : ℤ → ℕ → ℤ
 halfUp n d = floorDiv (pos 2 *ℤ n +ℤ pos d) (2 * d)
 
--- The weight, out of 65536, of a vertex with 2 to 12 ring entries; 0 and 1 have none. (Whole step, the table)
+-- The weight, out of 65536, of a vertex with 2 to 12 ring entries; 0 and 1 have none. It is Kobbelt's (6),
+-- (4 - 2 cos(2π/n)) / 9, to the nearest; the table decides. (Whole step)
 unfoldable pub weights : List ℕ
 weights = 0 ∷ 0 ∷ 43691 ∷ 36409 ∷ 29127 ∷ 24627 ∷ 21845 ∷ 20047 ∷ 18829 ∷ 17971 ∷ 17345 ∷ 16875 ∷ 16515 ∷ []
 
@@ -50,6 +51,7 @@ weights = 0 ∷ 0 ∷ 43691 ∷ 36409 ∷ 29127 ∷ 24627 ∷ 21845 ∷ 20047 �
 unfoldable pub weight : ℕ → ℕ
 weight n = getD weights n 0
 
--- Where a vertex moves, in one coordinate: it is at p and has n ring entries that add up to s. (Whole step, N/D)
+-- Where a vertex moves, in one coordinate: it is at p and has n ring entries that add up to s. Kobbelt's (2), times
+-- 65536 n over the same. (Whole step, N/D)
 unfoldable pub moved : ℕ → ℤ → ℤ → ℤ
 moved n p s = halfUp (pos n *ℤ (pos 65536 -ℤ pos (weight n)) *ℤ p +ℤ pos (weight n) *ℤ s) (65536 * n)

@@ -15,7 +15,8 @@ use Rattle.rules.specs.Ring.{firstSide, fan, ring}
 use Rattle.rules.specs.Sound.{Sound}
 use Rattle.rules.specs.Split.{Work, centre, faceSplit}
 use Rattle.rules.specs.Step.{movedCoordinate}
-use Rattle.rules.specs.Tables.{Topology, Mesh, sides, next, previous, origin, target, boundary, link, rotate, generation, odd, coordinate}
+use Rattle.rules.specs.Tables.{Topology, Mesh, sides, next, previous, origin, target, boundary, link, rotate}
+use Rattle.rules.specs.Tables.{generation, odd, coordinate}
 
 -- ---- numbers (Whole step)
 
@@ -72,12 +73,12 @@ pub record ChainFalls (m : Topology) (t : ℕ) : Type 0 where
   pub toOdd : generation m (link m (3 * t) / 3) % 2 ≡ 1 → generation m (link m (3 * t) / 3) + 2 ≡ generation m t
   pub toEven : generation m (link m (3 * t) / 3) % 2 ≡ 0 → generation m (link m (3 * t) / 3) + 1 ≡ generation m t
 
--- A slot is written if it is new or its generation rose.
+-- A slot is written anew, by a split or a flip, if it is new or its generation rose.
 abbrev pub Written : Topology → Topology → ℕ → Type 0
 Written m n y = (m .triangles ≤ y) ⊎ (generation n y ≢ generation m y)
 
--- What splits and flips that lead from m to n leave alone. A triangle that is not written has its corners; its links
--- stay where they lead to the boundary or to triangles not written, and lead to written ones else.
+-- What splits and flips that lead from m to n leave alone. A triangle not written anew keeps its corners; its links
+-- stay where they lead to the boundary or to triangles not written anew, and else lead to ones that are.
 pub record Still (m n : Topology) : Type 0 where
   pub grows : m .triangles ≤ n .triangles
   pub mono : (x : ℕ) → x < m .triangles → generation m x ≤ generation n x
@@ -109,12 +110,12 @@ pub record RefineMakes (t : ℕ) (m : Mesh) (w : Work) : Type 0 where
       → getD (w .mesh .positions) i (pos 0) ≡ getD (m .positions) i (pos 0)
   pub past : SamePast m (w .mesh)
 
--- The triangle across the base of t (document 000: mate[1]).
+-- The triangle across the base of t (Kobbelt's mate[1]).
 abbrev pub mate : ℕ → Work → ℕ
 mate t w = link (w .mesh .topology) (3 * t) / 3
 
--- The procedure split(T) of document 000, section 4, to a depth of at most n, with the face split and its flips as the
--- outline fixes them. An even triangle is split. For an odd one its mate is split, which flips the two; a mate two
+-- The procedure split(T) of Kobbelt's paper, section 4, to a depth of at most n, with the face split and its flips as
+-- the outline fixes them. An even triangle is split. For an odd one its mate is split, which flips the two; a mate two
 -- generations below is first raised by the same procedure, and the mate read again.
 unfoldable pub kobbelt : ℕ → ℕ → Work → Work
 kobbelt zero t w = w

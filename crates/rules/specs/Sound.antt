@@ -9,11 +9,13 @@ use lib.ListN.{length, getD}
 use Rattle.rules.specs.Below.{all, count}
 use Rattle.rules.specs.Numbers.{InRange, inRange}
 use Rattle.rules.specs.Ring.{fan}
-use Rattle.rules.specs.Tables.{Topology, Mesh, TablesAgree, tablesAgree, vertexSlots, triangleSlots, sides, origin, target, link, rotate, boundary, generation, odd}
+use Rattle.rules.specs.Tables.{Topology, Mesh, TablesAgree, tablesAgree, vertexSlots, triangleSlots, sides}
+use Rattle.rules.specs.Tables.{origin, target, link, rotate, boundary, generation, odd}
 
 -- ---- the five kinds of linked pairs
 
--- What a side is, with the generation of its triangle: a side of an even one, the base of an odd one, or another side.
+-- What a side is, with the generation of its triangle: a side of an even one, the base of an odd one, or another side
+-- of an odd one, a non-base side.
 pub data Role : Type 0 where
   even : ℕ → Role
   base : ℕ → Role
@@ -27,7 +29,7 @@ roleOf g i = elim (odd g) [ false ↦ even g | true ↦ elim (eqb i 0) [ true �
 abbrev pub role : Topology → ℕ → Role
 role m h = roleOf (generation m (h / 3)) (h % 3)
 
--- The paper's list of what may be linked, each of its five kinds in both orders; two bases never meet.
+-- The outline's list of what may be linked, each of its five kinds in both orders; two bases never meet.
 abbrev pub fiveKinds : Role → Role → Bool
 fiveKinds (even g) (even h) = eqb g h
 fiveKinds (even g) (base h) = eqb h (g + 1)
@@ -50,19 +52,20 @@ pub record Linked (m : Topology) (h : ℕ) : Type 0 where
   pub onto : target m (link m h) ≡ origin m h
   pub kind : T (fiveKinds (role m h) (role m (link m h)))
 
--- Turning about the origin of side s leads to side k.
+-- Turning about the origin of side s, each time across the side that leads into it, leads to side k.
 pub data Turns (m : Topology) (s : ℕ) : ℕ → Type 0 where
   here : Turns m s s
   turn : {h k : ℕ} → Turns m s h → rotate m h ≡ k → k < sides m → Turns m s k
 
--- One fan: v has a triangle, and turning from one of its sides leads to the side out of v in each of its triangles.
+-- One fan: v has a triangle, and turning from one of its sides leads to the side out of v in each of its triangles. At
+-- the boundary that one is the side on it.
 pub record OneFan (m : Topology) (v : ℕ) : Type 0 where
   pub first : ℕ
   pub inUse : first < sides m
   pub out : origin m first ≡ v
   pub all : (h : ℕ) → h < sides m → origin m h ≡ v → Turns m first h
 
--- Sound, in the order of the paper's list. `tables` is condition 1, so that Sound can stand alone.
+-- Sound. `tables` is condition 1, so that Sound can stand alone; the five kinds stand in `linked`.
 pub record Sound (m : Mesh) : Type 0 where
   pub tables : TablesAgree m
   pub someVertex : 1 ≤ m .topology .vertices

@@ -5,10 +5,12 @@ use mathlib.Core.List.{List, [], _∷_}
 use lib.Dec.{eqb, ltb}
 use lib.IntN.{ℤ, _+ℤ_}
 use Rattle.rules.specs.Numbers.{nearestThird}
-use Rattle.rules.specs.Tables.{Topology, Mesh, meshOf, withTopology, origin, link, boundary, generation, odd, isBase, coordinate, putThree, putTriangle, relink, withCounts}
+use Rattle.rules.specs.Tables.{Topology, Mesh, meshOf, withTopology, origin, link, boundary, generation, odd}
+use Rattle.rules.specs.Tables.{isBase, coordinate, putThree, putTriangle, relink, withCounts}
 
--- The face split of t = (A,B,C), with no flip yet. P is the new vertex V; the new slots are f = F and e = F + 1.
--- The old sides become the bases: A→B stays, B→C moves to slot f, C→A to slot e, and their partners are told.
+-- The 1-to-3 split of t = (A,B,C), with no flip yet; refine uses it where t is even. P is the new vertex V; the new
+-- slots are f = F and e = F + 1. The old sides become the bases: A→B stays, B→C moves to slot f, C→A to slot e, and
+-- their partners' links name the new places.
 --
 --            C                         C
 --           / \                       /|\
@@ -35,7 +37,8 @@ split t m =
     let three = putTriangle e (c, a, p) (ca, 3 * t + 2, 3 * f + 1) g two in
     withCounts (suc p) (f + 2) three
 
--- The flip (edge flip) of s = (A,B,P) and u = (B,A,Q), whose bases meet.
+-- The flip (edge flip) of s = (A,B,P) and u = (B,A,Q), whose bases meet; in sound tables both are then of one odd
+-- generation.
 -- B→P moves to side 0 of u and A→Q to side 0 of s; P→A and Q→B stay.
 --
 --            P                         P
@@ -108,7 +111,7 @@ abbrev pub settleAll : List ℕ → Work → Work
 settleAll [] w = w
 settleAll (s ∷ rest) w = settleAll rest (settle s w)
 
--- The paper's face split: the split, and then a flip wherever the base of t, F or F + 1, in this order, meets a base.
+-- The outline's face split: the split, and then a flip wherever the base of t, F or F + 1, in this order, meets a base.
 unfoldable pub faceSplit : ℕ → Work → Work
 faceSplit t w =
     let f = w .mesh .topology .triangles in
@@ -116,7 +119,7 @@ faceSplit t w =
 
 -- ---- the base chain: from an odd triangle on to the one across its base, until an even triangle or the boundary
 
--- Its last triangle, from t on, after at most n steps.
+-- Its last triangle, from t on, after at most n steps: an even one, or an odd one whose base is on the boundary.
 unfoldable pub chainEndWithin : ℕ → Topology → ℕ → ℕ
 chainEndWithin zero m t = t
 chainEndWithin (suc n) m t = elim (odd (generation m t)) [
@@ -152,7 +155,7 @@ raise (suc n) g t w = elim (ltb g (generation (w .mesh .topology) t)) [
 
 -- Face splits from the even end of the base chain of t upwards, until t has risen: by its own split where t is even,
 -- by its flip where t is odd. What lies across a base is read from the links each time, as a flip may move it to
--- another slot.
+-- another slot. The bound g + 1 on the splits is never reached short of that.
 unfoldable pub refine : ℕ → Work → Work
 refine t w =
     let g = generation (w .mesh .topology) t in

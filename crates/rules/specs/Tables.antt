@@ -60,7 +60,7 @@ origin m h = getD (m .corners) h 0
 abbrev pub target : Topology → ℕ → ℕ
 target m h = origin m (next h)
 
--- What a side without a partner links to: the paper's rim. By the maxima of condition 1 it is past every table.
+-- What a side without a partner links to: the outline's rim. By the maxima of condition 1 it is past every table.
 abbrev pub boundary : ℕ
 boundary = 4294967295
 
@@ -81,7 +81,8 @@ generation m t = getD (m .generations) t 0
 abbrev pub odd : ℕ → Bool
 odd g = eqb (g % 2) 1
 
--- Side h is the base of an odd triangle: its side 0. (The cage and the lent tables)
+-- Side h is the base of an odd triangle: its side 0, across from the centre, its corner 2, that made it. (The cage and
+-- the lent tables)
 abbrev pub isBase : Topology → ℕ → Bool
 isBase m h = eqb (h % 3) 0 && odd (generation m (h / 3))
 

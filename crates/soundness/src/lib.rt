@@ -79,7 +79,8 @@ pub fn sound_start(
     triangles: u32,
     v: u32,
 ) -> u32
-    ensures { λ r. ⌜ (let m = topologyOf vertices triangles (now (corners .entry)) (now (links .entry)) (now (generations .entry)) in
+    ensures { λ r. ⌜ (let m = topologyOf vertices triangles (now (corners .entry)) (now (links .entry))
+        (now (generations .entry)) in
         r ≡ startIf (isSound (meshOf m (now (positions .entry)))) m v) ⌝ }
 {
     if !tables_agree(positions, corners, links, generations) {
