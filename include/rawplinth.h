@@ -16,8 +16,8 @@ extern "C" {
 #define RAWPLINTH_BOUNDARY UINT32_C(4294967295)
 
 /* The most slots that tables may have. */
-#define RAWPLINTH_VERTEX_SLOTS 32768
-#define RAWPLINTH_TRIANGLE_SLOTS 65536
+#define RAWPLINTH_MAX_VERTEX_SLOTS 32768
+#define RAWPLINTH_MAX_TRIANGLE_SLOTS 65536
 
 /* How many vertices and triangles are in use. A fresh store has none. Every call takes the counts, and its answer has those
    for the next call. */
@@ -36,7 +36,7 @@ enum {
     RAWPLINTH_SIDE_TWICE = 5,      /* two triangles with the same directed side */
     RAWPLINTH_FANS = 6,            /* a vertex whose triangles are none, or not one fan */
     RAWPLINTH_NOT_SOUND = 7,       /* tables that are no mesh by the rules, such as a fresh store */
-    RAWPLINTH_NOT_IN_USE = 8,      /* a triangle or vertex number past the counts */
+    RAWPLINTH_NOT_IN_USE = 8,      /* no such triangle or vertex in use */
     RAWPLINTH_GENERATION = 9,      /* generation 20, the last */
     RAWPLINTH_CHAIN_OPEN = 10,     /* the base chain ends at the boundary */
     RAWPLINTH_NO_SLOTS = 11,       /* too few slots for the splits that are needed */
@@ -69,21 +69,23 @@ typedef struct {
 
 /* Every call is lent the same four tables, each a pointer and its number of entries:
 
-     positions     3 for each vertex slot
+     positions     3 for each vertex slot, in units of 1/1024 mm, within 16777216 either way
      corners       3 for each triangle slot
      links         3 for each triangle slot: 3*triangle+side of the partner, or RAWPLINTH_BOUNDARY; side 0 runs from corner 0
                    to corner 1, side 1 from 1 to 2, side 2 from 2 to 0
-     generations   1 for each triangle slot
+     generations   1 for each triangle slot: 0 to 20, 0 after a load. An odd triangle is a third of an even one, with side 0
+                   as its base; its flip across the base makes it even. The base chain of an odd triangle goes on to the
+                   triangle across its base, until an even one or the boundary
 
-   Whatever they hold, a call refuses or does what it says. Slots past the counts are written only where a call takes them
-   into use.
+   Whatever they hold, a call does what it says or is refused, with the first number of its list that applies. Slots past
+   the counts are written only where a call takes them into use.
 
-   A pointer must be valid for its entries, and not null where there are none. What is lent to one call must not overlap,
+   A pointer must be valid for its entries, and not null even where there are none. What is lent to one call must not overlap,
    and nobody else may use it while the call runs: calls on different meshes may run at the same time, on one mesh not. */
 
 /* Loads a cage: its numbers of vertices and of triangles, 3 signed coordinates for each vertex, 3 corners for each triangle,
-   each number 4 bytes, low byte first. Neither the counts nor what the tables held before matter.
-   Refuses with the first of 1, 2, 3, 4, 5, 6 that applies. Writes the first slots of all tables. Needs 3 MB of stack. */
+   each number 4 bytes, low byte first. What is loaded depends neither on the counts nor on what the tables held.
+   Refuses with 1, 2, 3, 4, 5, 6, in this order. Writes the first slots of all tables. Needs 3 MB of stack. */
 rawplinth_worked rawplinth_load(
     int32_t *positions, size_t positions_length,
     uint32_t *corners, size_t corners_length,
@@ -93,7 +95,7 @@ rawplinth_worked rawplinth_load(
     const uint8_t *cage, size_t cage_length);
 
 /* Refines one triangle: an even one by a face split; an odd one by the splits along its base chain, until it is flipped.
-   Refuses with 1, 7, 8, 9, 10, 11. Writes slots in use and those that it takes. Needs 1 MB of stack, as the calls below. */
+   Refuses with 1, 7, 8, 9, 10, 11, in this order. Writes slots in use and those that it takes. Needs 1 MB of stack, as the calls below. */
 rawplinth_worked rawplinth_refine(
     int32_t *positions, size_t positions_length,
     uint32_t *corners, size_t corners_length,
@@ -103,7 +105,7 @@ rawplinth_worked rawplinth_refine(
     uint32_t triangle);
 
 /* Refines every triangle of a closed mesh of one even generation and smooths the old vertices, all from their old positions.
-   Refuses with 1, 7, 12, 9, 13, 11. Writes slots in use and those that it takes. */
+   Refuses with 1, 7, 12, 9, 13, 11, in this order. Writes slots in use and those that it takes. */
 rawplinth_worked rawplinth_whole_step(
     int32_t *positions, size_t positions_length,
     uint32_t *corners, size_t corners_length,
@@ -111,8 +113,10 @@ rawplinth_worked rawplinth_whole_step(
     uint8_t *generations, size_t generations_length,
     rawplinth_counts counts);
 
-/* Reads the ring of a vertex: its neighbours in turn, at the boundary from one end to the other.
-   Refuses with 1, 7, 8, 14. Writes the ring to the front of the buffer, and nothing else. */
+/* Reads the ring of a vertex v: from a triangle (v,a,b) it writes a and goes on across b-v, from the lowest slot that holds v
+   until it is back; at the boundary from the triangle whose v-a is on it to the last, whose b it writes too. A neighbour may
+   stand in it more than once.
+   Refuses with 1, 7, 8, 14, in this order. Writes the ring to the front of the buffer, and nothing else. */
 rawplinth_ring_read rawplinth_ring(
     const int32_t *positions, size_t positions_length,
     const uint32_t *corners, size_t corners_length,
@@ -123,7 +127,7 @@ rawplinth_ring_read rawplinth_ring(
     uint32_t *buffer, size_t buffer_length);
 
 /* Reads the position of a vertex.
-   Refuses with 1, 7, 8. Writes nothing. */
+   Refuses with 1, 7, 8, in this order. Writes nothing. */
 rawplinth_position_read rawplinth_position(
     const int32_t *positions, size_t positions_length,
     const uint32_t *corners, size_t corners_length,
