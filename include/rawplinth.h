@@ -80,10 +80,10 @@ typedef struct {
    Whatever they hold, a call does what it says or is refused, with the first number of its list that applies. Slots past
    the counts are written only where a call takes them into use.
 
-   A pointer must be valid for its entries, and not null even where there are none. What is lent to one call must not overlap,
-   and nobody else may use it while the call runs: calls on different meshes may run at the same time, on one mesh not. */
+   A pointer must be valid for its entries, and not null even where there are none. What is lent to one call must not
+   overlap, and nobody else may use it while the call runs: calls on different meshes may run at the same time. */
 
-/* Loads a cage: its numbers of vertices and of triangles, 3 signed coordinates for each vertex, 3 corners for each triangle,
+/* Loads a cage: its numbers of vertices and triangles, 3 signed coordinates for each vertex, 3 corners for each triangle,
    each number 4 bytes, low byte first. What is loaded depends neither on the counts nor on what the tables held.
    Refuses with 1, 2, 3, 4, 5, 6, in this order. Writes the first slots of all tables. Needs 3 MB of stack. */
 rawplinth_worked rawplinth_load(
@@ -94,8 +94,9 @@ rawplinth_worked rawplinth_load(
     rawplinth_counts counts,
     const uint8_t *cage, size_t cage_length);
 
-/* Refines one triangle: an even one by a face split; an odd one by the splits along its base chain, until it is flipped.
-   Refuses with 1, 7, 8, 9, 10, 11, in this order. Writes slots in use and those that it takes. Needs 1 MB of stack, as the calls below. */
+/* Refines one triangle: an even one by a face split, an odd one by splits along its base chain until it is flipped.
+   Refuses with 1, 7, 8, 9, 10, 11, in this order. Writes slots in use and those that it takes. Needs 1 MB of stack, as do
+   the calls below. */
 rawplinth_worked rawplinth_refine(
     int32_t *positions, size_t positions_length,
     uint32_t *corners, size_t corners_length,
@@ -104,7 +105,7 @@ rawplinth_worked rawplinth_refine(
     rawplinth_counts counts,
     uint32_t triangle);
 
-/* Refines every triangle of a closed mesh of one even generation and smooths the old vertices, all from their old positions.
+/* Refines every triangle of a closed mesh of one even generation, and smooths the old vertices, all at once.
    Refuses with 1, 7, 12, 9, 13, 11, in this order. Writes slots in use and those that it takes. */
 rawplinth_worked rawplinth_whole_step(
     int32_t *positions, size_t positions_length,
@@ -113,9 +114,9 @@ rawplinth_worked rawplinth_whole_step(
     uint8_t *generations, size_t generations_length,
     rawplinth_counts counts);
 
-/* Reads the ring of a vertex v: from a triangle (v,a,b) it writes a and goes on across b-v, from the lowest slot that holds v
-   until it is back; at the boundary from the triangle whose v-a is on it to the last, whose b it writes too. A neighbour may
-   stand in it more than once.
+/* Reads the ring of a vertex v: from a triangle (v,a,b) it writes a and goes on across b-v, from the lowest slot that holds
+   v until it is back; at the boundary from the triangle whose v-a is on it to the last one, whose b it writes too. A
+   neighbour may stand in it more than once.
    Refuses with 1, 7, 8, 14, in this order. Writes the ring to the front of the buffer, and nothing else. */
 rawplinth_ring_read rawplinth_ring(
     const int32_t *positions, size_t positions_length,
