@@ -3,7 +3,7 @@ use mathlib.Core.Path.{_≡_, sym}
 use mathlib.Core.List.{List}
 use Prim.Native.Nat.{ℕ, _*_, _≤_}
 use native.Mathlib.Omega.{arith}
-use lib.ListN.{replicate, length-replicate}
+use lib.ListN.{length, replicate, length-replicate}
 use Rattle.rules.specs.Cage.{cageOf}
 use Rattle.rules.specs.Conditions.{SizesFit}
 use Rattle.rules.specs.Numbers.{numberAt}
@@ -34,3 +34,14 @@ working-room n k v f a b =
       nextRoom = omega arith;
       slotRoom = zeroed k v b;
     }
+
+-- Room for the sides of every cage, whatever it holds, and zeros for its vertices.
+pub greatest-room : {bytes o p x : List ℕ} {v f : ℕ} → Sized bytes v f → 196608 ≡ length o → 196608 ≡ length p
+    → 196608 ≡ length x → WorkingRoom v f o p (replicate 32768 0) x (replicate 32768 0)
+greatest-room Z a b e = record {
+  originRoom = omega (arith, Z .fewTriangles);
+  partnerRoom = omega (arith, Z .fewTriangles);
+  headRoom = zeroed 32768 _ (Z .fewVertices);
+  nextRoom = omega (arith, Z .fewTriangles);
+  slotRoom = zeroed 32768 _ (Z .fewVertices);
+}

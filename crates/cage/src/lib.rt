@@ -101,6 +101,11 @@ fn finish(
     }
 }
 
+// Room for the sides of the largest cage. What it holds is not said, so that no proof writes it out.
+fn side_room() -> [u32; 196608] {
+    [0u32; 196608]
+}
+
 // The load with working room for 256 vertices and triangles together.
 fn load_within_256(
     positions: &mut [i32],
@@ -207,10 +212,10 @@ fn load_within_98304(
     requires { ⌜ SizesFit (now cage) (meshOf (topologyOf vertices triangles (now corners) (now links) (now generations)) (now positions)) ⌝ }
     ensures { λ r. ⌜ Answers (now (cage .entry)) (meshOf (topologyOf vertices triangles (now (corners .entry)) (now (links .entry)) (now (generations .entry))) (now (positions .entry))) (r .refusal) (meshOf (topologyOf (r .vertices) (r .triangles) (now (corners .exit)) (now (links .exit)) (now (generations .exit))) (now (positions .exit))) ⌝ }
 {
-    let mut origins = [0u32; 196608];
-    let mut partners = [0u32; 196608];
+    let mut origins = side_room();
+    let mut partners = side_room();
     let mut heads = [0u32; 32768];
-    let mut nexts = [0u32; 196608];
+    let mut nexts = side_room();
     let mut slots = [0u32; 32768];
     let v = points::number_at(cage, 0);
     let f = points::number_at(cage, 4);
