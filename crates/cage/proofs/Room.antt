@@ -1,7 +1,7 @@
 -- Working room for a cage whose sizes fit.
 use mathlib.Core.Path.{_≡_, sym}
 use mathlib.Core.List.{List}
-use Prim.Native.Nat.{ℕ, _*_, _≤_}
+use Prim.Native.Nat.{ℕ, _+_, _*_, _≤_}
 use native.Mathlib.Omega.{arith}
 use lib.ListN.{length, replicate, length-replicate}
 use Rattle.rules.specs.Cage.{cageOf}
@@ -22,17 +22,17 @@ sized A S e g = record {
   size = rw (e, g) (S .size);
 }
 
--- Zeros for n sides and k vertices.
-pub working-room : (n k v f : ℕ) → 3 * f ≤ n → v ≤ k
-    → WorkingRoom v f (replicate n 0) (replicate n 0) (replicate k 0) (replicate n 0) (replicate k 0)
-working-room n k v f a b =
-    let e = length-replicate {A = ℕ} n 0 in
+-- Zeros for the sides and the vertices of a cage with k vertices and triangles together.
+pub room-within : {bytes : List ℕ} {v f : ℕ} (k : ℕ) → Sized bytes v f → length bytes ≤ 8 + 12 * k
+    → WorkingRoom v f (replicate (3 * k) 0) (replicate (3 * k) 0) (replicate k 0) (replicate (3 * k) 0) (replicate k 0)
+room-within k Z l =
+    let e = length-replicate {A = ℕ} (3 * k) 0 in
     record {
-      originRoom = omega arith;
-      partnerRoom = omega arith;
-      headRoom = zeroed k v b;
-      nextRoom = omega arith;
-      slotRoom = zeroed k v b;
+      originRoom = omega (arith, Z .size);
+      partnerRoom = omega (arith, Z .size);
+      headRoom = zeroed k _ (omega (arith, Z .size));
+      nextRoom = omega (arith, Z .size);
+      slotRoom = zeroed k _ (omega (arith, Z .size));
     }
 
 -- Room for the sides of every cage, whatever it holds, and zeros for its vertices.
