@@ -1,9 +1,9 @@
 -- Working room for a cage whose sizes fit.
 use mathlib.Core.Path.{_≡_, sym}
 use mathlib.Core.List.{List}
-use Prim.Native.Nat.{ℕ, _*_, _≤_}
+use Prim.Native.Nat.{ℕ, _+_, _*_, _≤_}
 use native.Mathlib.Omega.{arith}
-use lib.ListN.{replicate, length-replicate}
+use lib.ListN.{length, replicate, length-replicate}
 use Rattle.rules.specs.Cage.{cageOf}
 use Rattle.rules.specs.Conditions.{SizesFit}
 use Rattle.rules.specs.Numbers.{numberAt}
@@ -22,15 +22,26 @@ sized A S e g = record {
   size = rw (e, g) (S .size);
 }
 
--- Zeros for n sides and k vertices.
-pub working-room : (n k v f : ℕ) → 3 * f ≤ n → v ≤ k
-    → WorkingRoom v f (replicate n 0) (replicate n 0) (replicate k 0) (replicate n 0) (replicate k 0)
-working-room n k v f a b =
-    let e = length-replicate {A = ℕ} n 0 in
+-- Zeros for the sides and the vertices of a cage with k vertices and triangles together.
+pub room-within : {bytes : List ℕ} {v f : ℕ} (k : ℕ) → Sized bytes v f → length bytes ≤ 8 + 12 * k
+    → WorkingRoom v f (replicate (3 * k) 0) (replicate (3 * k) 0) (replicate k 0) (replicate (3 * k) 0) (replicate k 0)
+room-within k Z l =
+    let e = length-replicate {A = ℕ} (3 * k) 0 in
     record {
-      originRoom = omega arith;
-      partnerRoom = omega arith;
-      headRoom = zeroed k v b;
-      nextRoom = omega arith;
-      slotRoom = zeroed k v b;
+      originRoom = omega (arith, Z .size);
+      partnerRoom = omega (arith, Z .size);
+      headRoom = zeroed k _ (omega (arith, Z .size));
+      nextRoom = omega (arith, Z .size);
+      slotRoom = zeroed k _ (omega (arith, Z .size));
     }
+
+-- Room for the sides of every cage, whatever it holds, and zeros for its vertices.
+pub greatest-room : {bytes o p x : List ℕ} {v f : ℕ} → Sized bytes v f → 196608 ≡ length o → 196608 ≡ length p
+    → 196608 ≡ length x → WorkingRoom v f o p (replicate 32768 0) x (replicate 32768 0)
+greatest-room Z a b e = record {
+  originRoom = omega (arith, Z .fewTriangles);
+  partnerRoom = omega (arith, Z .fewTriangles);
+  headRoom = zeroed 32768 _ (Z .fewVertices);
+  nextRoom = omega (arith, Z .fewTriangles);
+  slotRoom = zeroed 32768 _ (Z .fewVertices);
+}

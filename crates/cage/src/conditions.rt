@@ -8,8 +8,8 @@ ghost use Rattle.rules.specs.Cage.{sizesFit, cornersFit};
 ghost use Rattle.rules.specs.Numbers.{numberAt, signed, inRange};
 ghost use Rattle.rules.specs.Tables.{topologyOf, meshOf};
 ghost use Rattle.cage.specs.Decoded.{decoded, cornerFits};
-use crate::sides::next;
-use crate::sides::wide;
+use crate::wide;
+use tables::sides::next;
 
 // Whether the cage is as long as its sizes say, and these are at least 1 and within the slots.
 // In 64 bits nothing wraps.

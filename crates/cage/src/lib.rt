@@ -11,7 +11,6 @@ ghost use Rattle.cage.specs.Decoded.{Sized, WorkingRoom, Holds};
 
 mod conditions;
 mod pairing;
-mod sides;
 mod writing;
 
 // What a load answers: 0 or the number of the condition that refuses it, and the counts then in use.
@@ -19,6 +18,13 @@ pub struct Loaded {
     pub refusal: u32,
     pub vertices: u32,
     pub triangles: u32,
+}
+
+// The same number, as wide as an index.
+fn wide(x: u32) -> usize
+    ensures { λ r. ⌜ r ≡ x ⌝ }
+{
+    x as usize
 }
 
 // The refusal of a cage whose sizes fit: 3 to 6, or 0 and the cage's origins and partners are held.
@@ -110,6 +116,11 @@ fn finish(
         vertices: v,
         triangles: f,
     }
+}
+
+// Room for the sides of the largest cage. What it holds is not said, so that no proof writes it out.
+fn side_room() -> [u32; 196608] {
+    [0u32; 196608]
 }
 
 // The load with working room for 256 vertices and triangles together.
@@ -251,10 +262,10 @@ fn load_within_98304(
         (topologyOf (r .vertices) (r .triangles) (now (corners .exit)) (now (links .exit)) (now (generations .exit)))
         (now (positions .exit))) ⌝ }
 {
-    let mut origins = [0u32; 196608];
-    let mut partners = [0u32; 196608];
+    let mut origins = side_room();
+    let mut partners = side_room();
     let mut heads = [0u32; 32768];
-    let mut nexts = [0u32; 196608];
+    let mut nexts = side_room();
     let mut slots = [0u32; 32768];
     let v = points::number_at(cage, 0);
     let f = points::number_at(cage, 4);

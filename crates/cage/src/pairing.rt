@@ -4,12 +4,10 @@ ghost use lib.ListN.{length, getD};
 ghost use Rattle.cage.specs.Decoded.{decoded, Readable};
 ghost use Rattle.soundness.specs.Walks.{Zeroed};
 ghost use Rattle.cage.specs.Pairing.{Threads, Stamps, Stamping, Stamped, Stamp, Linking, Paired};
-use crate::sides::next;
-use crate::sides::previous;
-use crate::sides::wide;
-
-// What a side without a partner links to.
-const BOUNDARY: u32 = 4294967295;
+use crate::wide;
+use tables::BOUNDARY;
+use tables::sides::next;
+use tables::sides::previous;
 
 // Threads the sides out of each vertex, from the last to the first.
 // All numbers are one more than a side, and 0 ends a thread.

@@ -1,6 +1,5 @@
 -- `cage::load_within_256` meets its contract.
-use native.Mathlib.Omega.{arith}
-use Rattle.cage.proofs.Room.{sized, working-room}
+use Rattle.cage.proofs.Room.{sized, room-within}
 use borrow.Author.Needs.{needs}
 use Rattle.cage.proofs.load_within_256.Statement.{statement}
 use Rattle.cage.proofs.load_within_256.Tie as tie
@@ -31,7 +30,7 @@ refusal-of-requires c κs =
     let at-f = c .before .before .before .before .before in
     let pre = at-f .before .before .before .before .before .before .pre in
     let Z = sized (pre .0) (pre .1 .0) (at-f .before .number-at .ensures) (at-f .number-at2 .ensures) in
-    (Z, working-room 768 256 _ _ (omega (arith, Z .size)) (omega (arith, Z .size)))
+    (Z, room-within 256 Z (pre .1 .1))
 
 slice-aggregate-finish : tie.Need-slice-aggregate-finish
 slice-aggregate-finish c = search needs
