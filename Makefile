@@ -8,7 +8,7 @@
 RT := $(shell command -v rt || echo /opt/rattle/bin/rt)
 SECONDS := 600
 SEED := 1
-CARGO = RAWPLINTH_LIB=$(CURDIR)/target/staticlib cargo
+CARGO = RAWPLINTH_LIB='$(CURDIR)/target/staticlib' cargo
 TWIN = --release --quiet --manifest-path twin/Cargo.toml --target-dir target/twin
 
 .PHONY: test run lib example twin soak bench

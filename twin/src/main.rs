@@ -46,7 +46,7 @@ use rng::Rng;
 use tables::Service;
 use twin::Twin;
 
-/// A call of the library needs at most 4 MB of stack.
+/// A call of the library needs at most 3 MB of stack.
 const STACK: usize = 16 << 20;
 
 fn main() -> ExitCode {

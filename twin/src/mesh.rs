@@ -107,8 +107,8 @@ impl Mesh {
         leaving
     }
 
-    /// The fan round a vertex, as the sides out of it: from the rim if it is there, else from the lowest slot; across the
-    /// side into the vertex each time; until the first triangle or the rim.
+    /// The fan round a vertex, as the sides out of it: from the boundary if it is there, else from the lowest slot; across the
+    /// side into the vertex each time; until the first triangle or the boundary.
     pub fn fan(&self, leaving: &[Side]) -> Vec<Side> {
         let at_boundary = leaving.iter().find(|&&side| self.across(side).is_none());
         let lowest = self.fault.unless(Fault::RingFromHighestSlot, leaving.first(), leaving.last());
@@ -129,7 +129,7 @@ impl Mesh {
         fan
     }
 
-    /// The ring: the targets of the fan, and at the rim the last triangle's other neighbour.
+    /// The ring: the targets of the fan, and at the boundary the last triangle's other neighbour.
     pub fn ring(&self, leaving: &[Side]) -> Vec<usize> {
         let fan = self.fan(leaving);
         let mut ring: Vec<usize> = fan.iter().map(|&side| self.ends(side)[1]).collect();

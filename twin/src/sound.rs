@@ -67,7 +67,7 @@ pub fn corners_fit(mesh: &Mesh) -> bool {
     })
 }
 
-/// Links lead to the rim, or to a side in use that runs back and links back.
+/// Links lead to the boundary, or to a side in use that runs back and links back.
 fn link_is_sound(mesh: &Mesh, side: Side) -> bool {
     let Some(partner) = mesh.across(side) else {
         return true;

@@ -2,6 +2,11 @@
 use libc::STDOUT_FILENO;
 use mesh::Worked;
 use tables::Counts;
+ghost use mathlib.Core.Path.{_≡_};
+ghost use Prim.Native.Nat.{_/_};
+ghost use lib.ListN.{length};
+ghost use Rattle.tables.specs.Lent.{meshNow};
+ghost use Rattle.refine.specs.Requests.{afterRequests};
 
 // The counts after some requests, and whether there may be more.
 struct Answered {
@@ -54,7 +59,12 @@ fn answer(
     generations: &mut [u8],
     counts: Counts,
     requests: &[u8],
-) -> Counts {
+) -> Counts
+    ensures { λ r. ⌜
+        meshNow r (now (positions .exit)) (now (corners .exit)) (now (links .exit)) (now (generations .exit))
+        ≡ afterRequests (length (now (requests .entry)) / 4) (now (requests .entry)) (meshNow counts
+        (now (positions .entry)) (now (corners .entry)) (now (links .entry)) (now (generations .entry))) ⌝ }
+{
     let mut at = counts;
     let mut i: usize = 0;
     while i < requests.len() / 4 {

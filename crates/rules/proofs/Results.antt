@@ -39,36 +39,42 @@ sound-test m = (sound-is m .holds, sound-is m .passes)
 
 -- ---- numbers (Face split and flip; Whole step)
 
--- The nearest third of s is the one whole number q with |3 q - s| ≤ 1.
+-- The nearest third of s is a whole number q with |3 q - s| ≤ 1.
 pub third-near : (s : ℤ) → natAbs (pos 3 *ℤ nearestThird s -ℤ s) ≤ 1
 third-near = nearest-third
 
+-- There is no other.
 pub third-only : (s q : ℤ) → natAbs (pos 3 *ℤ q -ℤ s) ≤ 1 → q ≡ nearestThird s
 third-only = nearest-third-only
 
--- Half up gives the nearest whole number, and only that.
+-- Half up gives the nearest whole number, the upper of two.
 pub half-up-near : (n : ℤ) {d : ℕ} → 0 < d → Nearest n d (halfUp n d)
 half-up-near = half-up-nearest
 
+-- There is no other.
 pub half-up-only : (n q : ℤ) (d : ℕ) → Nearest n d q → q ≡ halfUp n d
 half-up-only = half-up-alone
 
 -- ---- refusals (Refused inputs)
 
--- The number that a call returns is that of the first condition, in its order, that holds, and 0 where none does.
+-- A load returns the number of the first condition, in its order, that holds, and 0 where none does.
 pub load-returns : (bytes : List ℕ) (m : Mesh) → First (loadConditions bytes m) (loadCall bytes m .refusal)
 load-returns = load-refusal
 
+-- So does a refine.
 pub refine-returns : (t : ℕ) (m : Mesh) → First (refineConditions t m) (refineCall t m .refusal)
 refine-returns = refine-refusal
 
+-- So does a whole step.
 pub whole-step-returns : (m : Mesh) → First (wholeStepConditions m) (wholeStepCall m .refusal)
 whole-step-returns = whole-step-refusal
 
+-- So does a ring query.
 pub ring-returns : (v : ℕ) (buffer : List ℕ) (m : Mesh)
     → First (ringConditions v buffer m) (ringCall v buffer m .refusal)
 ring-returns = ring-refusal
 
+-- So does a position query.
 pub position-returns : (v : ℕ) (m : Mesh) → First (positionConditions v m) (positionCall v m .refusal)
 position-returns = position-refusal
 

@@ -71,7 +71,7 @@ fn whole_step_on_the_tetrahedron_gives_p11_and_p12() {
 }
 
 #[test]
-fn reading_b2_an_even_triangle_may_rise_by_two() {
+fn an_even_triangle_may_rise_by_two() {
     let upper = [[0, 1, 2], [0, 2, 3], [0, 3, 4], [0, 4, 1]];
     let lower = [[2, 1, 5], [3, 2, 5], [4, 3, 5], [1, 4, 5]];
     let octahedron = Cage::of([upper, lower].concat());
@@ -81,7 +81,7 @@ fn reading_b2_an_even_triangle_may_rise_by_two() {
 }
 
 #[test]
-fn reading_b3_the_even_triangle_across_may_stand_in_another_slot() {
+fn the_even_triangle_across_may_stand_in_another_slot() {
     let expected = "0 0 0 4 4\n0 1 0 5 6\n0 1 1 6 8\n0 1 0 7 10\n0 2 3 9 14\n";
     assert_eq!(lines(&cages::tetrahedron(), &[0, 3, 7, 9]), expected);
     let store = after_requests(&cages::tetrahedron(), &[0, 3, 7, 9]);
@@ -91,7 +91,7 @@ fn reading_b3_the_even_triangle_across_may_stand_in_another_slot() {
 }
 
 #[test]
-fn reading_b6_links_are_no_function_of_the_corners() {
+fn links_are_no_function_of_the_corners() {
     let store = after_requests(&cages::foil(), &[0, 1]);
     let sides = (0..18).filter(|&side: &usize| {
         let ends = [side, side - side % 3 + (side + 1) % 3].map(|corner| store.tables.corners[corner]);

@@ -1,0 +1,2 @@
+-- What the contracts of the program cite beside the rules.
+pub mod Requests
