@@ -1,5 +1,5 @@
 -- The first refusal of a call, found test by test.
-use borrow.Author.Tests.{not-true, not-false, le-leb, lt-leb, lt-ltb, le-ltb}
+use borrow.Author.Tests.{not-true, not-false, leb-false, le-leb, lt-leb, lt-ltb, le-ltb}
 use mathlib.Core.Bool.{Bool, true, false, not}
 use mathlib.Core.List.{List, [], _∷_}
 use mathlib.Core.Logic.{_≢_}
@@ -58,48 +58,112 @@ module _ (m : Mesh) (r : Bool) (a : r ≡ tablesAgree m) where
 
 -- ---- refine
 
+-- The same with four tests before the rest.
+four-kept : (a b d e : Bool) (rest : List Test) (r : ℕ) → r ≡ firstOf (1 if a ∷ 7 if b ∷ 8 if d ∷ 9 if e ∷ []) → r ≢ 0
+    → r ≡ firstOf (1 if a ∷ 7 if b ∷ 8 if d ∷ 9 if e ∷ rest)
+four-kept true b d e rest r q x = q
+four-kept false true d e rest r q x = q
+four-kept false false true e rest r q x = q
+four-kept false false false true rest r q x = q
+four-kept false false false false rest r q x = absurd (x q)
+
+four-passed : (a b d e : Bool) (rest : List Test) (r : ℕ) → r ≡ firstOf (1 if a ∷ 7 if b ∷ 8 if d ∷ 9 if e ∷ [])
+    → r ≡ 0 → firstOf (1 if a ∷ 7 if b ∷ 8 if d ∷ 9 if e ∷ rest) ≡ firstOf rest
+four-passed true b d e rest r q z = absurd (omega arith)
+four-passed false true d e rest r q z = absurd (omega arith)
+four-passed false false true e rest r q z = absurd (omega arith)
+four-passed false false false true rest r q z = absurd (omega arith)
+four-passed false false false false rest r q z = refl
+
 module _ (t : ℕ) (m : Mesh) where
-  rest : List Test
-  rest =
-      8 if leb (m .topology .triangles) t
+  -- The tests of the triangle, with those before them.
+  abbrev triangleRefusal : ℕ
+  triangleRefusal =
+      firstOf (
+      1 if not (tablesAgree m)
+      ∷ 7 if not (isSound m)
+      ∷ 8 if leb (m .topology .triangles) t
       ∷ 9 if eqb (generation (m .topology) t) 20
-      ∷ 10 if odd (generation (m .topology) (chainEnd (m .topology) t))
+      ∷ []
+      )
+
+  pub triangle-standing : (r : ℕ) → r ≡ standing m → r ≢ 0 → r ≡ triangleRefusal
+  triangle-standing r =
+      two-kept (not (tablesAgree m)) (not (isSound m))
+      (8 if leb (m .topology .triangles) t ∷ 9 if eqb (generation (m .topology) t) 20 ∷ []) r
+
+  -- The refusal by the answers of the tests. A test that was not made stands for itself.
+  module _ (r : ℕ) (s : r ≡ standing m) (z : r ≡ 0) where
+    triangle-by-tests : {a b : Bool} → leb (m .topology .triangles) t ≡ a → eqb (generation (m .topology) t) 20 ≡ b
+        → firstOf (8 if a ∷ 9 if b ∷ []) ≡ triangleRefusal
+    triangle-by-tests a b =
+        sym (two-passed (not (tablesAgree m)) (not (isSound m))
+        (8 if leb (m .topology .triangles) t ∷ 9 if eqb (generation (m .topology) t) 20 ∷ []) r s z ∙ rw (b, a))
+
+    pub triangle-eight : leb (m .topology .triangles) t ≡ true → 8 ≡ triangleRefusal
+    triangle-eight a = triangle-by-tests a refl
+
+    module _ (a : leb (m .topology .triangles) t ≡ false) where
+      pub triangle-nine : eqb (generation (m .topology) t) 20 ≡ true → 9 ≡ triangleRefusal
+      triangle-nine b = triangle-by-tests a b
+
+      pub triangle-none : eqb (generation (m .topology) t) 20 ≡ false → 0 ≡ triangleRefusal
+      triangle-none b = triangle-by-tests a b
+
+  -- The tests of the base chain come after them.
+  abbrev chainTests : List Test
+  chainTests =
+      10 if odd (generation (m .topology) (chainEnd (m .topology) t))
       ∷ 11 if not (roomFor (splitsOf (m .topology) t) m)
       ∷ []
 
-  pub refine-standing : (r : ℕ) → r ≡ standing m → r ≢ 0 → r ≡ refineRefusal t m
-  unfolding refineRefusal rest
-  refine-standing r = two-kept (not (tablesAgree m)) (not (isSound m)) rest r
+  module _ (r : ℕ) (e : r ≡ triangleRefusal) where
+    pub refine-triangle : r ≢ 0 → r ≡ refineRefusal t m
+    unfolding refineRefusal
+    refine-triangle =
+        four-kept (not (tablesAgree m)) (not (isSound m)) (leb (m .topology .triangles) t)
+        (eqb (generation (m .topology) t) 20) chainTests r e
 
-  module _ (r : ℕ) (s : r ≡ standing m) (z : r ≡ 0) where
-    passed : refineRefusal t m ≡ firstOf rest
-    unfolding refineRefusal rest
-    passed = two-passed (not (tablesAgree m)) (not (isSound m)) rest r s z
+    module _ (z : r ≡ 0) where
+      pub refine-chain : (q : ℕ) → q ≡ firstOf chainTests → q ≡ refineRefusal t m
+      unfolding refineRefusal
+      refine-chain q f =
+          f
+          ∙ sym (four-passed (not (tablesAgree m)) (not (isSound m)) (leb (m .topology .triangles) t)
+          (eqb (generation (m .topology) t) 20) chainTests r e z)
 
-    -- The refusal by the answers of the later tests. A test that was not made stands for itself.
-    by-tests : {a b d e : Bool} → leb (m .topology .triangles) t ≡ a → eqb (generation (m .topology) t) 20 ≡ b
-        → odd (generation (m .topology) (chainEnd (m .topology) t)) ≡ d → roomFor (splitsOf (m .topology) t) m ≡ e
-        → firstOf (8 if a ∷ 9 if b ∷ 10 if d ∷ 11 if not e ∷ []) ≡ refineRefusal t m
-    unfolding rest
-    by-tests a b d e = sym (passed ∙ rw (e, d, b, a))
+      -- The base chain of t is then no longer than there are generations.
+      pub refine-young : generation (m .topology) t ≤ 20
+      refine-young = go (tablesAgree m) (isSound m) (sound-is m) (leb (m .topology .triangles) t) refl (sym e ∙ z)
+        where
+          go : (a b : Bool) → Decides b (Sound m) → (d : Bool) → leb (m .topology .triangles) t ≡ d
+              → firstOf (
+              1 if not a
+              ∷ 7 if not b
+              ∷ 8 if d
+              ∷ 9 if eqb (generation (m .topology) t) 20
+              ∷ []
+              ) ≡ 0
+              → generation (m .topology) t ≤ 20
+          go true true s false f q = s .holds tt .generations t (leb-false _ _ f)
+          go true true s true f q = absurd (omega arith)
+          go true false s d f q = absurd (omega arith)
+          go false b s d f q = absurd (omega arith)
 
-    pub refine-eight : leb (m .topology .triangles) t ≡ true → 8 ≡ refineRefusal t m
-    refine-eight a = by-tests a refl refl refl
+-- The answers of the two tests of a chain.
+module _ (m : Mesh) (v s : ℕ) where
+  abbrev chainRefusal : ℕ
+  chainRefusal = firstOf (10 if odd (generation (m .topology) v) ∷ 11 if not (roomFor s m) ∷ [])
 
-    module _ (a : leb (m .topology .triangles) t ≡ false) where
-      pub refine-nine : eqb (generation (m .topology) t) 20 ≡ true → 9 ≡ refineRefusal t m
-      refine-nine b = by-tests a b refl refl
+  pub chain-ten : odd (generation (m .topology) v) ≡ true → 10 ≡ chainRefusal
+  chain-ten a = rw a
 
-      module _ (b : eqb (generation (m .topology) t) 20 ≡ false) where
-        pub refine-ten : odd (generation (m .topology) (chainEnd (m .topology) t)) ≡ true → 10 ≡ refineRefusal t m
-        refine-ten d = by-tests a b d refl
+  module _ (a : odd (generation (m .topology) v) ≡ false) where
+    pub chain-eleven : roomFor s m ≡ false → 11 ≡ chainRefusal
+    chain-eleven b = rw (a, b)
 
-        module _ (d : odd (generation (m .topology) (chainEnd (m .topology) t)) ≡ false) where
-          pub refine-eleven : roomFor (splitsOf (m .topology) t) m ≡ false → 11 ≡ refineRefusal t m
-          refine-eleven e = by-tests a b d e
-
-          pub refine-none : roomFor (splitsOf (m .topology) t) m ≡ true → 0 ≡ refineRefusal t m
-          refine-none e = by-tests a b d e
+    pub chain-none : roomFor s m ≡ true → 0 ≡ chainRefusal
+    chain-none b = rw (a, b)
 
 -- ---- whole step
 

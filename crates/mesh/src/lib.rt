@@ -1,14 +1,16 @@
 // The public calls. None asks anything of its caller: what cannot be done is refused, and then nothing lent is written.
 use points::Point;
+use split::Chain;
 use tables::Counts;
 ghost use mathlib.Core.Path.{_≡_};
 ghost use mathlib.Core.List.{List, [], _∷_};
 ghost use mathlib.Core.Bool.{not};
 ghost use Prim.Native.Nat.{ℕ, _+_, _*_, max};
+ghost use lib.Dec.{eqb, leb};
 ghost use lib.ListN.{length};
-ghost use Rattle.rules.specs.Calls.{firstOf, _if_, loadCall, refineRefusal, refineCall, wholeStepCall, ringCall, positionCall, positionRefusal};
+ghost use Rattle.rules.specs.Calls.{firstOf, _if_, roomFor, loadCall, refineCall, wholeStepCall, ringCall, positionCall, positionRefusal};
 ghost use Rattle.rules.specs.Sound.{isSound};
-ghost use Rattle.rules.specs.Tables.{tablesAgree};
+ghost use Rattle.rules.specs.Tables.{tablesAgree, generation, odd};
 ghost use Rattle.tables.specs.Lent.{meshNow};
 ghost use Rattle.mesh.specs.Answers.{workedOutcome, FoundFor, ringOutcome, positionOutcome};
 
@@ -91,8 +93,8 @@ pub fn load(
     }
 }
 
-// The refusal of a refine, or 0.
-fn refine_refusal(
+// The refusal of a refine by the mesh and the triangle, or 0.
+fn triangle_refusal(
     positions: &[i32],
     corners: &[u32],
     links: &[u32],
@@ -100,7 +102,9 @@ fn refine_refusal(
     counts: Counts,
     t: u32,
 ) -> u32
-    ensures { λ r. ⌜ r ≡ refineRefusal t (meshNow counts (now (positions .entry)) (now (corners .entry)) (now (links .entry)) (now (generations .entry))) ⌝ }
+    ensures { λ r. ⌜ (let m = meshNow counts (now (positions .entry)) (now (corners .entry)) (now (links .entry)) (now (generations .entry)) in
+        r ≡ firstOf (1 if not (tablesAgree m) ∷ 7 if not (isSound m)
+        ∷ 8 if leb (m .topology .triangles) t ∷ 9 if eqb (generation (m .topology) t) 20 ∷ [])) ⌝ }
 {
     let bad = not_sound(positions, corners, links, generations, counts);
     if bad != 0 {
@@ -112,7 +116,16 @@ fn refine_refusal(
     if tables::generation_at(generations, t) == 20 {
         return 9;
     }
-    let chain = split::base_chain(links, generations, t);
+    0
+}
+
+// The refusal of a refine by the base chain of its triangle, or 0.
+fn chain_refusal(positions: &[i32], generations: &[u8], counts: Counts, chain: Chain) -> u32
+    ensures { λ r. ⌜ ((corners links : List ℕ) →
+        let m = meshNow counts (now (positions .entry)) corners links (now (generations .entry)) in
+        r ≡ firstOf (10 if odd (generation (m .topology) (chain .end))
+        ∷ 11 if not (roomFor (max 1 (chain .odd)) m) ∷ [])) ⌝ }
+{
     if tables::generation_at(generations, chain.end) % 2 == 1 {
         return 10;
     }
@@ -135,7 +148,17 @@ pub fn refine(
         workedOutcome r (now (positions .exit)) (now (corners .exit)) (now (links .exit)) (now (generations .exit))
         ≡ refineCall t (meshNow counts (now (positions .entry)) (now (corners .entry)) (now (links .entry)) (now (generations .entry))) ⌝ }
 {
-    let refusal = refine_refusal(positions, corners, links, generations, counts, t);
+    let bad = triangle_refusal(positions, corners, links, generations, counts, t);
+    if bad != 0 {
+        return Worked {
+            refusal: bad,
+            splits: 0,
+            flips: 0,
+            counts,
+        };
+    }
+    let chain = split::base_chain(links, generations, t);
+    let refusal = chain_refusal(positions, generations, counts, chain);
     if refusal != 0 {
         return Worked {
             refusal,
@@ -144,16 +167,7 @@ pub fn refine(
             counts,
         };
     }
-    let chain = split::base_chain(links, generations, t);
-    let done = split::refine(
-        positions,
-        corners,
-        links,
-        generations,
-        counts,
-        t,
-        chain.splits(),
-    );
+    let done = split::refine(positions, corners, links, generations, counts, t, chain);
     Worked {
         refusal: 0,
         splits: done.splits,

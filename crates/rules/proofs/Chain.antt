@@ -188,7 +188,7 @@ Shorter m n x (suc (suc j)) =
 module _ (v g p r : ℕ) (m n : Topology) (F : Manifold m) (K : BasesMeetIn nowhere m) (b : v < m .triangles)
     (fit : Splittable m v) (S : CutResult v g p r m n) where
   -- A base chain that goes on does not go on from v, unless v is even.
-  not-v : (x : ℕ) → generation m x % 2 ≡ 1 → link m (3 * x) ≢ boundary → x ≢ v
+  pub not-v : (x : ℕ) → generation m x % 2 ≡ 1 → link m (3 * x) ≢ boundary → x ≢ v
   not-v x o q e = omega (arith, even-of fit, ap (generation m) e)
 
   -- x and its base's partner are left: the base goes on meeting it.
@@ -227,7 +227,7 @@ module _ (v g p r : ℕ) (m n : Topology) (F : Manifold m) (K : BasesMeetIn nowh
   hit x l o q d = S .moved x l (not-v x o q) d .1
 
   -- A triangle further up is left.
-  left : (x : ℕ) → x < m .triangles → generation m x % 2 ≡ 1 → link m (3 * x) ≢ boundary
+  pub left : (x : ℕ) → x < m .triangles → generation m x % 2 ≡ 1 → link m (3 * x) ≢ boundary
       → link m (3 * x) / 3 ≢ v → generation n x ≡ generation m x
   left x l o q ne = go (ℕ-discrete (generation n x) (generation m x))
     where

@@ -22,6 +22,7 @@ pub mod Odds
 pub mod FaceSplit
 pub mod Runs
 pub mod Chain
+pub mod Remembered
 pub mod Raise
 pub mod FiveKinds
 pub mod Relaxed

@@ -1,8 +1,10 @@
 -- Refine as a counted loop: as many face splits as t takes, each at the end that its base chain has then.
-use mathlib.Core.Path.{_≡_, refl, sym, _∙_, subst}
+use mathlib.Core.Path.{_≡_, refl, sym, ap, _∙_, subst}
 use mathlib.Core.Bool.{Bool, true, false}
+use mathlib.Core.List.{List}
 use Prim.Native.Nat.{ℕ, zero, suc, _+_, _*_, _/_, _%_, _≤_, _<_, max}
 use native.Mathlib.Omega.{arith}
+use lib.ListN.{getD}
 use Rattle.rules.proofs.Bases.{reached}
 use Rattle.rules.proofs.Carried.{RefineFound}
 use Rattle.rules.proofs.Chain.{Path, ends, across, path-end, topOf, path-use, path-high, path-fit, Shorter}
@@ -12,6 +14,7 @@ use Rattle.rules.proofs.Manifold.{Manifold, BasesMeetIn}
 use Rattle.rules.proofs.Raise.{raise-stops, raise-splits, room-rest}
 use Rattle.rules.proofs.Refine.{sound-room, chain-path, chain-bound}
 use Rattle.rules.proofs.Relaxed.{SameSlots, sound-manifold, sound-bases, agree-on}
+use Rattle.rules.proofs.Remembered.{chainAt, path-odd, path-none, path-last, path-within, places-stay}
 use Rattle.rules.proofs.Runs.{Splittable, isEven, even-of}
 use Rattle.rules.proofs.Settled.{nowhere}
 use Rattle.rules.specs.Calls.{splitsOf}
@@ -113,6 +116,60 @@ ahead-on {k} {g} {t} {w} A =
       rising = rising-on k (L .odd) g t m x (S .manifold) (S .basesMeet (A .basesMeet)) l (A .rising .0) (L .splits) s;
     }
 
+-- ---- what stays of the chain
+
+-- v lies across the base of x.
+pub record Across (x v : ℕ) (m : Topology) : Type 0 where
+  pub inUse : x < m .triangles
+  pub next : v ≡ link m (3 * x) / 3
+
+-- The odd triangles of a chain are as many as the splits ahead, where these are two or more, or where t is odd.
+path-of-two : {k g t : ℕ} {w : Work} → Ahead (suc (suc k)) g t w
+    → Path (reached w) t (chainEnd (reached w) t) (suc (suc k))
+path-of-two {k} {t = t} {w = w} A =
+    let L = A .rising .1 in
+    let e : L .odd ≡ suc (suc k) = omega (arith, L .splits) in
+    subst (Path (reached w) t (chainEnd (reached w) t)) e (L .path)
+
+path-of-odd : {k g t : ℕ} {w : Work} → Ahead (suc k) g t w → generation (reached w) t % 2 ≡ 1
+    → Path (reached w) t (chainEnd (reached w) t) (suc k)
+path-of-odd {k} {t = t} {w = w} A o = go (L .odd) (L .path) (L .splits)
+  where
+    L : Leads (suc k) t (reached w)
+    L = A .rising .1
+
+    go : (n : ℕ) → Path (reached w) t (chainEnd (reached w) t) n → max 1 n ≡ suc k
+        → Path (reached w) t (chainEnd (reached w) t) (suc k)
+    go zero p e = absurd (omega (arith, o, even-of (path-fit p), ap (generation (reached w)) (path-none p)))
+    go (suc n) p e =
+        let q : suc n ≡ suc k = omega arith in subst (Path (reached w) t (chainEnd (reached w) t)) q p
+
+-- The places of those that a split leaves stay.
+ahead-stays : {g t : ℕ} {w : Work} (k : ℕ) → Ahead (suc k) g t w → (i : ℕ) → i < k
+    → chainAt i (reached (faceSplit (chainEnd (reached w) t) w)) t ≡ chainAt i (reached w) t
+ahead-stays zero A i b = absurd (omega arith)
+ahead-stays {t = t} {w = w} (suc k) A i b =
+    let E = ahead-end A in
+    places-stay (chainEnd (reached w) t) _ _ _ (reached w) (reached (faceSplit (chainEnd (reached w) t) w))
+    (A .manifold) (A .basesMeet) (E .inUse) (isEven (E .even)) (ahead-splitting A .result) t i k (A .inUse)
+    (path-of-two A) (omega arith)
+
+-- The chain then ends across the base of the last of them.
+ahead-across : {k g t : ℕ} {w : Work} → Ahead (suc (suc k)) g t w →
+    let x = reached (faceSplit (chainEnd (reached w) t) w) in
+    Across (chainAt k (reached w) t) (chainEnd x t) x
+unfolding chainAt
+ahead-across {k} {t = t} {w = w} A =
+    let B = ahead-on A in
+    let x : Topology = reached (faceSplit (chainEnd (reached w) t) w) in
+    let o : generation x t % 2 ≡ 1 =
+    ap (λ (g : ℕ). g % 2) (B .rising .0 ∙ sym (A .rising .0)) ∙ path-odd (path-of-two A) in
+    let p = path-of-odd B o in
+    subst (λ (y : ℕ). Across y (chainEnd x t) x) (ahead-stays (suc k) A k (omega arith)) (record {
+      inUse = path-within k 1 (B .manifold) (B .basesMeet) (B .inUse) (omega arith) p;
+      next = path-last p;
+    })
+
 -- ---- refine is that loop
 
 raise-is-split-ends : {g t : ℕ} (k n : ℕ) (w : Work) → k ≤ n → Ahead k g t w → raise n g t w ≡ splitEnds k t w
@@ -143,15 +200,16 @@ face-split-counts t w =
     let b : Work = settle t a in
     omega (arith, settle-counts t a, settle-counts f b, settle-counts (f + 1) (settle f b))
 
--- Refining t in m, at work w, with some splits left.
-pub record Refining (t : ℕ) (m : Mesh) (w : Work) : Type 0 where
-  pub left : ℕ
+-- Refining t in m, at work w, with some splits left. The slots hold the chain's odd triangles but the last: the splits
+-- after the next lie across their bases.
+pub record Refining (t : ℕ) (m : Mesh) (slots : List ℕ) (left : ℕ) (w : Work) : Type 0 where
   pub ahead : Ahead left (generation (m .topology) t) t w
   pub result : splitEnds left t w ≡ refine t (atFirst m)
   pub splits : w .splits + left ≡ splitsOf (m .topology) t
   pub flips : w .flips ≤ 3 * w .splits
   pub vertices : reached w .vertices + left ≤ vertexSlots m
-  pub slots : SameSlots m (w .mesh)
+  pub room : SameSlots m (w .mesh)
+  pub remembered : (i : ℕ) → suc i < left → getD slots i 0 ≡ chainAt i (reached w) t
 
 -- What the next split of v finds.
 pub record NextSplit (v : ℕ) (w : Work) : Type 0 where
@@ -191,71 +249,61 @@ module _ {t : ℕ} {m : Mesh} (R : RefineFound t m) where
   pub few-splits : splitsOf (m .topology) t ≤ 10
   few-splits = omega (arith, chain-bound t m (R .sound) (R .inUse) (R .evenEnd), R .young)
 
-  pub refining-begins : Refining t m (atFirst m)
-  refining-begins = record {
-    left = splitsOf (m .topology) t;
-    ahead = ahead;
-    result = sym refine-is-split-ends;
-    splits = omega arith;
-    flips = omega arith;
-    vertices = R .room .vertices;
-    slots = record { positions = refl; corners = refl; links = refl; generations = refl };
-  }
+  module _ {slots : List ℕ} where
+    pub refining-begins : ((i : ℕ) → i < chainOdd (m .topology) t → getD slots i 0 ≡ chainAt i (m .topology) t)
+        → Refining t m slots (splitsOf (m .topology) t) (atFirst m)
+    refining-begins f = record {
+      ahead = ahead;
+      result = sym refine-is-split-ends;
+      splits = omega arith;
+      flips = omega arith;
+      vertices = R .room .vertices;
+      room = record { positions = refl; corners = refl; links = refl; generations = refl };
+      remembered = λ i b. f i (omega arith);
+    }
 
-  module _ {w : Work} (N : Refining t m w) where
-    -- No split is left where the count is full.
-    pub refining-ends : splitsOf (m .topology) t ≤ w .splits → w ≡ refine t (atFirst m)
+    pub refining-ends : {w : Work} → Refining t m slots 0 w → w ≡ refine t (atFirst m)
     unfolding splitEnds
-    refining-ends i = subst (λ (k : ℕ). splitEnds k t w ≡ refine t (atFirst m)) none (N .result)
-      where
-        none : N .left ≡ 0
-        none = omega (arith, N .splits)
+    refining-ends N = N .result
 
-    module _ (i : w .splits < splitsOf (m .topology) t) where
-      more : (k : ℕ) × (N .left ≡ suc k)
-      more = go (N .left) refl
-        where
-          go : (l : ℕ) → N .left ≡ l → (k : ℕ) × (N .left ≡ suc k)
-          go zero e = absurd (omega (arith, N .splits))
-          go (suc k) e = (k, e)
-
-      ahead-now : Ahead (suc (more .0)) (generation (m .topology) t) t w
-      ahead-now = subst (λ (k : ℕ). Ahead k (generation (m .topology) t) t w) (more .1) (N .ahead)
-
+    module _ {k : ℕ} {w : Work} (N : Refining t m slots (suc k) w) where
       pub refining-next : NextSplit (chainEnd (reached w) t) w
       refining-next =
-          let E = ahead-end ahead-now in
+          let E = ahead-end (N .ahead) in
           record {
-            tables = agree-on (R .sound .tables) (N .slots);
+            tables = agree-on (R .sound .tables) (N .room);
             inUse = E .inUse;
             young = omega (arith, E .young, R .young);
             room = record {
-              vertices = omega (arith, N .vertices, more .1);
-              triangles = omega (arith, ahead-now .room .generations);
+              vertices = omega (arith, N .vertices);
+              triangles = omega (arith, N .ahead .room .generations);
             };
           }
 
-      pub refining-counts : faceSplit (chainEnd (reached w) t) w .splits ≡ suc (w .splits)
-      refining-counts = ahead-splitting ahead-now .splits
-
-      pub refining-on : Refining t m (faceSplit (chainEnd (reached w) t) w)
+      pub refining-on : Refining t m slots k (faceSplit (chainEnd (reached w) t) w)
       unfolding splitEnds
       refining-on =
           let v : ℕ = chainEnd (reached w) t in
-          let X = ahead-splitting ahead-now in
+          let X = ahead-splitting (N .ahead) in
           let S = X .result in
-          let L = N .slots in
+          let L = N .room in
           record {
-            left = more .0;
-            ahead = ahead-on ahead-now;
-            result = subst (λ (k : ℕ). splitEnds k t w ≡ refine t (atFirst m)) (more .1) (N .result);
-            splits = omega (arith, X .splits, N .splits, more .1);
+            ahead = ahead-on (N .ahead);
+            result = N .result;
+            splits = omega (arith, X .splits, N .splits);
             flips = omega (arith, X .splits, N .flips, face-split-counts v w);
-            vertices = omega (arith, S .vertices, N .vertices, more .1);
-            slots = record {
+            vertices = omega (arith, S .vertices, N .vertices);
+            room = record {
               positions = X .places .size ∙ L .positions;
               corners = S .corners ∙ L .corners;
               links = S .links ∙ L .links;
               generations = S .generations ∙ L .generations;
             };
+            remembered = λ i b. N .remembered i (omega arith) ∙ sym (ahead-stays k (N .ahead) i (omega arith));
           }
+
+    -- The split after it is across the base of the last triangle that is remembered.
+    module _ {k : ℕ} {w : Work} (N : Refining t m slots (suc (suc k)) w) where
+      pub refining-across : Across (getD slots k 0) (chainEnd (reached (faceSplit (chainEnd (reached w) t) w)) t)
+          (reached (faceSplit (chainEnd (reached w) t) w))
+      refining-across = rw (N .remembered k (omega arith)) (ahead-across (N .ahead))

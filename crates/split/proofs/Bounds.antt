@@ -8,13 +8,11 @@ use mathlib.Core.Path.{_≡_}
 use lib.ListN.{length, getD, set, List·getD-eq-default}
 use lib.Seq.{getD-set-same, getD-set-other, set-out}
 use Rattle.rules.proofs.Bases.{base-is}
-use Rattle.rules.proofs.Carried.{RefineFound}
 use Rattle.rules.proofs.Decide.{when-true}
-use Rattle.rules.proofs.RefineLoop.{settle-counts, Refining, few-splits, refining-next}
-use Rattle.rules.specs.Calls.{splitsOf}
-use Rattle.rules.specs.Split.{Work, split, flip, withFlip, splitPlaced, settle, chainEnd}
-use Rattle.rules.specs.Tables.{Topology, Mesh, withTopology, link, generation, isBase}
-use Rattle.split.specs.Made.{splitCounted, MaySplit}
+use Rattle.rules.proofs.RefineLoop.{settle-counts}
+use Rattle.rules.specs.Split.{Work, split, flip, withFlip, splitPlaced, settle}
+use Rattle.rules.specs.Tables.{Topology, withTopology, link, generation, isBase}
+use Rattle.split.specs.Made.{splitCounted}
 
 -- A base is a side of a triangle within the table.
 pub base-within : (m : Topology) (h : ℕ) → isBase m h ≡ true → h / 3 < length (m .generations)
@@ -98,18 +96,3 @@ low-settle s {t} {f} {e} {k} {n} {w} a L i ea = rw ea (record {
   at-e = settle-young s e k w i (L .at-e);
   flips = omega (arith, settle-counts s w, L .flips);
 })
-
--- ---- what the next split of a refine asks
-
-pub next-may-split : {t : ℕ} {m : Mesh} {w : Work} → RefineFound t m → Refining t m w
-    → w .splits < splitsOf (m .topology) t → (v : ℕ) → v ≡ chainEnd (w .mesh .topology) t → MaySplit v w
-next-may-split R N i v e =
-    let S = refining-next R N i in
-    rw e (record {
-      tables = S .tables;
-      slot = omega (arith, S .inUse, S .room .triangles);
-      room = S .room;
-      young = omega (arith, S .young);
-      splits = omega (arith, few-splits R);
-      flips = omega (arith, few-splits R, N .flips);
-    })

@@ -1,56 +1,83 @@
 -- The walk along a base chain: what is counted and what is ahead make the whole.
 use Prim.Native.Nat.{ℕ, suc, _+_, _-_, _*_, _/_, _%_, _<_}
-use native.Mathlib.Nat.{add-zero}
+use native.Mathlib.Decide.{ℕ-discrete}
+use native.Mathlib.Numerals.{add-one}
 use native.Mathlib.Omega.{arith}
+use mathlib.Core.List.{List}
 use mathlib.Core.Logic.{_≢_}
-use mathlib.Core.Path.{_≡_, refl, subst}
+use mathlib.Core.Path.{_≡_, refl, sym, ap, _∙_, subst}
+use lib.ListN.{length, getD, set}
+use lib.Seq.{getD-set-same, getD-set-other}
 use borrow.Author.Tests.{eq-eqb, ne-eqb}
 use Rattle.rules.proofs.Decide.{odd-test, even-test}
+use Rattle.rules.proofs.Remembered.{chainAt}
 use Rattle.rules.specs.Split.{chainEndWithin, chainOddWithin, chainEnd, chainOdd}
 use Rattle.rules.specs.Tables.{Topology, link, boundary, generation}
 use Rattle.split.specs.declared.Chain.{Chain}
-use Rattle.split.specs.Made.{chainOf}
+use Rattle.split.specs.Made.{BaseChain}
 
--- On the base chain of t, with some odd triangles counted, and at most left steps ahead from slot end.
-pub record Walking (m : Topology) (t odd end left : ℕ) : Type 0 where
+-- On the base chain of t, with some odd triangles counted and their slots put down, and at most left steps ahead from
+-- slot end.
+pub record Walking (m : Topology) (t odd end left : ℕ) (slots : List ℕ) : Type 0 where
   pub odds : odd + chainOddWithin left m end ≡ chainOdd m t
   pub ends : chainEndWithin left m end ≡ chainEnd m t
+  pub here : end ≡ chainAt odd m t
+  pub before : (i : ℕ) → i < odd → getD slots i 0 ≡ chainAt i m t
+
+-- A base chain from its parts.
+abbrev chain : ℕ → ℕ → List ℕ → Chain
+chain odd end slots = record { odd = odd; end = end; slots = slots }
 
 module _ {m : Topology} {t : ℕ} where
-  pub walk-begins : Walking m t 0 t (generation m t)
-  walk-begins = record { odds = omega arith; ends = refl }
+  pub walk-begins : (slots : List ℕ) → Walking m t 0 t (generation m t) slots
+  unfolding chainAt
+  walk-begins slots = record { odds = omega arith; ends = refl; here = refl; before = λ i b. absurd (omega arith) }
 
   module _ {odd end : ℕ} where
-    -- More odd triangles, and the chain ends here.
-    stops : (left more : ℕ) → Walking m t odd end left → chainOddWithin left m end ≡ more
-        → chainEndWithin left m end ≡ end → _≡_ {A = Chain} (record { odd = odd + more; end = end }) (chainOf m t)
-    stops left more w o e = rw (← w .odds, ← w .ends, o, e)
+    -- No odd triangle is ahead, and the chain ends here.
+    stops : {slots : List ℕ} (left : ℕ) → Walking m t odd end left slots → chainOddWithin left m end ≡ 0
+        → chainEndWithin left m end ≡ end → BaseChain m t (chain odd end slots)
+    stops left w o e = record { odd = omega (arith, w .odds); end = sym e ∙ w .ends; slots = w .before }
 
-    pub walk-ends : Walking m t odd end 0 → _≡_ {A = Chain} (record { odd = odd; end = end }) (chainOf m t)
+    pub walk-ends : {slots : List ℕ} → Walking m t odd end 0 slots → BaseChain m t (chain odd end slots)
     unfolding chainOddWithin chainEndWithin
-    walk-ends w = rw (← add-zero odd) (stops 0 0 w refl refl)
+    walk-ends w = stops 0 w refl refl
 
     -- With a step left.
-    pub walk-more : (left : ℕ) → 0 < left → Walking m t odd end left → Walking m t odd end (suc (left - 1))
-    walk-more left i w = let e : left ≡ suc (left - 1) = omega arith in subst (Walking m t odd end) e w
+    pub walk-more : {slots : List ℕ} (left : ℕ) → 0 < left → Walking m t odd end left slots
+        → Walking m t odd end (suc (left - 1)) slots
+    walk-more {slots} left i w =
+        let e : left ≡ suc (left - 1) = omega arith in subst (λ (k : ℕ). Walking m t odd end k slots) e w
 
-    module _ (k : ℕ) (w : Walking m t odd end (suc k)) where
-      pub walk-even : generation m end % 2 ≡ 0 → _≡_ {A = Chain} (record { odd = odd; end = end }) (chainOf m t)
+    module _ {slots : List ℕ} (k : ℕ) (w : Walking m t odd end (suc k) slots) where
+      pub walk-even : generation m end % 2 ≡ 0 → BaseChain m t (chain odd end slots)
       unfolding chainOddWithin chainEndWithin
-      walk-even e =
-          rw (← add-zero odd)
-          (stops (suc k) 0 w (rw (even-test _ e, chainOddWithin)) (rw (even-test _ e, chainEndWithin)))
+      walk-even e = stops (suc k) w (rw (even-test _ e, chainOddWithin)) (rw (even-test _ e, chainEndWithin))
 
-      module _ (o : generation m end % 2 ≡ 1) where
-        pub walk-boundary : link m (3 * end) ≡ boundary
-            → _≡_ {A = Chain} (record { odd = odd + 1; end = end }) (chainOf m t)
+      module _ (o : generation m end % 2 ≡ 1) (room : odd < length slots) where
+        -- The slot of the odd triangle here is put behind the others.
+        put-slot : (i : ℕ) → i < odd + 1 → getD (set slots odd end) i 0 ≡ chainAt i m t
+        put-slot i b = go (ℕ-discrete i odd)
+          where
+            go : Dec (i ≡ odd) → getD (set slots odd end) i 0 ≡ chainAt i m t
+            go (yes e) = rw (e, getD-set-same slots odd end 0 room) (w .here)
+            go (no n) = rw (getD-set-other slots odd i end 0 n) (w .before i (omega arith))
+
+        pub walk-boundary : link m (3 * end) ≡ boundary → BaseChain m t (chain (odd + 1) end (set slots odd end))
         unfolding chainOddWithin chainEndWithin
         walk-boundary e =
-            stops (suc k) 1 w (rw (odd-test _ o, eq-eqb _ _ e, chainOddWithin))
-            (rw (odd-test _ o, eq-eqb _ _ e, chainEndWithin))
+            let one : chainOddWithin (suc k) m end ≡ 1 = rw (odd-test _ o, eq-eqb _ _ e, chainOddWithin) in
+            let same : chainEndWithin (suc k) m end ≡ end = rw (odd-test _ o, eq-eqb _ _ e, chainEndWithin) in
+            record { odd = omega (arith, w .odds); end = sym same ∙ w .ends; slots = put-slot }
 
-        pub walk-on : link m (3 * end) ≢ boundary → Walking m t (odd + 1) (link m (3 * end) / 3) k
-        unfolding chainOddWithin chainEndWithin
+        pub walk-on : link m (3 * end) ≢ boundary
+            → Walking m t (odd + 1) (link m (3 * end) / 3) k (set slots odd end)
+        unfolding chainOddWithin chainEndWithin chainAt
         walk-on e =
             let n = rw (odd-test _ o, ne-eqb _ _ e, chainOddWithin) at (w .odds) in
-            record { odds = omega arith; ends = rw (odd-test _ o, ne-eqb _ _ e, chainEndWithin) at (w .ends) }
+            record {
+              odds = omega arith;
+              ends = rw (odd-test _ o, ne-eqb _ _ e, chainEndWithin) at (w .ends);
+              here = rw (add-one odd, chainAt) (ap (λ (x : ℕ). link m (3 * x) / 3) (w .here));
+              before = put-slot;
+            }

@@ -1,7 +1,10 @@
 -- What face splits, flips and chains make, as records of the code.
 use Prim.Native.Nat.{ℕ, suc, _+_, _*_, _≤_, _<_}
 use mathlib.Core.List.{List, [], _∷_}
+use mathlib.Core.Path.{_≡_}
 use lib.IntN.{ℤ}
+use lib.ListN.{getD}
+use Rattle.rules.proofs.Remembered.{chainAt}
 use Rattle.rules.specs.Conditions.{RoomFor}
 use Rattle.rules.specs.Split as rules
 use Rattle.rules.specs.Split.{withSplit, splitPlaced, chainEnd, chainOdd}
@@ -72,5 +75,7 @@ flippedOf x y s u =
 -- ---- chains
 
 -- The base chain of t.
-abbrev pub chainOf : Topology → ℕ → Chain
-chainOf m t = record { odd = chainOdd m t; end = chainEnd m t }
+pub record BaseChain (m : Topology) (t : ℕ) (c : Chain) : Type 0 where
+  pub odd : c .odd ≡ chainOdd m t
+  pub end : c .end ≡ chainEnd m t
+  pub slots : (i : ℕ) → i < c .odd → getD (c .slots) i 0 ≡ chainAt i m t

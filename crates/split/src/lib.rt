@@ -4,17 +4,16 @@ use tables::Counts;
 use tables::Triangle;
 ghost use mathlib.Core.List.{List};
 ghost use mathlib.Core.Path.{_≡_};
-ghost use Prim.Native.Nat.{ℕ, _+_, _*_, _≤_, _<_, max};
+ghost use Prim.Native.Nat.{ℕ, _+_, _-_, _*_, _/_, _≤_, _<_, max};
 ghost use lib.IntN.{ℤ};
 ghost use lib.ListN.{length, getD};
 ghost use Rattle.points.specs.Axes.{eachAxis};
 ghost use Rattle.rules.proofs.Carried.{RefineFound};
-ghost use Rattle.rules.specs.Calls.{splitsOf};
 ghost use Rattle.rules.specs.Split.{split, flip, centre, settle, faceSplit, atFirst, refine};
 ghost use Rattle.rules.specs.Tables.{isBase};
 ghost use Rattle.tables.specs.declared.Counts.{Counts};
 ghost use Rattle.tables.specs.Lent.{topologyNow, meshNow, TrianglesAgree, VerticesAgree};
-ghost use Rattle.split.specs.Made.{workNow, splitCounted, MaySplit, childrenOf, flippedOf, chainOf};
+ghost use Rattle.split.specs.Made.{workNow, splitCounted, MaySplit, childrenOf, flippedOf, BaseChain};
 
 // The slots in use, and the face splits and flips made so far.
 pub struct Work {
@@ -24,10 +23,11 @@ pub struct Work {
     pub flips: u32,
 }
 
-// A base chain: its odd triangles and the slot of its last triangle.
+// A base chain: its number of odd triangles, the slot of its last triangle, and the slots of the odd ones in order.
 pub struct Chain {
     pub odd: u32,
     pub end: u32,
+    pub slots: [u32; 20],
 }
 
 impl Chain {
@@ -263,31 +263,46 @@ pub fn face_split(
     settle(corners, links, generations, two, e)
 }
 
-// The base chain of t: from an odd triangle on to the one across its base, until an even one or the boundary.
+// The base chain of t: from an odd triangle on to the one across its base, until an even one or the boundary. Its steps
+// are at most as many as the generation of t says, so that the slots have room.
 pub fn base_chain(links: &[u32], generations: &[u8], t: u32) -> Chain
+    requires { ⌜ getD (now generations) t 0 ≤ 20 ⌝ }
     ensures { λ r. ⌜ ((n : Counts) (corners : List ℕ) →
-        r ≡ chainOf (topologyNow n corners (now (links .entry)) (now (generations .entry))) t) ⌝ }
+        BaseChain (topologyNow n corners (now (links .entry)) (now (generations .entry))) t r) ⌝ }
 {
+    let mut slots: [u32; 20] = [0; 20];
     let mut odd: u32 = 0;
     let mut end = t;
-    let mut left = tables::generation_at(generations, t);
-    while 0 < left {
+    let mut steps = tables::generation_at(generations, t);
+    while 0 < steps {
         if tables::generation_at(generations, end) % 2 == 0 {
             break;
         }
+        let i = odd as usize;
+        slots[i] = end;
         odd += 1;
         let across = tables::base_link(links, end);
         if across == tables::BOUNDARY {
             break;
         }
         end = across / 3;
-        left -= 1;
+        steps -= 1;
     }
-    Chain { odd, end }
+    Chain { odd, end, slots }
 }
 
-// The refinement of t, by as many face splits as it takes. The end of the base chain is found anew for each, as a flip
-// may move what lies across a base to another slot.
+// The triangle across the base of the last of so many odd triangles of a chain.
+fn across_last(links: &[u32], slots: &[u32; 20], odd: u32) -> u32
+    requires { ⌜ (0 < odd) × (odd < 20) × (3 * getD (now slots) (odd - 1) 0 < length (now links)) ⌝ }
+    ensures { λ r. ⌜ r ≡ getD (now (links .entry)) (3 * getD (now (slots .entry)) (odd - 1) 0) 0 / 3 ⌝ }
+{
+    let i = odd as usize - 1;
+    let h = 3 * (slots[i] as usize);
+    links[h] / 3
+}
+
+// The refinement of t, from the end of its base chain upwards. An odd triangle keeps its slot and its place in the chain
+// until it is flipped. What lies across its base is read anew for each split, as a flip may move it to another slot.
 pub fn refine(
     positions: &mut [i32],
     corners: &mut [u32],
@@ -295,24 +310,30 @@ pub fn refine(
     generations: &mut [u8],
     counts: Counts,
     t: u32,
-    splits: u32,
+    chain: Chain,
 ) -> Work
     requires { ⌜ RefineFound t (meshNow counts (now positions) (now corners) (now links) (now generations))
-        × (splits ≡ splitsOf (topologyNow counts (now corners) (now links) (now generations)) t) ⌝ }
+        × BaseChain (topologyNow counts (now corners) (now links) (now generations)) t chain ⌝ }
     ensures { λ r. ⌜
         workNow r (now (positions .exit)) (now (corners .exit)) (now (links .exit)) (now (generations .exit))
         ≡ refine t (atFirst (meshNow counts
         (now (positions .entry)) (now (corners .entry)) (now (links .entry)) (now (generations .entry)))) ⌝ }
 {
+    let slots = chain.slots;
     let mut work = Work {
         vertices: counts.vertices,
         triangles: counts.triangles,
         splits: 0,
         flips: 0,
     };
-    while work.splits < splits {
-        let chain = base_chain(links, generations, t);
-        work = face_split(positions, corners, links, generations, work, chain.end);
+    let mut left = chain.splits();
+    let mut end = chain.end;
+    while 0 < left {
+        work = face_split(positions, corners, links, generations, work, end);
+        left -= 1;
+        if 0 < left {
+            end = across_last(links, &slots, left);
+        }
     }
     work
 }

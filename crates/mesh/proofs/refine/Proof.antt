@@ -1,14 +1,12 @@
 -- `mesh::refine` meets its contract.
 use borrow.Author.Needs.{needs}
-use mathlib.Core.List.{[]}
-use mathlib.Core.Path.{sym, ap, _∙_}
-use Prim.Native.Nat.{max}
+use mathlib.Core.Path.{_≡_, sym, ap, _∙_}
 use Rattle.rules.proofs.Carried.{refine-found}
-use Rattle.rules.specs.Calls.{worked}
-use Rattle.rules.specs.Split as rules
+use Rattle.rules.specs.Calls.{worked, refineRefusal}
 use Rattle.rules.specs.Tables.{Mesh}
 use Rattle.tables.specs.Lent.{meshNow}
-use Rattle.mesh.proofs.Refusing.{refine-refused, refine-carried}
+use Rattle.split.specs.Made.{BaseChain}
+use Rattle.mesh.proofs.Refusing.{refine-triangle, refine-chain, refine-young, refine-refused, refine-carried}
 use Rattle.mesh.proofs.refine.Statement.{statement}
 use Rattle.mesh.proofs.refine.Tie as tie
 
@@ -17,8 +15,28 @@ mesh-of c =
     let args = c .args in
     meshNow (args .counts) (args .positions .now) (args .corners .now) (args .links .now) (args .generations .now)
 
-refine-refusal-requires : tie.Need-refine-refusal-requires
-refine-refusal-requires c κs = search needs
+-- With the base chain tested.
+module _ (c : tie.After-chain-refusal) where
+  abbrev at-chain : tie.After-base-chain
+  at-chain = c .before .before .before
+
+  abbrev at-if1 : tie.Else1
+  at-if1 = at-chain .before .before .before
+
+  abbrev start : tie.Start
+  start = at-if1 .before .before .before .before .before .before .before .before .before
+
+  chain-is : BaseChain (mesh-of start .topology) (start .args .t) (at-chain .base-chain .result)
+  chain-is = at-chain .base-chain .ensures (start .args .counts) (start .args .corners .now)
+
+  refusal-is : c .chain-refusal .result ≡ refineRefusal (start .args .t) (mesh-of start)
+  refusal-is =
+      refine-chain (start .args .t) (mesh-of start) _ (at-if1 .before .triangle-refusal .ensures) (at-if1 .if1 .left) _
+      (rw (← chain-is .odd, ← chain-is .end)
+      (c .chain-refusal .ensures (start .args .corners .now) (start .args .links .now)))
+
+triangle-refusal-requires : tie.Need-triangle-refusal-requires
+triangle-refusal-requires c κs = search needs
 
 same-length : tie.Need-same-length
 same-length c = search needs
@@ -36,22 +54,18 @@ returns : tie.Need-returns
 returns c =
     let at = c .before in
     let start = at .before .before .before .before .before .before .before .before in
-    refine-refused (start .args .t) (mesh-of start) _ (at .refine-refusal .ensures) (c .if1 .taken)
+    refine-refused (start .args .t) (mesh-of start) _
+    (refine-triangle (start .args .t) (mesh-of start) _ (at .triangle-refusal .ensures) (c .if1 .taken))
+    (c .if1 .taken)
 
 base-chain-requires : tie.Need-base-chain-requires
-base-chain-requires c κs = search needs
+base-chain-requires c κs =
+    let at-if1 = c .before .before in
+    let start = at-if1 .before .before .before .before .before .before .before .before .before in
+    refine-young (start .args .t) (mesh-of start) _ (at-if1 .before .triangle-refusal .ensures) (at-if1 .if1 .left)
 
-splits-requires : tie.Need-splits-requires
-splits-requires c κs = search needs
-
-refine-requires : tie.Need-refine-requires
-refine-requires c κs =
-    let at-chain = c .before .before .before .before .before in
-    let at-if1 = at-chain .before .before .before in
-    let start = at-if1 .before .before .before .before .before .before .before .before .before in (
-      refine-found (start .args .t) (mesh-of start) (sym (at-if1 .before .refine-refusal .ensures) ∙ at-if1 .if1 .left),
-      c .splits .ensures ∙ ap (λ x. max 1 (x .odd)) (at-chain .base-chain .ensures _ _),
-    )
+chain-refusal-requires : tie.Need-chain-refusal-requires
+chain-refusal-requires c κs = search needs
 
 same-length-5 : tie.Need-same-length-5
 same-length-5 c = search needs
@@ -67,28 +81,55 @@ same-length-8 c = search needs
 
 returns-2 : tie.Need-returns-2
 returns-2 c =
+    let at = c .before in
+    refine-refused (start at .args .t) (mesh-of (start at)) _ (refusal-is at) (c .if2 .taken)
+
+refine-requires : tie.Need-refine-requires
+refine-requires c κs =
+    let at-if2 = c .before .before .before .before in
+    let at = at-if2 .before in
+    (refine-found (start at .args .t) (mesh-of (start at)) (sym (refusal-is at) ∙ at-if2 .if2 .left), chain-is at)
+
+same-length-9 : tie.Need-same-length-9
+same-length-9 c = search needs
+
+same-length-10 : tie.Need-same-length-10
+same-length-10 c = search needs
+
+same-length-11 : tie.Need-same-length-11
+same-length-11 c = search needs
+
+same-length-12 : tie.Need-same-length-12
+same-length-12 c = search needs
+
+returns-3 : tie.Need-returns-3
+returns-3 c =
     let at-refine = c .before .before .before .before .before .before .before in
-    let at-chain = at-refine .before .before .before .before .before .before in
-    let at-if1 = at-chain .before .before .before in
-    let start = at-if1 .before .before .before .before .before .before .before .before .before in
+    let at-if2 = at-refine .before .before .before .before .before in
+    let at = at-if2 .before in
     ap worked (at-refine .refine .ensures)
-    ∙ refine-carried (start .args .t) (mesh-of start) _ (at-if1 .before .refine-refusal .ensures) (at-if1 .if1 .left)
+    ∙ refine-carried (start at .args .t) (mesh-of (start at)) _ (refusal-is at) (at-if2 .if2 .left)
 
 pub refine-spec : {M : Type 1} → statement M
 refine-spec =
     tie.close
     (tie.spec
-    refine-refusal-requires
+    triangle-refusal-requires
     same-length
     same-length-2
     same-length-3
     same-length-4
     returns
     base-chain-requires
-    splits-requires
-    refine-requires
+    chain-refusal-requires
     same-length-5
     same-length-6
     same-length-7
     same-length-8
-    returns-2)
+    returns-2
+    refine-requires
+    same-length-9
+    same-length-10
+    same-length-11
+    same-length-12
+    returns-3)

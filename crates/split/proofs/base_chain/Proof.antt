@@ -4,7 +4,7 @@ use Prim.Native.Nat.{ℕ, suc, _+_, _-_, _%_, _≤_}
 use native.Mathlib.Omega.{arith}
 use mathlib.Core.List.{List}
 use mathlib.Core.Path.{_≡_, sym, _∙_}
-use lib.ListN.{getD}
+use lib.ListN.{length, getD}
 use Rattle.rules.specs.Tables.{Topology}
 use Rattle.tables.specs.declared.Counts.{Counts}
 use Rattle.tables.specs.Lent.{topologyNow}
@@ -13,12 +13,12 @@ use Rattle.split.proofs.base_chain.Statement.{statement}
 use Rattle.split.proofs.base_chain.Tie as tie
 
 abbrev Inv-loop : tie.InvT-loop
-Inv-loop links generations t odd₀ end₀ left₀ odd end left =
-    ((n : Counts) (corners : List ℕ) → Walking (topologyNow n corners links generations) t odd end left)
-    × (odd + left ≤ 255)
+Inv-loop links generations t slots₀ odd₀ end₀ steps₀ slots odd end steps =
+    ((n : Counts) (corners : List ℕ) → Walking (topologyNow n corners links generations) t odd end steps slots)
+    × (odd + steps ≤ 20) × (length slots ≡ 20)
 
 abbrev μ-loop : tie.MeasureT-loop
-μ-loop links generations t odd₀ end₀ left₀ odd end left = left
+μ-loop links generations t slots₀ odd₀ end₀ steps₀ slots odd end steps = steps
 
 -- In the loop, at a triangle whose generation was read.
 module _ (c : tie.After-generation-at2 Inv-loop μ-loop) (n : Counts) (corners : List ℕ) where
@@ -31,8 +31,8 @@ module _ (c : tie.After-generation-at2 Inv-loop μ-loop) (n : Counts) (corners :
       topologyNow n corners (args .links .now) (args .generations .now)
 
   walking : Walking topology (loop-head .before .before .before .before .args .t) (loop-head .loop .odd)
-      (loop-head .loop .end) (suc (loop-head .loop .left - 1))
-  walking = walk-more (loop-head .loop .left) (c .before .loop-test .taken) (loop-head .loop .inv .0 n corners)
+      (loop-head .loop .end) (suc (loop-head .loop .steps - 1)) (loop-head .loop .slots)
+  walking = walk-more (loop-head .loop .steps) (c .before .loop-test .taken) (loop-head .loop .inv .0 n corners)
 
 is-odd : (c : tie.Else1 Inv-loop μ-loop) →
     let args = c .before .before .before .before .before .before .before .args in
@@ -43,10 +43,19 @@ generation-at-requires : tie.Need-generation-at-requires Inv-loop μ-loop
 generation-at-requires c κs = search needs
 
 loop-holds : tie.Need-loop-holds Inv-loop μ-loop
-loop-holds c = (λ n corners. rw (c .generation-at .ensures) walk-begins, search needs)
+loop-holds c = (λ n corners. rw (c .generation-at .ensures) (walk-begins _), search needs, search needs)
 
 generation-at-requires-2 : tie.Need-generation-at-requires-2 Inv-loop μ-loop
 generation-at-requires-2 c κs = search needs
+
+cast-i : tie.Need-cast-i Inv-loop μ-loop
+cast-i c = search needs
+
+mul-slots : tie.Need-mul-slots Inv-loop μ-loop
+mul-slots c = search needs
+
+array-write-slots : tie.Need-array-write-slots Inv-loop μ-loop
+array-write-slots c = search needs
 
 add-odd : tie.Need-add-odd Inv-loop μ-loop
 add-odd c = search needs
@@ -54,8 +63,8 @@ add-odd c = search needs
 base-link-requires : tie.Need-base-link-requires Inv-loop μ-loop
 base-link-requires c κs = search needs
 
-sub-left : tie.Need-sub-left Inv-loop μ-loop
-sub-left c = search needs
+sub-steps : tie.Need-sub-steps Inv-loop μ-loop
+sub-steps c = search needs
 
 loop-less : tie.Need-loop-less Inv-loop μ-loop
 loop-less c = search needs
@@ -64,14 +73,15 @@ loop-again : tie.Need-loop-again Inv-loop μ-loop
 loop-again c = (
   λ n corners.
       rw (c .before .base-link .ensures)
-      (walk-on _ (walking (c .before .before .before) n corners) (is-odd (c .before .before))
+      (walk-on _ (walking (c .before .before .before) n corners) (is-odd (c .before .before)) (omega arith)
       (λ e. c .if2 .left (c .before .base-link .ensures ∙ e))),
+  search needs,
   search needs,
 )
 
 returns : tie.Need-returns Inv-loop μ-loop
 returns c n corners =
-    let none : c .before .loop .left ≡ 0 = omega (arith, c .loop-test .left) in
+    let none : c .before .loop .steps ≡ 0 = omega (arith, c .loop-test .left) in
     walk-ends (rw none at (c .before .loop .inv .0 n corners))
 
 returns-2 : tie.Need-returns-2 Inv-loop μ-loop
@@ -80,7 +90,7 @@ returns-2 c n corners =
 
 returns-3 : tie.Need-returns-3 Inv-loop μ-loop
 returns-3 c n corners =
-    walk-boundary _ (walking (c .before .before .before) n corners) (is-odd (c .before .before))
+    walk-boundary _ (walking (c .before .before .before) n corners) (is-odd (c .before .before)) (omega arith)
     (sym (c .before .base-link .ensures) ∙ c .if2 .taken)
 
 pub base-chain-spec : {M : Type 1} → statement M
@@ -92,9 +102,12 @@ base-chain-spec =
     generation-at-requires
     loop-holds
     generation-at-requires-2
+    cast-i
+    mul-slots
+    array-write-slots
     add-odd
     base-link-requires
-    sub-left
+    sub-steps
     loop-less
     loop-again
     returns

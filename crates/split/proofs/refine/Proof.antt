@@ -2,96 +2,131 @@
 use borrow.Author.Needs.{needs}
 use Prim.Native.Nat.{_-_, _<_}
 use native.Mathlib.Omega.{arith}
-use mathlib.Core.Path.{_≡_, ap}
-use Rattle.rules.proofs.RefineLoop.{Refining, refining-begins, refining-ends, refining-counts, refining-on}
-use Rattle.rules.specs.Calls.{splitsOf}
+use mathlib.Core.Path.{_≡_}
+use Rattle.rules.proofs.RefineLoop.{Refining, refining-begins, refining-ends, few-splits}
 use Rattle.rules.specs.Split as rules
-use Rattle.rules.specs.Split.{faceSplit, chainEnd}
+use Rattle.rules.specs.Split.{chainEnd}
 use Rattle.rules.specs.Tables.{Mesh}
 use Rattle.tables.specs.Lent.{meshNow}
-use Rattle.split.specs.Made.{countsOf, workNow}
-use Rattle.split.proofs.Bounds.{next-may-split}
+use Rattle.split.specs.Made.{workNow}
+use Rattle.split.proofs.Turns.{turn-may-split, turn-on, turn-within, turn-end}
 use Rattle.split.proofs.refine.Statement.{statement}
 use Rattle.split.proofs.refine.Tie as tie
 
 abbrev Inv-loop : tie.InvT-loop
-Inv-loop positions₀ corners₀ links₀ generations₀ t splits work₀ positions corners links generations work =
-    Refining t (workNow work₀ positions₀ corners₀ links₀ generations₀ .mesh)
+Inv-loop positions₀ corners₀ links₀ generations₀ t slots work₀ _ _ positions corners links generations work left end =
+    Refining t (workNow work₀ positions₀ corners₀ links₀ generations₀ .mesh) slots left
     (workNow work positions corners links generations)
+    × (0 < left → end ≡ chainEnd (workNow work positions corners links generations .mesh .topology) t)
 
 abbrev μ-loop : tie.MeasureT-loop
-μ-loop positions₀ corners₀ links₀ generations₀ t splits work₀ positions corners links generations work =
-    splits - work .splits
+μ-loop positions₀ corners₀ links₀ generations₀ t slots work₀ _ _ positions corners links generations work left end = left
 
--- In the loop, with the base chain read.
-module _ (c : tie.After-base-chain Inv-loop μ-loop) where
+-- In the loop, with splits left.
+module _ (c : tie.In-loop Inv-loop μ-loop) where
   abbrev loop-head : tie.At-loop Inv-loop μ-loop
-  loop-head = c .before .before .before .before .before
+  loop-head = c .before
 
   abbrev start : tie.Start Inv-loop μ-loop
-  start = loop-head .before .before .before .before
-
-  abbrev work : rules.Work
-  work = let l = loop-head .loop in workNow (l .work) (l .positions) (l .corners) (l .links) (l .generations)
+  start = loop-head .before .before .before .before .before .before
 
   abbrev first : Mesh
   first =
       let args = start .args in
       meshNow (args .counts) (args .positions .now) (args .corners .now) (args .links .now) (args .generations .now)
 
-  more : work .splits < splitsOf (first .topology) (start .args .t)
-  more = omega (arith, start .pre .1, c .before .before .before .if1 .taken)
+  abbrev work : rules.Work
+  work = let l = loop-head .loop in workNow (l .work) (l .positions) (l .corners) (l .links) (l .generations)
 
-  end-is : c .base-chain .result .end ≡ chainEnd (work .mesh .topology) (start .args .t)
-  end-is = ap (λ x. x .end) (c .base-chain .ensures (countsOf (loop-head .loop .work)) (loop-head .loop .corners))
+  at-end : loop-head .loop .end ≡ chainEnd (work .mesh .topology) (start .args .t)
+  at-end = loop-head .loop .inv .1 (c .loop-test .taken)
+
+-- With the split made.
+module _ (c : tie.After-face-split Inv-loop μ-loop) where
+  abbrev at : tie.In-loop Inv-loop μ-loop
+  at = c .before .before .before .before .before
+
+  abbrev next : rules.Work
+  next =
+      let last = c .face-split .last in
+      workNow (c .face-split .result) (last .0) (last .1 .0) (last .1 .1 .0) (last .1 .1 .1 .0)
+
+  turned : Refining (start at .args .t) (first at) (start at .args .chain .slots) (loop-head at .loop .left - 1) next
+  turned =
+      turn-on (start at .pre .0) (loop-head at .loop .inv .0) (at .loop-test .taken) (at-end at) next
+      (c .face-split .ensures)
+
+splits-requires : tie.Need-splits-requires Inv-loop μ-loop
+splits-requires c κs = search needs
 
 loop-holds : tie.Need-loop-holds Inv-loop μ-loop
-loop-holds c = refining-begins (c .before .before .before .pre .0)
-
-base-chain-requires : tie.Need-base-chain-requires Inv-loop μ-loop
-base-chain-requires c κs = search needs
+loop-holds c =
+    let start = c .before .before .before .before .before in
+    let chain = start .pre .1 in (
+      rw (c .splits .ensures, chain .odd)
+          (refining-begins (start .pre .0) (λ i b. chain .slots i (omega (arith, chain .odd)))),
+      λ _. chain .end,
+    )
 
 face-split-requires : tie.Need-face-split-requires Inv-loop μ-loop
 face-split-requires c κs =
     let at = c .before .before .before .before in
-    next-may-split (start at .pre .0) (loop-head at .loop .inv) (more at) _ (end-is at)
+    turn-may-split (start at .pre .0) (loop-head at .loop .inv .0) (at .loop-test .taken) (at-end at)
+
+sub-left : tie.Need-sub-left Inv-loop μ-loop
+sub-left c = search needs
+
+across-last-requires : tie.Need-across-last-requires Inv-loop μ-loop
+across-last-requires c κs =
+    let at-if1 = c .before .before in
+    let at-split = at-if1 .before .before .before .before .before .before .before .before in
+    let at-loop = at at-split in
+    let R = start at-loop .pre .0 in (
+      at-if1 .if1 .taken,
+      omega (arith, few-splits R, loop-head at-loop .loop .inv .0 .splits),
+      turn-within R (loop-head at-loop .loop .inv .0) (at-loop .loop-test .taken) (at-end at-loop) _
+          (at-split .face-split .ensures) (at-if1 .if1 .taken),
+    )
 
 loop-less : tie.Need-loop-less Inv-loop μ-loop
-loop-less c =
-    let at-face-split = c .before .before .before .before .before .before .before in
-    let at = at-face-split .before .before .before .before .before in
-    omega (
-      arith,
-      ap (λ w. w .splits) (at-face-split .face-split .ensures),
-      ap (λ v. faceSplit v (work at) .splits) (end-is at),
-      refining-counts (start at .pre .0) (loop-head at .loop .inv) (more at),
-      at .before .before .before .if1 .taken,
-    )
+loop-less c = search needs
 
 loop-again : tie.Need-loop-again Inv-loop μ-loop
 loop-again c =
-    let at-face-split = c .before .before .before .before .before .before .before in
-    let at = at-face-split .before .before .before .before .before in
-    rw (at-face-split .face-split .ensures, end-is at)
-    (refining-on (start at .pre .0) (loop-head at .loop .inv) (more at))
+    let at-if1 = c .before .before .before in
+    let at-split = at-if1 .before .before .before .before .before .before .before .before in
+    let at-loop = at at-split in (
+      turned at-split,
+      λ j.
+          turn-end (start at-loop .pre .0) (loop-head at-loop .loop .inv .0) (at-loop .loop-test .taken)
+          (at-end at-loop) _ (at-split .face-split .ensures) j _ (c .across-last .ensures),
+    )
+
+loop-less-2 : tie.Need-loop-less-2 Inv-loop μ-loop
+loop-less-2 c = search needs
+
+loop-again-2 : tie.Need-loop-again-2 Inv-loop μ-loop
+loop-again-2 c =
+    let at-split = c .before .before .before .before .before .before .before .before in
+    (turned at-split, λ j. absurd (omega (arith, c .if1 .left)))
 
 same-length : tie.Need-same-length Inv-loop μ-loop
-same-length c = c .before .before .loop .inv .slots .positions
+same-length c = c .before .loop .inv .0 .room .positions
 
 same-length-2 : tie.Need-same-length-2 Inv-loop μ-loop
-same-length-2 c = c .before .before .loop .inv .slots .corners
+same-length-2 c = c .before .loop .inv .0 .room .corners
 
 same-length-3 : tie.Need-same-length-3 Inv-loop μ-loop
-same-length-3 c = c .before .before .loop .inv .slots .links
+same-length-3 c = c .before .loop .inv .0 .room .links
 
 same-length-4 : tie.Need-same-length-4 Inv-loop μ-loop
-same-length-4 c = c .before .before .loop .inv .slots .generations
+same-length-4 c = c .before .loop .inv .0 .room .generations
 
 returns : tie.Need-returns Inv-loop μ-loop
 returns c =
-    let at-loop = c .before .before in
-    let at-start = at-loop .before .before .before .before in
-    refining-ends (at-start .pre .0) (at-loop .loop .inv) (omega (arith, at-start .pre .1, c .if1 .left))
+    let none : c .before .loop .left ≡ 0 = omega (arith, c .loop-test .left) in
+    let start = c .before .before .before .before .before .before .before in
+    refining-ends (start .pre .0) (rw none at (c .before .loop .inv .0))
 
 pub refine-spec : {M : Type 1} → statement M
 refine-spec =
@@ -99,11 +134,15 @@ refine-spec =
     (tie.spec
     Inv-loop
     μ-loop
+    splits-requires
     loop-holds
-    base-chain-requires
     face-split-requires
+    sub-left
+    across-last-requires
     loop-less
     loop-again
+    loop-less-2
+    loop-again-2
     same-length
     same-length-2
     same-length-3
