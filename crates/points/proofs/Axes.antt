@@ -1,11 +1,12 @@
--- Facts on each axis of a point or a sum.
+-- Facts on each axis of a point.
 use borrow.Author.Needs.{sfits-of}
 use Prim.Native.Nat.{ℕ, zero, suc, _^_, _<_}
+use native.Mathlib.Omega.{arith}
 use lib.IntN.{ℤ}
 use lib.Signed.{mag}
 use mir.Syntax.{Width}
 use mir.Val.{SFits, hbits}
-use Rattle.points.specs.Axes.{onAxis, eachTotal, SumOf, SumOfPoints}
+use Rattle.points.specs.Axes.{onAxis, eachAxis, SumOf, Fits}
 
 each : (P : ℤ → Type 0) {x y z : ℤ} → P x → P y → P z → (k : ℕ) → P (onAxis k x y z)
 each P p q r zero = p
@@ -20,5 +21,7 @@ pub fields-fit : (w : Width) (x y z : ℤ) {A B C : Type 0}
     → Told w A x × (Told w B y × (Told w C z × Unit {0})) → (k : ℕ) → SFits w (onAxis k x y z)
 fields-fit w x y z h = each (SFits w) (sfits-of (h .0 .1)) (sfits-of (h .1 .0 .1)) (sfits-of (h .1 .1 .0 .1))
 
-pub sum-of-each : {n : ℕ} (f : ℕ → ℤ) → ((k : ℕ) → SumOf n (f k)) → SumOfPoints n (eachTotal f)
-sum-of-each {n} f h = record { axis = each (SumOf n) (h 0) (h 1) (h 2) }
+pub each-fits : (f : ℕ → ℤ) → ((k : ℕ) → k < 3 → SumOf 1 (f k)) → Fits (eachAxis f)
+each-fits f h = record {
+  axis = each (SumOf 1) (h 0 (omega arith)) (h 1 (omega arith)) (h 2 (omega arith));
+}

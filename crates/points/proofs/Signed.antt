@@ -3,12 +3,12 @@ use borrow.Author.Needs.{sfits-of}
 use Prim.Native.Nat.{ℕ, suc, _+_, _*_, _^_, _≤_, _<_}
 use native.Mathlib.Omega.{arith}
 use mathlib.Core.Path.{_≡_, _∙_, sym}
-use lib.IntN.{ℤ, pos, negsuc, _+ℤ_, _-ℤ_}
+use lib.IntN.{ℤ, pos, negsuc, _-ℤ_}
 use lib.Signed.{mag}
 use mir.Syntax.{Width, w32, w64}
 use mir.Val.{SFits, hbits, toZ, ofZ}
 use mir.Facts.{toZ-ofZ, sfits-widen}
-use Rattle.rules.proofs.Differences.{above, below, Is, its, nat, add, neg, sub, at-most, at-most-gives}
+use Rattle.rules.proofs.Differences.{above, below, Is, its, nat, neg, sub, at-most, at-most-gives}
 use Rattle.points.specs.Axes.{SumOf}
 
 pub fit : (w : Width) {z : ℤ} {a b : ℕ} → Is z a b → a < b + 2 ^ hbits w → b ≤ a + 2 ^ hbits w → SFits w z
@@ -31,7 +31,7 @@ widened f = rw (toZ-ofZ f) (toZ-ofZ (sfits-widen tt f))
 pub counted : (a b : ℕ) {w : Width} {z : ℤ} → SFits w z → toZ w (ofZ w z) ≡ pos a -ℤ pos b → Is z a b
 counted a b f e = rw (sym (toZ-ofZ f) ∙ e) (omega (arith, sub (nat a) (nat b)))
 
--- Where sums lie, from the naturals and to them; then of one number, and of one number more.
+-- Where sums lie, from the naturals and to them; a number lies where it can be the sum of one, and of more.
 from-bounds : {n : ℕ} {s : ℤ} {a b : ℕ} → Is s a b → b ≤ a + n * 2147483648 → a ≤ n * 2147483647 + b → SumOf n s
 from-bounds {n} p l h = record {
   low = at-most (neg (nat (n * 2147483648))) p (omega arith);
@@ -48,8 +48,5 @@ pub sum-of-one : {z : ℤ} → SFits w32 z → SumOf 1 z
 sum-of-one {z = pos n} f = from-bounds (nat n) (omega arith) (omega arith)
 sum-of-one {z = negsuc n} f = from-bounds (neg (nat (suc n))) (omega arith) (omega arith)
 
-pub sum-of-more : {n : ℕ} {s z : ℤ} → SumOf n s → SFits w32 z → SumOf (n + 1) (s +ℤ z)
-sum-of-more {n} {s} {z} h f =
-    let b = sum-bounds h in
-    let c = sum-bounds (sum-of-one f) in
-    from-bounds (add (its s) (its z)) (omega arith) (omega arith)
+pub sum-of-some : {n : ℕ} {z : ℤ} → 1 ≤ n → SFits w32 z → SumOf n z
+sum-of-some {z = z} h f = let b = sum-bounds (sum-of-one f) in from-bounds (its z) (omega arith) (omega arith)

@@ -1,11 +1,11 @@
 // Points with whole coordinates, the rules that make new coordinates, and numbers of four bytes.
 ghost use mathlib.Core.Path.{_≡_};
 ghost use mathlib.Core.Bool.{_&&_};
-ghost use Prim.Native.Nat.{ℕ, _+_, _*_, _≤_, _<_};
+ghost use Prim.Native.Nat.{_+_, _*_, _≤_, _<_};
 ghost use lib.IntN.{pos, _+ℤ_, _-ℤ_};
 ghost use lib.ListN.{length};
 ghost use Rattle.rules.specs.Numbers.{inRange, nearestThird, halfUp, weight, moved, numberAt, signed};
-ghost use Rattle.points.specs.Axes.{at, eachTotal, thirds, movedPoint, plus, SumOf, SumOfPoints};
+ghost use Rattle.points.specs.Axes.{at, thirds, movedPoint, plus, SumOf, Fits};
 
 // A point, in units of 1/1024 mm.
 #[repr(C)]
@@ -13,13 +13,6 @@ pub struct Point {
     pub x: i32,
     pub y: i32,
     pub z: i32,
-}
-
-// The sum of some points.
-pub struct Sum {
-    pub x: i64,
-    pub y: i64,
-    pub z: i64,
 }
 
 impl Point {
@@ -51,31 +44,10 @@ impl Point {
         }
     }
 
-    // Where a vertex moves in a whole step: it has n ring entries, which add up to sum.
-    pub fn moved(self, n: usize, sum: Sum) -> Self
-        requires { ⌜ (1 ≤ n) × (n ≤ 12) × SumOfPoints n sum ⌝ }
-        ensures { λ r. ⌜ r ≡ movedPoint n self sum ⌝ }
-    {
-        Self {
-            x: moved_to(n, self.x, sum.x),
-            y: moved_to(n, self.y, sum.y),
-            z: moved_to(n, self.z, sum.z),
-        }
-    }
-}
-
-impl Sum {
-    // The sum of no points.
-    pub fn empty() -> Self
-        ensures { λ r. ⌜ (r ≡ eachTotal (λ k. pos 0)) × SumOfPoints 0 r ⌝ }
-    {
-        Self { x: 0, y: 0, z: 0 }
-    }
-
-    // This sum, of fewer than 4294967296 points, and one point more.
+    // The sum of two points, where it fits 32 bits.
     pub fn plus(self, p: Point) -> Self
-        requires { ⌜ ((n : ℕ) × (n < 4294967296) × SumOfPoints n self) ⌝ }
-        ensures { λ r. ⌜ (r ≡ plus self p) × ((n : ℕ) → SumOfPoints n self → SumOfPoints (n + 1) r) ⌝ }
+        requires { ⌜ Fits (plus self p) ⌝ }
+        ensures { λ r. ⌜ r ≡ plus self p ⌝ }
     {
         Self {
             x: added(self.x, p.x),
@@ -83,14 +55,27 @@ impl Sum {
             z: added(self.z, p.z),
         }
     }
+
+    // Where a vertex moves in a whole step: it has n ring entries, which add up to sum.
+    pub fn moved(self, n: usize, sum: Point) -> Self
+        requires { ⌜ (1 ≤ n) × (n ≤ 12) ⌝ }
+        ensures { λ r. ⌜ r ≡ movedPoint n self sum ⌝ }
+    {
+        let w = weight_of(n);
+        Self {
+            x: moved_to(n, w, self.x, sum.x),
+            y: moved_to(n, w, self.y, sum.y),
+            z: moved_to(n, w, self.z, sum.z),
+        }
+    }
 }
 
-// One axis of such a sum.
-fn added(s: i64, x: i32) -> i64
-    requires { ⌜ ((n : ℕ) × (n < 4294967296) × SumOf n s) ⌝ }
+// The sum of two coordinates.
+fn added(s: i32, x: i32) -> i32
+    requires { ⌜ SumOf 1 (s +ℤ x) ⌝ }
     ensures { λ r. ⌜ r ≡ s +ℤ x ⌝ }
 {
-    s + x as i64
+    s + x
 }
 
 // Whether x is a coordinate.
@@ -159,19 +144,18 @@ const WEIGHTS: [u64; 13] = [
 
 fn weight_of(n: usize) -> u64
     requires { ⌜ n ≤ 12 ⌝ }
-    ensures { λ r. ⌜ (r ≡ weight n) × (r ≤ 65536) ⌝ }
+    ensures { λ r. ⌜ r ≡ weight n ⌝ }
 {
     WEIGHTS[n]
 }
 
-// Where a vertex moves, in one coordinate: it is at p and has n ring entries that add up to s.
-pub fn moved_to(n: usize, p: i32, s: i64) -> i32
-    requires { ⌜ (1 ≤ n) × (n ≤ 12) × SumOf n s ⌝ }
+// Where a vertex moves, in one coordinate: it is at p and has n ring entries of weight w that add up to s.
+fn moved_to(n: usize, w: u64, p: i32, s: i32) -> i32
+    requires { ⌜ (1 ≤ n) × (n ≤ 12) × (w ≡ weight n) ⌝ }
     ensures { λ r. ⌜ r ≡ moved n p s ⌝ }
 {
-    let w = weight_of(n);
     let k = n as u64;
-    let m = k * (65536 - w) * raised(p) + w * raised_sum(s, k);
+    let m = k * (65536 - w) * raised(p) + w * raised_sum(s as i64, k);
     lowered(half_up(m, 65536 * k))
 }
 

@@ -1,3 +1,3 @@
--- Laws of walks, and of what loops take from a ring.
+-- Laws of walks, and of rings written to a buffer.
 pub mod Walk
-pub mod Taken
+pub mod Buffer

@@ -1,23 +1,14 @@
-// The ring round a vertex, from the side where it starts: its length, its entries, and the sum of their positions.
+// The ring round a vertex, from the side where it starts: its length and its entries.
 ghost use mathlib.Core.Path.{_≡_};
 ghost use mathlib.Core.List.{List};
-ghost use Prim.Native.Nat.{ℕ, _+_, _*_, _/_, _≤_, _<_};
+ghost use Prim.Native.Nat.{ℕ, _+_, _*_, _≤_};
 ghost use lib.ListN.{length, getD};
 ghost use Rattle.rules.specs.Below.{fill};
-ghost use Rattle.rules.specs.Tables.{topologyOf, meshOf};
-ghost use Rattle.points.specs.Axes.{SumOfPoints};
-ghost use Rattle.rings.specs.Rings.{ringFrom, goesOn, Walkable, pointIn, Placed, ringSum};
-use points::Point;
-use points::Sum;
+ghost use Rattle.rules.specs.Tables.{topologyOf};
+ghost use Rattle.rings.specs.Rings.{ringFrom, goesOn, Walkable};
 use tables::BOUNDARY;
 use tables::sides::next;
 use tables::sides::previous;
-
-// How many entries a ring has, and the sum of their positions.
-pub struct RingSum {
-    pub entries: u32,
-    pub sum: Sum,
-}
 
 // Whether the walk from `first` goes on to side k after n sides.
 fn goes_on(triangles: u32, first: u32, n: u32, k: u32) -> bool
@@ -76,53 +67,4 @@ pub fn write_ring(corners: &[u32], links: &[u32], triangles: u32, first: u32, bu
         }
         h = k;
     }
-}
-
-// The point in slot v of the positions.
-fn point_at(positions: &[i32], v: u32) -> Point
-    requires { ⌜ v < length (now positions) / 3 ⌝ }
-    ensures { λ r. ⌜ r ≡ pointIn (now (positions .entry)) v ⌝ }
-{
-    let i = 3 * (v as usize);
-    Point::new(positions[i], positions[i + 1], positions[i + 2])
-}
-
-// How many entries the ring from side `first` has, and the sum of their positions.
-pub fn ring_sum(
-    positions: &[i32],
-    corners: &[u32],
-    links: &[u32],
-    triangles: u32,
-    first: u32,
-) -> RingSum
-    requires { ⌜ Walkable triangles first (now links) × (3 * triangles ≤ length (now corners)) ⌝ }
-    requires { ⌜ Placed triangles (now corners) (now positions) ⌝ }
-    ensures { λ r. ⌜ SumOfPoints (r .entries) (r .sum)
-        × ((v : ℕ) (g : List ℕ) →
-        let m = topologyOf v triangles (now (corners .entry)) (now (links .entry)) g in
-        r ≡ ringSum (meshOf m (now (positions .entry))) (ringFrom m first)) ⌝ }
-{
-    let mut sum = Sum::empty();
-    let mut n: u32 = 0;
-    let mut h = first;
-    let total = loop {
-        let e = next(h as usize);
-        sum = sum.plus(point_at(positions, corners[e]));
-        let p = previous(h as usize);
-        let k = links[p];
-        n += 1;
-        if k == BOUNDARY {
-            n += 1;
-            let all = sum.plus(point_at(positions, corners[p]));
-            break RingSum {
-                entries: n,
-                sum: all,
-            };
-        }
-        if !goes_on(triangles, first, n, k) {
-            break RingSum { entries: n, sum };
-        }
-        h = k;
-    };
-    total
 }

@@ -51,7 +51,7 @@ pub mod LoadTests
 pub mod Carried
 pub mod RefineLoop
 pub mod StepLoop
-pub mod ClosedRings
+pub mod RingSums
 pub mod StepRefusals
 pub mod Histories
 pub mod Outcomes

@@ -4,7 +4,7 @@ use mathlib.Core.List.{List}
 use mathlib.Core.Path.{_≡_, ap, _∙_}
 use Prim.Native.Nat.{ℕ}
 use lib.IntN.{ℤ}
-use lib.ListN.{replicate, length-replicate}
+use lib.ListN.{replicate, length-replicate, getD-replicate}
 use Rattle.rules.proofs.CallRefusals.{closed-even-is}
 use Rattle.rules.proofs.Decide.{when-true}
 use Rattle.rules.proofs.StepRefusals.{step-carried}
@@ -13,7 +13,7 @@ use Rattle.rules.specs.Sound.{Sound}
 use Rattle.rules.specs.Split.{Work, atFirst}
 use Rattle.rules.specs.Step.{moveVertices, refineFirst, wholeStep}
 use Rattle.rules.specs.Tables.{Mesh, meshOf}
-use Rattle.step.specs.Moves.{Size, Closed}
+use Rattle.step.specs.Moves.{Filled, Closed}
 
 pub whole-step-steps : (m : Mesh) (w : Work) (positions : List ℤ) → w ≡ refineFirst (m .topology .triangles) (atFirst m)
     → positions ≡ moveVertices (m .topology .vertices) m (w .mesh .positions)
@@ -31,5 +31,5 @@ closed-of {m} S e =
 
 -- ---- the arrays
 
-pub sized : {A : Type 0} (n : ℕ) (x : A) → Size n (replicate n x)
-sized n x = record { is = length-replicate n x }
+pub filled : {A : Type 0} (n : ℕ) (x : A) → Filled x n (replicate n x)
+filled n x = record { size = length-replicate n x; each = λ i b. getD-replicate n i x x b }

@@ -1,4 +1,4 @@
--- Where vertices move, as an array keeps it, and the side where each vertex's ring starts.
+-- Where vertices move, as an array keeps it.
 use Prim.Native.Nat.{ℕ, _+_, _*_, _≤_, _<_}
 use mathlib.Core.Bool.{Bool, true, false}
 use mathlib.Core.List.{List}
@@ -17,20 +17,15 @@ pub record Moves (n : ℕ) (m : Mesh) (moved : List ℤ) : Type 0 where
   pub short : (v : ℕ) → v < n → length (ring (m .topology) v) ≤ 12
   pub each : (v k : ℕ) → v < n → k < 3 → getD moved (3 * v + k) (pos 0) ≡ movedCoordinate m v k
 
--- The list has n entries. Of a local array it is proved for every n, so that none is written out.
-pub record Size {A : Type 0} (n : ℕ) (l : List A) : Type 0 where
-  pub is : length l ≡ n
+-- The list has n entries, each x. Of a local array it is proved for every n, so that none is written out.
+pub record Filled {A : Type 0} (x : A) (n : ℕ) (l : List A) : Type 0 where
+  pub size : length l ≡ n
+  pub each : (i : ℕ) → i < n → getD l i x ≡ x
 
 -- A sound mesh without boundary.
 pub record Closed (m : Mesh) : Type 0 where
   pub sound : Sound m
   pub inner : (h : ℕ) → h < sides (m .topology) → link (m .topology) h ≢ boundary
-
--- For the origin of each side from h to n the list has the lowest of these sides that goes out of it.
-pub record Lowest (h n : ℕ) (corners lowest : List ℕ) : Type 0 where
-  pub inUse : (k : ℕ) → h ≤ k → k < n → getD lowest (getD corners k 0) 0 < n
-  pub out : (k : ℕ) → h ≤ k → k < n → getD corners (getD lowest (getD corners k 0) 0) 0 ≡ getD corners k 0
-  pub least : (k : ℕ) → h ≤ k → k < n → getD lowest (getD corners k 0) 0 ≤ k
 
 -- By the answer: where all vertices move, or a ring that is too long.
 abbrev pub Moved : Mesh → List ℤ → Bool → Type 0

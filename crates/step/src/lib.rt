@@ -1,12 +1,14 @@
 // The whole step on sound tables: what it refuses, and its work.
+use points::Point;
 use split::Work;
 use tables::BOUNDARY;
 use tables::Counts;
 ghost use mathlib.Core.Bool.{true, not};
 ghost use mathlib.Core.List.{List};
 ghost use mathlib.Core.Path.{_≡_};
-ghost use Prim.Native.Nat.{ℕ, _*_, _≤_, _<_};
+ghost use Prim.Native.Nat.{ℕ, _+_, _*_, _/_, _≤_, _<_};
 ghost use lib.Dec.{eqb, ltb};
+ghost use lib.IntN.{pos};
 ghost use lib.ListN.{length, getD};
 ghost use Rattle.rules.proofs.Carried.{StepFound};
 ghost use Rattle.rules.specs.Below.{all, any};
@@ -19,7 +21,9 @@ ghost use Rattle.rules.specs.Tables.{Mesh, topologyOf, boundary};
 ghost use Rattle.tables.specs.Lent.{meshNow, VerticesAgree};
 ghost use Rattle.split.specs.Made.{workNow};
 ghost use Rattle.step.specs.Answers.{answered};
-ghost use Rattle.step.specs.Moves.{Moves, Size, Closed, Lowest, Moved};
+ghost use Rattle.step.specs.Moves.{Moves, Filled, Closed, Moved};
+ghost use Rattle.step.specs.RingSums.{pointIn, Summable, Summed, SideFits, SideAdded, SidesAdded};
+ghost use Rattle.step.specs.RingSums.{Movable, MovedFrom};
 
 // What a whole step answers: the number of its refusal or 0, the slots then in use, the splits and the flips.
 pub struct Answer {
@@ -77,90 +81,135 @@ pub fn closed_even(links: &[u32], generations: &[u8], triangles: u32) -> bool
     g % 2 == 0
 }
 
-// The lowest side out of each vertex, met last.
-fn lowest_sides(corners: &[u32], triangles: u32, lowest: &mut [u32])
-    requires { ⌜ (triangles ≤ 65536) × (3 * triangles ≤ length (now corners))
-        × ((h : ℕ) → h < 3 * triangles → getD (now corners) h 0 < length (now lowest)) ⌝ }
-    ensures { λ _. ⌜ Lowest 0 (3 * triangles) (now (corners .entry)) (now (lowest .exit)) ⌝ }
+// The point in slot v of a table that has this slot.
+fn point_in(table: &[i32], v: u32) -> Point
+    requires { ⌜ v < length (now table) / 3 ⌝ }
+    ensures { λ r. ⌜ r ≡ pointIn (now (table .entry)) v ⌝ }
 {
-    let mut h = 3 * triangles;
-    while 0 < h {
-        h -= 1;
-        let v = corners[h as usize] as usize;
-        lowest[v] = h;
-    }
+    let i = 3 * (v as usize);
+    Point::new(table[i], table[i + 1], table[i + 2])
 }
 
-// Where each vertex moves, by the ring from the lowest side out of it. It stops at a ring of more than 12 entries.
-fn moves_from(
+// A side counted where it comes from, and the position that it leads to added to the sum there; false where 12 are
+// counted already.
+fn add_side(positions: &[i32], from: u32, to: u32, entries: &mut [u8], sums: &mut [i32]) -> bool
+    requires { ⌜ SideFits (now positions) from to (now entries) (now sums) ⌝ }
+    ensures { λ r. ⌜ SideAdded (now (positions .entry)) from to (now (entries .entry)) (now (sums .entry))
+        (now (entries .exit)) (now (sums .exit)) r ⌝ }
+{
+    let i = from as usize;
+    let n = entries[i];
+    if 12 <= n {
+        return false;
+    }
+    entries[i] = n + 1;
+    let sum = point_in(sums, from);
+    let p = point_in(positions, to);
+    tables::store_point(sums, from, sum.plus(p));
+    true
+}
+
+// The three sides of triangle t, after those of the triangles before it.
+fn add_triangle(
     positions: &[i32],
     corners: &[u32],
-    links: &[u32],
     counts: Counts,
-    lowest: &[u32],
-    moved: &mut [i32],
+    t: u32,
+    entries: &mut [u8],
+    sums: &mut [i32],
 ) -> bool
-    requires { ⌜ ((g : List ℕ) × Closed (meshNow counts (now positions) (now corners) (now links) g)) ⌝ }
-    requires { ⌜ Lowest 0 (3 * counts .triangles) (now corners) (now lowest)
-        × (counts .vertices ≤ length (now lowest)) × (3 * counts .vertices ≤ length (now moved)) ⌝ }
-    ensures { λ r. ⌜ ((g : List ℕ) →
-        let m = meshNow counts (now (positions .entry)) (now (corners .entry)) (now (links .entry)) g in
-        Closed m → Moved m (now (moved .exit)) r) ⌝ }
+    requires { ⌜ Summable counts (now positions) (now corners) × (t < counts .triangles)
+        × Summed (3 * t) (counts .vertices) (now positions) (now corners) (now entries) (now sums) ⌝ }
+    ensures { λ r. ⌜ SidesAdded (3 * (t + 1)) counts (now (positions .entry)) (now (corners .entry))
+        (now (entries .exit)) (now (sums .exit)) r ⌝ }
 {
-    let n = counts.vertices;
+    let i = 3 * (t as usize);
+    let a = corners[i];
+    let b = corners[i + 1];
+    let c = corners[i + 2];
+    if !add_side(positions, a, b, entries, sums) {
+        return false;
+    }
+    if !add_side(positions, b, c, entries, sums) {
+        return false;
+    }
+    add_side(positions, c, a, entries, sums)
+}
+
+// How many entries each ring has, and the sum of their positions: where no side is on the boundary, a ring has the
+// targets of all sides out of its vertex. It stops at a ring of more than 12 entries.
+fn ring_sums(
+    positions: &[i32],
+    corners: &[u32],
+    counts: Counts,
+    entries: &mut [u8],
+    sums: &mut [i32],
+) -> bool
+    requires { ⌜ Summable counts (now positions) (now corners)
+        × Summed 0 (counts .vertices) (now positions) (now corners) (now entries) (now sums) ⌝ }
+    ensures { λ r. ⌜ SidesAdded (3 * counts .triangles) counts (now (positions .entry)) (now (corners .entry))
+        (now (entries .exit)) (now (sums .exit)) r ⌝ }
+{
     let f = counts.triangles;
-    let mut v: u32 = 0;
-    while v < n {
-        let ring = rings::ring_sum(positions, corners, links, f, lowest[v as usize]);
-        let entries = ring.entries;
-        if 12 < entries {
+    let mut t: u32 = 0;
+    while t < f {
+        if !add_triangle(positions, corners, counts, t, entries, sums) {
             return false;
         }
-        let p = tables::point_at(positions, v);
-        let q = p.moved(entries as usize, ring.sum);
-        tables::store_point(moved, v, q);
-        v += 1;
+        t += 1;
     }
     true
 }
 
-// The same, with an array lent to keep the lowest side of each vertex.
+// Where each vertex moves, in place of the sum of its ring.
+fn move_all(positions: &[i32], vertices: u32, entries: &[u8], moved: &mut [i32])
+    requires { ⌜ Movable vertices (now positions) (now entries) (now moved) ⌝ }
+    ensures { λ _. ⌜ MovedFrom vertices (now (positions .entry)) (now (entries .entry)) (now (moved .entry))
+        (now (moved .exit)) ⌝ }
+{
+    let mut v: u32 = 0;
+    while v < vertices {
+        let n = entries[v as usize] as usize;
+        let p = point_in(positions, v);
+        let sum = point_in(moved, v);
+        tables::store_point(moved, v, p.moved(n, sum));
+        v += 1;
+    }
+}
+
+// Where each vertex moves, with an array lent to count ring entries, and both arrays zero at first. It stops at a ring
+// of more than 12 entries.
 fn moves_by(
     positions: &[i32],
     corners: &[u32],
-    links: &[u32],
     counts: Counts,
-    lowest: &mut [u32],
+    entries: &mut [u8],
     moved: &mut [i32],
 ) -> bool
-    requires { ⌜ ((g : List ℕ) × Closed (meshNow counts (now positions) (now corners) (now links) g)) ⌝ }
-    requires { ⌜ Size 32768 (now lowest) × (3 * counts .vertices ≤ length (now moved)) ⌝ }
-    ensures { λ r. ⌜ ((g : List ℕ) →
-        let m = meshNow counts (now (positions .entry)) (now (corners .entry)) (now (links .entry)) g in
+    requires { ⌜ ((l g : List ℕ) × Closed (meshNow counts (now positions) (now corners) l g)) ⌝ }
+    requires { ⌜ Filled 0 32768 (now entries) × Filled (pos 0) 98304 (now moved) ⌝ }
+    ensures { λ r. ⌜ ((l g : List ℕ) →
+        let m = meshNow counts (now (positions .entry)) (now (corners .entry)) l g in
         Closed m → Moved m (now (moved .exit)) r) ⌝ }
 {
-    let f = counts.triangles;
-    lowest_sides(corners, f, lowest);
-    moves_from(positions, corners, links, counts, lowest, moved)
+    if !ring_sums(positions, corners, counts, entries, moved) {
+        return false;
+    }
+    move_all(positions, counts.vertices, entries, moved);
+    true
 }
 
 // Whether no ring has more than 12 entries; then `moved` has where each vertex moves.
-pub fn moves(
-    positions: &[i32],
-    corners: &[u32],
-    links: &[u32],
-    counts: Counts,
-    moved: &mut [i32],
-) -> bool
-    requires { ⌜ ((g : List ℕ) × Closed (meshNow counts (now positions) (now corners) (now links) g)) ⌝ }
-    requires { ⌜ 3 * counts .vertices ≤ length (now moved) ⌝ }
-    ensures { λ r. ⌜ ((g : List ℕ) →
-        let m = meshNow counts (now (positions .entry)) (now (corners .entry)) (now (links .entry)) g in
+fn moves(positions: &[i32], corners: &[u32], counts: Counts, moved: &mut [i32]) -> bool
+    requires { ⌜ ((l g : List ℕ) × Closed (meshNow counts (now positions) (now corners) l g)) ⌝ }
+    requires { ⌜ Filled (pos 0) 98304 (now moved) ⌝ }
+    ensures { λ r. ⌜ ((l g : List ℕ) →
+        let m = meshNow counts (now (positions .entry)) (now (corners .entry)) l g in
         Closed m → (r ≡ not (any (counts .vertices) (λ v. ltb 12 (length (ring (m .topology) v)))))
         × (r ≡ true → Moves (counts .vertices) m (now (moved .exit)))) ⌝ }
 {
-    let mut lowest = [0u32; 32768];
-    moves_by(positions, corners, links, counts, &mut lowest, moved)
+    let mut entries = [0u8; 32768];
+    moves_by(positions, corners, counts, &mut entries, moved)
 }
 
 // The face split of each triangle, in the order of their slots.
@@ -216,7 +265,7 @@ fn refusal(
     moved: &mut [i32],
 ) -> u32
     requires { ⌜ Sound (meshNow counts (now positions) (now corners) (now links) (now generations))
-        × Size 98304 (now moved) ⌝ }
+        × Filled (pos 0) 98304 (now moved) ⌝ }
     ensures { λ r. ⌜ (let m = meshNow counts (now (positions .entry)) (now (corners .entry)) (now (links .entry))
         (now (generations .entry)) in
         (r ≡ wholeStepRefusal m) × (r ≡ 0 → Moves (counts .vertices) m (now (moved .exit)))) ⌝ }
@@ -228,7 +277,7 @@ fn refusal(
     if generations[0] == 20 {
         return 9;
     }
-    if !moves(positions, corners, links, counts, moved) {
+    if !moves(positions, corners, counts, moved) {
         return 13;
     }
     if !tables::has_room(positions, generations, counts, f) {
@@ -269,7 +318,7 @@ fn step_by(
     moved: &mut [i32],
 ) -> Answer
     requires { ⌜ Sound (meshNow counts (now positions) (now corners) (now links) (now generations))
-        × Size 98304 (now moved) ⌝ }
+        × Filled (pos 0) 98304 (now moved) ⌝ }
     ensures { λ r. ⌜
         answered r (now (positions .exit)) (now (corners .exit)) (now (links .exit)) (now (generations .exit))
         ≡ wholeStepCall (meshNow counts (now (positions .entry)) (now (corners .entry)) (now (links .entry))

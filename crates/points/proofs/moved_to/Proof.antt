@@ -6,10 +6,11 @@ use native.Mathlib.Nat.{mul-le-mul, sub-le}
 use mathlib.Core.Path.{_≡_, _∙_, ap}
 use lib.IntN.{ℤ, pos, _-ℤ_}
 use mir.Syntax.{w32}
+use mir.Facts.{toZ-ofZ}
 use Rattle.rules.specs.Numbers.{halfUp, weight, moved}
 use Rattle.rules.proofs.Differences.{Is, nat, add, sub, scale, at-most, at-most-gives, less, less-gives}
-use Rattle.rules.proofs.Rounding.{Floor, half-up, half-up-only, moved-is, moved-at-most, parts-of-mean}
-use Rattle.points.proofs.Signed.{returned, counted, sum-of-one}
+use Rattle.rules.proofs.Rounding.{Floor, half-up, half-up-only, weight-at-most, moved-is, moved-at-most, parts-of-mean}
+use Rattle.points.proofs.Signed.{returned, counted, sum-of-one, sum-of-some, widened, widens}
 use Rattle.points.proofs.moved_to.Statement.{statement}
 use Rattle.points.proofs.moved_to.Tie as tie
 
@@ -30,35 +31,35 @@ mean-is n b k x t {p} {s} h at-p at-s e =
       high = less z (add (scale (2 * d) q) (nat (2 * d))) (omega arith);
     }))
 
--- The parts of the vertex, what they come to, and what the ring comes to.
-share : (c : tie.After-weight-of) → c .before .args .n * (65536 - c .weight-of .result) ≤ 12 * 65536
-share c = mul-le-mul (c .before .pre .1) (sub-le 65536 (c .weight-of .result))
+-- How much the weight is, the parts of the vertex, what they come to, and what the ring comes to.
+light : (c : tie.Start) → c .args .w ≤ 65536
+light c = rw (c .pre .2) (weight-at-most (c .args .n))
+
+share : (c : tie.Start) → c .args .n * (65536 - c .args .w) ≤ 12 * 65536
+share c = mul-le-mul (c .pre .1) (sub-le 65536 (c .args .w))
 
 vertex : (c : tie.After-raised)
-    → c .before .before .args .n * (65536 - c .before .weight-of .result) * c .raised .result ≤ 12 * 65536 * 4294967295
+    → c .before .args .n * (65536 - c .before .args .w) * c .raised .result ≤ 12 * 65536 * 4294967295
 vertex c = mul-le-mul (share (c .before)) (c .raised .ensures .1)
 
-ring : (c : tie.After-raised-sum)
-    → c .before .before .weight-of .result * c .raised-sum .result ≤ 65536 * (12 * 4294967295)
-ring c = mul-le-mul {m₂ = 12 * 4294967295} (c .before .before .weight-of .ensures .1) (omega arith)
+ring : (c : tie.After-raised-sum) → c .before .before .args .w * c .raised-sum .result ≤ 65536 * (12 * 4294967295)
+ring c = mul-le-mul {m₂ = 12 * 4294967295} (light (c .before .before)) (omega arith)
 
 mean : (c : tie.After-half-up) →
-    let args = c .before .before .before .before .args in
+    let args = c .before .before .before .args in
     pos (c .half-up .result) -ℤ pos 2147483648 ≡ moved (args .n) (args .p) (args .s)
 mean c =
-    let start = c .before .before .before .before in
+    let start = c .before .before .before in
     let x = c .before .before .raised in
     let t = c .before .raised-sum in
     mean-is (start .args .n) 2147483648 (c .half-up .result) (x .result) (t .result) (start .pre .0)
     (counted (x .result) 2147483648 (start .fits .p) (x .ensures .0))
-    (counted (t .result) (start .args .n * 2147483648) (start .fits .s) (t .ensures .0))
-    (rw (c .before .before .before .weight-of .ensures .0) at (c .half-up .ensures))
-
-weight-of-requires : tie.Need-weight-of-requires
-weight-of-requires c κs = search needs
+    (counted (t .result) (start .args .n * 2147483648) (start .fits .s)
+    (toZ-ofZ (start .fits .s) ∙ (rw (widened (start .fits .s)) at (t .ensures .0))))
+    (rw (start .pre .2) at (c .half-up .ensures))
 
 sub-m : tie.Need-sub-m
-sub-m c = search needs
+sub-m c = omega (arith, light c)
 
 mul-m : tie.Need-mul-m
 mul-m c = omega (arith, share c)
@@ -69,8 +70,13 @@ raised-requires c κs = search needs
 mul-m-2 : tie.Need-mul-m-2
 mul-m-2 c = omega (arith, vertex c)
 
+cast-raised-sum : tie.Need-cast-raised-sum
+cast-raised-sum c = widens (c .before .fits .s)
+
 raised-sum-requires : tie.Need-raised-sum-requires
-raised-sum-requires c κs = search needs
+raised-sum-requires c κs =
+    let start = c .before in
+    rw (widened (start .fits .s)) (omega arith, sum-of-some (start .pre .0) (start .fits .s))
 
 mul-m-3 : tie.Need-mul-m-3
 mul-m-3 c = omega (arith, ring c)
@@ -86,9 +92,9 @@ half-up-requires c κs = omega (arith, vertex (c .before), ring c)
 
 lowered-requires : tie.Need-lowered-requires
 lowered-requires c κs =
-    let start = c .before .before .before .before in
+    let start = c .before .before .before in
     let p = sum-of-one (start .fits .p) .high in
-    let top = moved-at-most {hi = pos 2147483647} (start .pre .0) p (start .pre .2 .high) in
+    let top = moved-at-most {hi = pos 2147483647} (start .pre .0) p (sum-of-some (start .pre .0) (start .fits .s) .high) in
     let k = sub (nat (c .half-up .result)) (nat 2147483648) in
     omega (arith, at-most-gives k (nat 2147483647) (rw (mean c) top))
 
@@ -99,11 +105,11 @@ pub moved-to-spec : {M : Type 1} → statement M
 moved-to-spec =
     tie.close
     (tie.spec
-    weight-of-requires
     sub-m
     mul-m
     raised-requires
     mul-m-2
+    cast-raised-sum
     raised-sum-requires
     mul-m-3
     add-m

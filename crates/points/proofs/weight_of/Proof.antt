@@ -2,7 +2,6 @@
 use borrow.Author.Needs.{needs}
 use mathlib.Core.Path.{refl}
 use Rattle.rules.specs.Numbers.{weights, weight}
-use Rattle.rules.proofs.Rounding.{weight-at-most}
 use Rattle.points.proofs.weight_of.Statement.{statement}
 use Rattle.points.proofs.weight_of.Tie as tie
 
@@ -14,7 +13,7 @@ array-read-result c = search needs
 
 returns : tie.Need-returns
 unfolding weight weights
-returns c = (refl, weight-at-most (c .args .n))
+returns c = refl
 
 pub weight-of-spec : {M : Type 1} → statement M
 weight-of-spec = tie.close (tie.spec mul-result array-read-result returns)

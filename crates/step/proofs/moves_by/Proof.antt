@@ -1,25 +1,15 @@
 -- `step::moves_by` meets its contract.
 use borrow.Author.Needs.{needs}
-use native.Mathlib.Omega.{arith}
-use Rattle.step.proofs.Moving.{sides-asked}
+use borrow.Author.Tests.{not-true, not-false}
+use Rattle.step.proofs.Moving.{all-moved}
+use Rattle.step.proofs.Summing.{summable, none-summed, long-ring, movable}
 use Rattle.step.proofs.moves_by.Statement.{statement}
 use Rattle.step.proofs.moves_by.Tie as tie
 
-lowest-sides-requires : tie.Need-lowest-sides-requires
-lowest-sides-requires c κs =
+ring-sums-requires : tie.Need-ring-sums-requires
+ring-sums-requires c κs =
     let pre = c .before .before .before .before .pre in
-    sides-asked _ (pre .0 .1) (pre .1 .0 .is)
-
-moves-from-requires : tie.Need-moves-from-requires
-moves-from-requires c κs =
-    let at-lowest = c .before .before .before .before in
-    let pre = at-lowest .before .before .before .before .before .pre in
-    let S = pre .0 .1 .sound in
-    let few = S .tables .fewVertices in
-    let room = S .vertexRoom in (
-      pre .0,
-      (at-lowest .lowest-sides .ensures, omega (arith, pre .1 .0 .is, at-lowest .lowest-sides .kept), pre .1 .1),
-    )
+    (summable (pre .0 .2), none-summed (pre .0 .2) (pre .1 .0) (pre .1 .1))
 
 same-length : tie.Need-same-length
 same-length c = search needs
@@ -28,9 +18,35 @@ same-length-2 : tie.Need-same-length-2
 same-length-2 c = search needs
 
 returns : tie.Need-returns
-returns c = search needs
+returns c l g C = long-ring C (c .before .before .before .before .ring-sums .ensures .crowded (not-true _ (c .if1 .taken)))
+
+move-all-requires : tie.Need-move-all-requires
+move-all-requires c κs =
+    let inner = c .before .before in
+    let at-sums = inner .before .before .before .before in
+    movable (at-sums .before .before .before .before .before .pre .0 .2) (at-sums .ring-sums .ensures .whole (not-false _ (inner .if1 .left)))
+
+same-length-3 : tie.Need-same-length-3
+same-length-3 c = search needs
+
+same-length-4 : tie.Need-same-length-4
+same-length-4 c = search needs
+
+returns-2 : tie.Need-returns-2
+returns-2 c l g C =
+    let at-move = c .before in
+    let inner = at-move .before .before .before in
+    all-moved C (inner .before .before .before .before .ring-sums .ensures .whole (not-false _ (inner .if1 .left))) (at-move .move-all .ensures)
 
 pub moves-by-spec : {M : Type 1} → statement M
 moves-by-spec =
     tie.close
-    (tie.spec lowest-sides-requires moves-from-requires same-length same-length-2 returns)
+    (tie.spec
+    ring-sums-requires
+    same-length
+    same-length-2
+    returns
+    move-all-requires
+    same-length-3
+    same-length-4
+    returns-2)

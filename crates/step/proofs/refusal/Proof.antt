@@ -43,7 +43,7 @@ short : (c : tie.Else3) → longRing (mesh (start (c .before .before .before .be
 short c =
     let at-moves = c .before .before in
     let inner = at-moves .before .before .before .before in
-    not-true _ (sym (at-moves .moves .ensures _ (closed inner) .0) ∙ not-false _ (c .if3 .left))
+    not-true _ (sym (at-moves .moves .ensures _ _ (closed inner) .0) ∙ not-false _ (c .if3 .left))
 
 -- What is told of the room for it.
 room-told : (c : tie.After-has-room) →
@@ -76,8 +76,7 @@ returns-2 c =
 moves-requires : tie.Need-moves-requires
 moves-requires c κs =
     let inner = c .before .before .before in
-    let S = sound inner in
-    ((_, closed inner), omega (arith, start inner .pre .1 .is, S .tables .fewVertices, S .vertexRoom))
+    ((_, _, closed inner), start inner .pre .1)
 
 same-length : tie.Need-same-length
 same-length c = search needs
@@ -88,7 +87,7 @@ returns-3 c =
     let second = at-moves .before .before in
     let inner = second .before .before in (
       step-by-tests (sound inner) (even inner) (young second)
-          (not-false _ (sym (at-moves .moves .ensures _ (closed inner) .0) ∙ not-true _ (c .if3 .taken))) refl,
+          (not-false _ (sym (at-moves .moves .ensures _ _ (closed inner) .0) ∙ not-true _ (c .if3 .taken))) refl,
       λ e. absurd (omega arith),
     )
 
@@ -119,7 +118,7 @@ returns-5 c =
     let inner = second .before .before in (
       step-by-tests (sound inner) (even inner) (young second) (short third)
           (sym (room-told (c .before)) ∙ not-false _ (c .if4 .left)),
-      λ e. at-moves .moves .ensures _ (closed inner) .1 (not-false _ (third .if3 .left)),
+      λ e. at-moves .moves .ensures _ _ (closed inner) .1 (not-false _ (third .if3 .left)),
     )
 
 pub refusal-spec : {M : Type 1} → statement M

@@ -1,6 +1,6 @@
 -- `step::smoothing_step` meets its contract.
 use borrow.Author.Needs.{needs}
-use Rattle.step.proofs.Deciding.{sized}
+use Rattle.step.proofs.Deciding.{filled}
 use Rattle.step.proofs.smoothing_step.Statement.{statement}
 use Rattle.step.proofs.smoothing_step.Tie as tie
 
@@ -8,7 +8,7 @@ slice-aggregate-step-by : tie.Need-slice-aggregate-step-by
 slice-aggregate-step-by c = search needs
 
 step-by-requires : tie.Need-step-by-requires
-step-by-requires c κs = (c .before .before .before .before .before .before .before .before .pre, sized 98304 _)
+step-by-requires c κs = (c .before .before .before .before .before .before .before .before .pre, filled 98304 _)
 
 same-length : tie.Need-same-length
 same-length c = search needs

@@ -37,8 +37,8 @@ whole-step-requires c κs =
       step-found _ (sym (at-refusal .refusal .ensures .0) ∙ carried .if1 .left),
       at-refusal .refusal .ensures .1 (carried .if1 .left),
       record {
-        whole = omega (arith, start .pre .1 .is, at-refusal .refusal .kept);
-        few = omega (arith, start .pre .1 .is, at-refusal .refusal .kept);
+        whole = omega (arith, start .pre .1 .size, at-refusal .refusal .kept);
+        few = omega (arith, start .pre .1 .size, at-refusal .refusal .kept);
       },
     )
 

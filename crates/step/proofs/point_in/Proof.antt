@@ -1,4 +1,4 @@
--- `rings::point_at` meets its contract.
+-- `step::point_in` meets its contract.
 use borrow.Author.Needs.{needs}
 use Prim.Native.Nat.{ℕ, _+_, _*_}
 use native.Mathlib.Omega.{arith}
@@ -7,8 +7,8 @@ use lib.IntN.{ℤ, pos}
 use lib.ListN.{getD}
 use mir.Syntax.{w32}
 use Rattle.points.proofs.Signed.{returned}
-use Rattle.rings.proofs.point_at.Statement.{statement}
-use Rattle.rings.proofs.point_at.Tie as tie
+use Rattle.step.proofs.point_in.Statement.{statement}
+use Rattle.step.proofs.point_in.Tie as tie
 
 mul-i : tie.Need-mul-i
 mul-i c = search needs
@@ -44,15 +44,15 @@ returns : tie.Need-returns
 returns c =
     let args = c .before .before .before .before .args in
     let i = 3 * args .v in
-    let number : ℕ → ℤ = λ k. getD (args .positions .now) k (pos 0) in
+    let number : ℕ → ℤ = λ k. getD (args .table .now) k (pos 0) in
     let first : i + 0 ≡ i = omega arith in
     let x = returned w32 {r = number i} (c .before .before .before .new-arg .given) refl in
     let y = returned w32 {r = number (i + 1)} (c .before .before .new-arg2 .given) refl in
     let z = returned w32 {r = number (i + 2)} (c .before .new-arg3 .given) refl in
     c .new .ensures ∙ rw (first, x, y, z)
 
-pub point-at-spec : {M : Type 1} → statement M
-point-at-spec =
+pub point-in-spec : {M : Type 1} → statement M
+point-in-spec =
     tie.close
     (tie.spec
     mul-i

@@ -1,0 +1,156 @@
+-- `step::add_triangle` meets its contract.
+use borrow.Author.Needs.{needs}
+use borrow.Author.Tests.{not-true, not-false}
+use Prim.Native.Nat.{_+_, _*_}
+use native.Mathlib.Omega.{arith}
+use mathlib.Core.Path.{refl, sym, subst}
+use lib.Dec.{T}
+use Rattle.rules.proofs.Sides.{next-0, next-1, next-2}
+use Rattle.step.proofs.Summing.{side-fits, side-done}
+use Rattle.step.proofs.add_triangle.Statement.{statement}
+use Rattle.step.proofs.add_triangle.Tie as tie
+
+mul-i : tie.Need-mul-i
+mul-i c = search needs
+
+mul-a : tie.Need-mul-a
+mul-a c = search needs
+
+shared-slice-read-a : tie.Need-shared-slice-read-a
+shared-slice-read-a c = search needs
+
+add-b : tie.Need-add-b
+add-b c = search needs
+
+mul-b : tie.Need-mul-b
+mul-b c = search needs
+
+shared-slice-read-b : tie.Need-shared-slice-read-b
+shared-slice-read-b c = search needs
+
+add-c : tie.Need-add-c
+add-c c = search needs
+
+mul-c : tie.Need-mul-c
+mul-c c = search needs
+
+shared-slice-read-c : tie.Need-shared-slice-read-c
+shared-slice-read-c c = search needs
+
+add-side-requires : tie.Need-add-side-requires
+add-side-requires c κs =
+    let start = c .before .before .before .before .before .before .before in
+    let t = start .args .t in
+    side-fits (start .pre .0) (3 * t) (omega arith) (start .pre .2) (3 * t + 1) (sym (next-0 t))
+
+same-length : tie.Need-same-length
+same-length c = search needs
+
+same-length-2 : tie.Need-same-length-2
+same-length-2 c = search needs
+
+returns : tie.Need-returns
+returns c =
+    let at-first = c .before .before .before .before in
+    let start = at-first .before .before .before .before .before .before .before .before in
+    let t = start .args .t in
+    let one = side-done (start .pre .0) (3 * t) (omega arith) (start .pre .2) (3 * t + 1) (sym (next-0 t)) (3 * t + 1) refl
+    (at-first .add-side .ensures) in
+    record { whole = λ e. absurd (subst T (sym e) tt); crowded = λ _. one .crowded (not-true _ (c .if1 .taken)) }
+
+add-side-requires-2 : tie.Need-add-side-requires-2
+add-side-requires-2 c κs =
+    let inner = c .before .before in
+    let at-first = inner .before .before .before .before in
+    let start = at-first .before .before .before .before .before .before .before .before in
+    let t = start .args .t in
+    let one = side-done (start .pre .0) (3 * t) (omega arith) (start .pre .2) (3 * t + 1) (sym (next-0 t)) (3 * t + 1) refl
+    (at-first .add-side .ensures) in
+    let S = one .whole (not-false _ (inner .if1 .left)) in
+    side-fits (start .pre .0) (3 * t + 1) (omega arith) S (3 * t + 2) (sym (next-1 t))
+
+same-length-3 : tie.Need-same-length-3
+same-length-3 c = search needs
+
+same-length-4 : tie.Need-same-length-4
+same-length-4 c = search needs
+
+returns-2 : tie.Need-returns-2
+returns-2 c =
+    let at-second = c .before .before .before .before in
+    let inner = at-second .before .before .before in
+    let at-first = inner .before .before .before .before in
+    let start = at-first .before .before .before .before .before .before .before .before in
+    let t = start .args .t in
+    let one = side-done (start .pre .0) (3 * t) (omega arith) (start .pre .2) (3 * t + 1) (sym (next-0 t)) (3 * t + 1) refl
+    (at-first .add-side .ensures) in
+    let S = one .whole (not-false _ (inner .if1 .left)) in
+    let two = side-done (start .pre .0) (3 * t + 1) (omega arith) S (3 * t + 2) (sym (next-1 t)) (3 * t + 2) (omega arith)
+    (at-second .add-side2 .ensures) in
+    record { whole = λ e. absurd (subst T (sym e) tt); crowded = λ _. two .crowded (not-true _ (c .if2 .taken)) }
+
+add-side-requires-3 : tie.Need-add-side-requires-3
+add-side-requires-3 c κs =
+    let third = c .before .before in
+    let at-second = third .before .before .before .before in
+    let inner = at-second .before .before .before in
+    let at-first = inner .before .before .before .before in
+    let start = at-first .before .before .before .before .before .before .before .before in
+    let t = start .args .t in
+    let one = side-done (start .pre .0) (3 * t) (omega arith) (start .pre .2) (3 * t + 1) (sym (next-0 t)) (3 * t + 1) refl
+    (at-first .add-side .ensures) in
+    let S = one .whole (not-false _ (inner .if1 .left)) in
+    let two = side-done (start .pre .0) (3 * t + 1) (omega arith) S (3 * t + 2) (sym (next-1 t)) (3 * t + 2) (omega arith)
+    (at-second .add-side2 .ensures) in
+    let S₂ = two .whole (not-false _ (third .if2 .left)) in
+    side-fits (start .pre .0) (3 * t + 2) (omega arith) S₂ (3 * t) (sym (next-2 t))
+
+same-length-5 : tie.Need-same-length-5
+same-length-5 c = search needs
+
+same-length-6 : tie.Need-same-length-6
+same-length-6 c = search needs
+
+returns-3 : tie.Need-returns-3
+returns-3 c =
+    let at-third = c .before .before .before in
+    let third = at-third .before .before .before in
+    let at-second = third .before .before .before .before in
+    let inner = at-second .before .before .before in
+    let at-first = inner .before .before .before .before in
+    let start = at-first .before .before .before .before .before .before .before .before in
+    let t = start .args .t in
+    let one = side-done (start .pre .0) (3 * t) (omega arith) (start .pre .2) (3 * t + 1) (sym (next-0 t)) (3 * t + 1) refl
+    (at-first .add-side .ensures) in
+    let S = one .whole (not-false _ (inner .if1 .left)) in
+    let two = side-done (start .pre .0) (3 * t + 1) (omega arith) S (3 * t + 2) (sym (next-1 t)) (3 * t + 2) (omega arith)
+    (at-second .add-side2 .ensures) in
+    let S₂ = two .whole (not-false _ (third .if2 .left)) in
+    side-done (start .pre .0) (3 * t + 2) (omega arith) S₂ (3 * t) (sym (next-2 t)) (3 * (t + 1)) (omega arith)
+    (at-third .add-side3 .ensures)
+
+pub add-triangle-spec : {M : Type 1} → statement M
+add-triangle-spec =
+    tie.close
+    (tie.spec
+    mul-i
+    mul-a
+    shared-slice-read-a
+    add-b
+    mul-b
+    shared-slice-read-b
+    add-c
+    mul-c
+    shared-slice-read-c
+    add-side-requires
+    same-length
+    same-length-2
+    returns
+    add-side-requires-2
+    same-length-3
+    same-length-4
+    returns-2
+    add-side-requires-3
+    same-length-5
+    same-length-6
+    returns-3)
