@@ -5,10 +5,10 @@ use tables::Counts;
 ghost use mathlib.Core.Path.{_≡_};
 ghost use mathlib.Core.List.{List, [], _∷_};
 ghost use mathlib.Core.Bool.{not};
-ghost use Prim.Native.Nat.{ℕ, _+_, _*_, max};
+ghost use Prim.Native.Nat.{ℕ, max};
 ghost use lib.Dec.{eqb, leb};
-ghost use lib.ListN.{length};
-ghost use Rattle.rules.specs.Calls.{firstOf, _if_, roomFor, loadCall, refineCall, wholeStepCall, ringCall, positionCall, positionRefusal};
+ghost use Rattle.rules.specs.Calls.{firstOf, _if_, roomFor, loadCall, refineCall, wholeStepCall};
+ghost use Rattle.rules.specs.Calls.{ringCall, positionCall, positionRefusal};
 ghost use Rattle.rules.specs.Sound.{isSound};
 ghost use Rattle.rules.specs.Tables.{tablesAgree, generation, odd};
 ghost use Rattle.tables.specs.Lent.{meshNow};
@@ -47,7 +47,8 @@ fn not_sound(
     generations: &[u8],
     counts: Counts,
 ) -> u32
-    ensures { λ r. ⌜ (let m = meshNow counts (now (positions .entry)) (now (corners .entry)) (now (links .entry)) (now (generations .entry)) in
+    ensures { λ r. ⌜ (let m = meshNow counts (now (positions .entry)) (now (corners .entry)) (now (links .entry))
+        (now (generations .entry)) in
         r ≡ firstOf (1 if not (tablesAgree m) ∷ 7 if not (isSound m) ∷ [])) ⌝ }
 {
     if !soundness::tables_agree(positions, corners, links, generations) {
@@ -77,7 +78,8 @@ pub fn load(
 ) -> Worked
     ensures { λ r. ⌜
         workedOutcome r (now (positions .exit)) (now (corners .exit)) (now (links .exit)) (now (generations .exit))
-        ≡ loadCall (now (cage .entry)) (meshNow counts (now (positions .entry)) (now (corners .entry)) (now (links .entry)) (now (generations .entry))) ⌝ }
+        ≡ loadCall (now (cage .entry)) (meshNow counts (now (positions .entry)) (now (corners .entry))
+        (now (links .entry)) (now (generations .entry))) ⌝ }
 {
     let v = counts.vertices;
     let f = counts.triangles;
@@ -102,7 +104,8 @@ fn triangle_refusal(
     counts: Counts,
     t: u32,
 ) -> u32
-    ensures { λ r. ⌜ (let m = meshNow counts (now (positions .entry)) (now (corners .entry)) (now (links .entry)) (now (generations .entry)) in
+    ensures { λ r. ⌜ (let m = meshNow counts (now (positions .entry)) (now (corners .entry)) (now (links .entry))
+        (now (generations .entry)) in
         r ≡ firstOf (1 if not (tablesAgree m) ∷ 7 if not (isSound m)
         ∷ 8 if leb (m .topology .triangles) t ∷ 9 if eqb (generation (m .topology) t) 20 ∷ [])) ⌝ }
 {
@@ -146,7 +149,8 @@ pub fn refine(
 ) -> Worked
     ensures { λ r. ⌜
         workedOutcome r (now (positions .exit)) (now (corners .exit)) (now (links .exit)) (now (generations .exit))
-        ≡ refineCall t (meshNow counts (now (positions .entry)) (now (corners .entry)) (now (links .entry)) (now (generations .entry))) ⌝ }
+        ≡ refineCall t (meshNow counts (now (positions .entry)) (now (corners .entry)) (now (links .entry))
+        (now (generations .entry))) ⌝ }
 {
     let bad = triangle_refusal(positions, corners, links, generations, counts, t);
     if bad != 0 {
@@ -189,7 +193,8 @@ pub fn whole_step(
 ) -> Worked
     ensures { λ r. ⌜
         workedOutcome r (now (positions .exit)) (now (corners .exit)) (now (links .exit)) (now (generations .exit))
-        ≡ wholeStepCall (meshNow counts (now (positions .entry)) (now (corners .entry)) (now (links .entry)) (now (generations .entry))) ⌝ }
+        ≡ wholeStepCall (meshNow counts (now (positions .entry)) (now (corners .entry)) (now (links .entry))
+        (now (generations .entry))) ⌝ }
 {
     let bad = not_sound(positions, corners, links, generations, counts);
     if bad != 0 {
@@ -229,7 +234,8 @@ fn find_ring(
     v: u32,
     room: usize,
 ) -> FoundRing
-    ensures { λ r. ⌜ FoundFor v room (meshNow counts (now (positions .entry)) (now (corners .entry)) (now (links .entry)) (now (generations .entry))) r ⌝ }
+    ensures { λ r. ⌜ FoundFor v room (meshNow counts (now (positions .entry)) (now (corners .entry))
+        (now (links .entry)) (now (generations .entry))) r ⌝ }
 {
     if !soundness::tables_agree(positions, corners, links, generations) {
         return FoundRing {
@@ -288,8 +294,10 @@ pub fn ring(
     buffer: &mut [u32],
 ) -> RingRead
     ensures { λ r. ⌜
-        ringOutcome r (now (positions .entry)) (now (corners .entry)) (now (links .entry)) (now (generations .entry)) (now (buffer .exit))
-        ≡ ringCall v (now (buffer .entry)) (meshNow counts (now (positions .entry)) (now (corners .entry)) (now (links .entry)) (now (generations .entry))) ⌝ }
+        ringOutcome r (now (positions .entry)) (now (corners .entry)) (now (links .entry))
+        (now (generations .entry)) (now (buffer .exit))
+        ≡ ringCall v (now (buffer .entry)) (meshNow counts (now (positions .entry)) (now (corners .entry))
+        (now (links .entry)) (now (generations .entry))) ⌝ }
 {
     let found = find_ring(
         positions,
@@ -324,7 +332,8 @@ fn position_refusal(
     counts: Counts,
     v: u32,
 ) -> u32
-    ensures { λ r. ⌜ r ≡ positionRefusal v (meshNow counts (now (positions .entry)) (now (corners .entry)) (now (links .entry)) (now (generations .entry))) ⌝ }
+    ensures { λ r. ⌜ r ≡ positionRefusal v (meshNow counts (now (positions .entry)) (now (corners .entry))
+        (now (links .entry)) (now (generations .entry))) ⌝ }
 {
     let bad = not_sound(positions, corners, links, generations, counts);
     if bad != 0 {
@@ -346,8 +355,10 @@ pub fn position(
     v: u32,
 ) -> PositionRead
     ensures { λ r. ⌜
-        positionOutcome r (now (positions .entry)) (now (corners .entry)) (now (links .entry)) (now (generations .entry))
-        ≡ positionCall v (meshNow counts (now (positions .entry)) (now (corners .entry)) (now (links .entry)) (now (generations .entry))) ⌝ }
+        positionOutcome r (now (positions .entry)) (now (corners .entry)) (now (links .entry))
+        (now (generations .entry))
+        ≡ positionCall v (meshNow counts (now (positions .entry)) (now (corners .entry)) (now (links .entry))
+        (now (generations .entry))) ⌝ }
 {
     let refusal = position_refusal(positions, corners, links, generations, counts, v);
     if refusal != 0 {

@@ -21,8 +21,8 @@ pub extern "C" fn rawplinth_load(
 ) -> Worked
     ensures { λ r. ⌜ workedOutcome r (now (positions .exit)) (now (corners .exit)) (now (links .exit))
         (now (generations .exit))
-        ≡ loadCall (now (cage .entry)) (meshNow counts (now (positions .entry)) (now (corners .entry)) (now (links .entry))
-        (now (generations .entry))) ⌝ }
+        ≡ loadCall (now (cage .entry)) (meshNow counts (now (positions .entry)) (now (corners .entry))
+        (now (links .entry)) (now (generations .entry))) ⌝ }
 {
     mesh::load(positions, corners, links, generations, counts, cage)
 }
@@ -75,8 +75,8 @@ pub extern "C" fn rawplinth_ring(
 ) -> RingRead
     ensures { λ r. ⌜ ringOutcome r (now (positions .entry)) (now (corners .entry)) (now (links .entry))
         (now (generations .entry)) (now (buffer .exit))
-        ≡ ringCall vertex (now (buffer .entry)) (meshNow counts (now (positions .entry)) (now (corners .entry)) (now (links .entry))
-        (now (generations .entry))) ⌝ }
+        ≡ ringCall vertex (now (buffer .entry)) (meshNow counts (now (positions .entry)) (now (corners .entry))
+        (now (links .entry)) (now (generations .entry))) ⌝ }
 {
     mesh::ring(
         positions,

@@ -10,14 +10,15 @@ use lib.ListN.{length, getD, length-set}
 use lib.Seq.{getD-set-same, getD-set-other}
 use Rattle.points.proofs.Axes.{each-fits}
 use Rattle.points.specs.Axes.{SumOf}
-use Rattle.rules.proofs.RingSums.{ahead, outOf, SumOut, none-added, none-out, one-added, one-out, other-added, other-out, out-up, sum-low, sum-high, ring-counted, ring-added}
+use Rattle.rules.proofs.RingSums.{ahead, outOf, SumOut, none-added, none-out, one-added, one-out, other-added}
+use Rattle.rules.proofs.RingSums.{other-out, out-up, sum-low, sum-high, ring-counted, ring-added}
 use Rattle.rules.proofs.RingVertices.{ring-some}
-use Rattle.rules.proofs.Sides.{next-lt, put-at, put-else, length-put}
+use Rattle.rules.proofs.Sides.{next-0, next-1, next-2, next-lt, put-at, put-else, length-put}
 use Rattle.rules.specs.Conditions.{LongRing}
 use Rattle.rules.specs.Numbers.{InRange}
 use Rattle.rules.specs.Ring.{ring}
 use Rattle.rules.specs.Step.{sumOver}
-use Rattle.rules.specs.Tables.{Mesh, sides, next}
+use Rattle.rules.specs.Tables.{Topology, Mesh, sides, next}
 use Rattle.tables.specs.declared.Counts.{Counts}
 use Rattle.tables.specs.Lent.{meshNow}
 use Rattle.step.specs.Moves.{Filled, Closed}
@@ -140,10 +141,10 @@ module _ {n : Counts} {positions : List ℤ} {corners : List ℕ} (A : Summable 
 
   -- What it asks and gives, with the next side j and the number g of sides added up then.
   module _ (j : ℕ) (ej : j ≡ next h) where
-    pub side-fits : SideFits positions o (getD corners j 0) entries sums
+    side-fits : SideFits positions o (getD corners j 0) entries sums
     side-fits = rw ej fits
 
-    pub side-done : (g : ℕ) → g ≡ h + 1 → {entries′ : List ℕ} {sums′ : List ℤ} {r : Bool}
+    side-done : (g : ℕ) → g ≡ h + 1 → {entries′ : List ℕ} {sums′ : List ℤ} {r : Bool}
         → SideAdded positions o (getD corners j 0) entries sums entries′ sums′ r
         → SidesAdded g n positions corners entries′ sums′ r
     side-done g eg D = record {
@@ -151,23 +152,57 @@ module _ {n : Counts} {positions : List ℤ} {corners : List ℕ} (A : Summable 
       crowded = λ e. one-too-many (D .full e);
     }
 
+-- ---- the three sides of triangle t
+
+module _ {n : Counts} {positions : List ℤ} {corners : List ℕ} (A : Summable n positions corners) (t : ℕ)
+    (b : t < n .triangles) {entries : List ℕ} {sums : List ℤ} where
+  module _ (S : Summed (3 * t) (n .vertices) positions corners entries sums) where
+    pub first-fits : SideFits positions (getD corners (3 * t) 0) (getD corners (3 * t + 1) 0) entries sums
+    first-fits = side-fits A (3 * t) (omega arith) S (3 * t + 1) (sym (next-0 t))
+
+    pub first-done : {entries′ : List ℕ} {sums′ : List ℤ} {r : Bool}
+        → SideAdded positions (getD corners (3 * t) 0) (getD corners (3 * t + 1) 0) entries sums entries′ sums′ r
+        → SidesAdded (3 * t + 1) n positions corners entries′ sums′ r
+    first-done = side-done A (3 * t) (omega arith) S (3 * t + 1) (sym (next-0 t)) (3 * t + 1) refl
+
+  module _ (S : Summed (3 * t + 1) (n .vertices) positions corners entries sums) where
+    pub second-fits : SideFits positions (getD corners (3 * t + 1) 0) (getD corners (3 * t + 2) 0) entries sums
+    second-fits = side-fits A (3 * t + 1) (omega arith) S (3 * t + 2) (sym (next-1 t))
+
+    pub second-done : {entries′ : List ℕ} {sums′ : List ℤ} {r : Bool}
+        → SideAdded positions (getD corners (3 * t + 1) 0) (getD corners (3 * t + 2) 0) entries sums entries′ sums′ r
+        → SidesAdded (3 * t + 2) n positions corners entries′ sums′ r
+    second-done = side-done A (3 * t + 1) (omega arith) S (3 * t + 2) (sym (next-1 t)) (3 * t + 2) (omega arith)
+
+  module _ (S : Summed (3 * t + 2) (n .vertices) positions corners entries sums) where
+    pub third-fits : SideFits positions (getD corners (3 * t + 2) 0) (getD corners (3 * t) 0) entries sums
+    third-fits = side-fits A (3 * t + 2) (omega arith) S (3 * t) (sym (next-2 t))
+
+    pub third-done : {entries′ : List ℕ} {sums′ : List ℤ} {r : Bool}
+        → SideAdded positions (getD corners (3 * t + 2) 0) (getD corners (3 * t) 0) entries sums entries′ sums′ r
+        → SidesAdded (3 * (t + 1)) n positions corners entries′ sums′ r
+    third-done = side-done A (3 * t + 2) (omega arith) S (3 * t) (sym (next-2 t)) (3 * (t + 1)) (omega arith)
+
 -- ---- after the last side
 
 module _ {m : Mesh} (C : Closed m) where
-  pub long-ring : (v : ℕ) × (v < m .topology .vertices) × (12 < outOf (sides (m .topology)) (m .topology .corners) v)
-      → LongRing (m .topology)
+  abbrev t : Topology
+  t = m .topology
+
+  pub long-ring : (v : ℕ) × (v < t .vertices) × (12 < outOf (sides t) (t .corners) v)
+      → LongRing t
   long-ring (v, b, l) = (v, b, rw (ring-counted (C .sound) (C .inner) v b) l)
 
   module _ {entries : List ℕ} {sums : List ℤ}
-      (S : Summed (sides (m .topology)) (m .topology .vertices) (m .positions) (m .topology .corners) entries sums) where
-    pub ring-entries : (v : ℕ) → v < m .topology .vertices → getD entries v 0 ≡ length (ring (m .topology) v)
+      (S : Summed (sides t) (t .vertices) (m .positions) (t .corners) entries sums) where
+    pub ring-entries : (v : ℕ) → v < t .vertices → getD entries v 0 ≡ length (ring t v)
     ring-entries v b = S .counted v b ∙ sym (ring-counted (C .sound) (C .inner) v b)
 
-    pub ring-sum : (v k : ℕ) → v < m .topology .vertices → k < 3
-        → getD sums (3 * v + k) (pos 0) ≡ sumOver m k (ring (m .topology) v)
+    pub ring-sum : (v k : ℕ) → v < t .vertices → k < 3
+        → getD sums (3 * v + k) (pos 0) ≡ sumOver m k (ring t v)
     ring-sum v k b i = ring-added (C .sound) (C .inner) v b k (S .added v k b i)
 
-    pub movable : Movable (m .topology .vertices) (m .positions) entries sums
+    pub movable : Movable (t .vertices) (m .positions) entries sums
     movable =
         let T = C .sound in
         record {

@@ -94,7 +94,8 @@ lowered-requires : tie.Need-lowered-requires
 lowered-requires c κs =
     let start = c .before .before .before in
     let p = sum-of-one (start .fits .p) .high in
-    let top = moved-at-most {hi = pos 2147483647} (start .pre .0) p (sum-of-some (start .pre .0) (start .fits .s) .high) in
+    let s = sum-of-some (start .pre .0) (start .fits .s) .high in
+    let top = moved-at-most {hi = pos 2147483647} (start .pre .0) p s in
     let k = sub (nat (c .half-up .result)) (nat 2147483648) in
     omega (arith, at-most-gives k (nat 2147483647) (rw (mean c) top))
 

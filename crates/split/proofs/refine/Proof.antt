@@ -38,8 +38,11 @@ module _ (c : tie.In-loop Inv-loop μ-loop) where
   abbrev work : rules.Work
   work = let l = loop-head .loop in workNow (l .work) (l .positions) (l .corners) (l .links) (l .generations)
 
+  more : 0 < loop-head .loop .left
+  more = omega (arith, c .loop-test .taken)
+
   at-end : loop-head .loop .end ≡ chainEnd (work .mesh .topology) (start .args .t)
-  at-end = loop-head .loop .inv .1 (c .loop-test .taken)
+  at-end = loop-head .loop .inv .1 more
 
 -- With the split made.
 module _ (c : tie.After-face-split Inv-loop μ-loop) where
@@ -53,7 +56,7 @@ module _ (c : tie.After-face-split Inv-loop μ-loop) where
 
   turned : Refining (start at .args .t) (first at) (start at .args .chain .slots) (loop-head at .loop .left - 1) next
   turned =
-      turn-on (start at .pre .0) (loop-head at .loop .inv .0) (at .loop-test .taken) (at-end at) next
+      turn-on (start at .pre .0) (loop-head at .loop .inv .0) (more at) (at-end at) next
       (c .face-split .ensures)
 
 splits-requires : tie.Need-splits-requires Inv-loop μ-loop
@@ -71,7 +74,7 @@ loop-holds c =
 face-split-requires : tie.Need-face-split-requires Inv-loop μ-loop
 face-split-requires c κs =
     let at = c .before .before .before .before in
-    turn-may-split (start at .pre .0) (loop-head at .loop .inv .0) (at .loop-test .taken) (at-end at)
+    turn-may-split (start at .pre .0) (loop-head at .loop .inv .0) (more at) (at-end at)
 
 sub-left : tie.Need-sub-left Inv-loop μ-loop
 sub-left c = search needs
@@ -84,7 +87,7 @@ across-last-requires c κs =
     let R = start at-loop .pre .0 in (
       at-if1 .if1 .taken,
       omega (arith, few-splits R, loop-head at-loop .loop .inv .0 .splits),
-      turn-within R (loop-head at-loop .loop .inv .0) (at-loop .loop-test .taken) (at-end at-loop) _
+      turn-within R (loop-head at-loop .loop .inv .0) (more at-loop) (at-end at-loop) _
           (at-split .face-split .ensures) (at-if1 .if1 .taken),
     )
 
@@ -98,7 +101,7 @@ loop-again c =
     let at-loop = at at-split in (
       turned at-split,
       λ j.
-          turn-end (start at-loop .pre .0) (loop-head at-loop .loop .inv .0) (at-loop .loop-test .taken)
+          turn-end (start at-loop .pre .0) (loop-head at-loop .loop .inv .0) (more at-loop)
           (at-end at-loop) _ (at-split .face-split .ensures) j _ (c .across-last .ensures),
     )
 

@@ -1,12 +1,9 @@
 -- `step::add_triangle` meets its contract.
 use borrow.Author.Needs.{needs}
 use borrow.Author.Tests.{not-true, not-false}
-use Prim.Native.Nat.{_+_, _*_}
-use native.Mathlib.Omega.{arith}
-use mathlib.Core.Path.{refl, sym, subst}
+use mathlib.Core.Path.{sym, subst}
 use lib.Dec.{T}
-use Rattle.rules.proofs.Sides.{next-0, next-1, next-2}
-use Rattle.step.proofs.Summing.{side-fits, side-done}
+use Rattle.step.proofs.Summing.{first-fits, first-done, second-fits, second-done, third-fits, third-done}
 use Rattle.step.proofs.add_triangle.Statement.{statement}
 use Rattle.step.proofs.add_triangle.Tie as tie
 
@@ -40,8 +37,7 @@ shared-slice-read-c c = search needs
 add-side-requires : tie.Need-add-side-requires
 add-side-requires c κs =
     let start = c .before .before .before .before .before .before .before in
-    let t = start .args .t in
-    side-fits (start .pre .0) (3 * t) (omega arith) (start .pre .2) (3 * t + 1) (sym (next-0 t))
+    first-fits (start .pre .0) (start .args .t) (start .pre .1) (start .pre .2)
 
 same-length : tie.Need-same-length
 same-length c = search needs
@@ -53,9 +49,10 @@ returns : tie.Need-returns
 returns c =
     let at-first = c .before .before .before .before in
     let start = at-first .before .before .before .before .before .before .before .before in
+    let A = start .pre .0 in
     let t = start .args .t in
-    let one = side-done (start .pre .0) (3 * t) (omega arith) (start .pre .2) (3 * t + 1) (sym (next-0 t)) (3 * t + 1) refl
-    (at-first .add-side .ensures) in
+    let b = start .pre .1 in
+    let one = first-done A t b (start .pre .2) (at-first .add-side .ensures) in
     record { whole = λ e. absurd (subst T (sym e) tt); crowded = λ _. one .crowded (not-true _ (c .if1 .taken)) }
 
 add-side-requires-2 : tie.Need-add-side-requires-2
@@ -63,11 +60,11 @@ add-side-requires-2 c κs =
     let inner = c .before .before in
     let at-first = inner .before .before .before .before in
     let start = at-first .before .before .before .before .before .before .before .before in
+    let A = start .pre .0 in
     let t = start .args .t in
-    let one = side-done (start .pre .0) (3 * t) (omega arith) (start .pre .2) (3 * t + 1) (sym (next-0 t)) (3 * t + 1) refl
-    (at-first .add-side .ensures) in
-    let S = one .whole (not-false _ (inner .if1 .left)) in
-    side-fits (start .pre .0) (3 * t + 1) (omega arith) S (3 * t + 2) (sym (next-1 t))
+    let b = start .pre .1 in
+    let one = first-done A t b (start .pre .2) (at-first .add-side .ensures) in
+    second-fits A t b (one .whole (not-false _ (inner .if1 .left)))
 
 same-length-3 : tie.Need-same-length-3
 same-length-3 c = search needs
@@ -81,29 +78,28 @@ returns-2 c =
     let inner = at-second .before .before .before in
     let at-first = inner .before .before .before .before in
     let start = at-first .before .before .before .before .before .before .before .before in
+    let A = start .pre .0 in
     let t = start .args .t in
-    let one = side-done (start .pre .0) (3 * t) (omega arith) (start .pre .2) (3 * t + 1) (sym (next-0 t)) (3 * t + 1) refl
-    (at-first .add-side .ensures) in
+    let b = start .pre .1 in
+    let one = first-done A t b (start .pre .2) (at-first .add-side .ensures) in
     let S = one .whole (not-false _ (inner .if1 .left)) in
-    let two = side-done (start .pre .0) (3 * t + 1) (omega arith) S (3 * t + 2) (sym (next-1 t)) (3 * t + 2) (omega arith)
-    (at-second .add-side2 .ensures) in
+    let two = second-done A t b S (at-second .add-side2 .ensures) in
     record { whole = λ e. absurd (subst T (sym e) tt); crowded = λ _. two .crowded (not-true _ (c .if2 .taken)) }
 
 add-side-requires-3 : tie.Need-add-side-requires-3
 add-side-requires-3 c κs =
-    let third = c .before .before in
-    let at-second = third .before .before .before .before in
+    let last = c .before .before in
+    let at-second = last .before .before .before .before in
     let inner = at-second .before .before .before in
     let at-first = inner .before .before .before .before in
     let start = at-first .before .before .before .before .before .before .before .before in
+    let A = start .pre .0 in
     let t = start .args .t in
-    let one = side-done (start .pre .0) (3 * t) (omega arith) (start .pre .2) (3 * t + 1) (sym (next-0 t)) (3 * t + 1) refl
-    (at-first .add-side .ensures) in
+    let b = start .pre .1 in
+    let one = first-done A t b (start .pre .2) (at-first .add-side .ensures) in
     let S = one .whole (not-false _ (inner .if1 .left)) in
-    let two = side-done (start .pre .0) (3 * t + 1) (omega arith) S (3 * t + 2) (sym (next-1 t)) (3 * t + 2) (omega arith)
-    (at-second .add-side2 .ensures) in
-    let S₂ = two .whole (not-false _ (third .if2 .left)) in
-    side-fits (start .pre .0) (3 * t + 2) (omega arith) S₂ (3 * t) (sym (next-2 t))
+    let two = second-done A t b S (at-second .add-side2 .ensures) in
+    third-fits A t b (two .whole (not-false _ (last .if2 .left)))
 
 same-length-5 : tie.Need-same-length-5
 same-length-5 c = search needs
@@ -114,20 +110,18 @@ same-length-6 c = search needs
 returns-3 : tie.Need-returns-3
 returns-3 c =
     let at-third = c .before .before .before in
-    let third = at-third .before .before .before in
-    let at-second = third .before .before .before .before in
+    let last = at-third .before .before .before in
+    let at-second = last .before .before .before .before in
     let inner = at-second .before .before .before in
     let at-first = inner .before .before .before .before in
     let start = at-first .before .before .before .before .before .before .before .before in
+    let A = start .pre .0 in
     let t = start .args .t in
-    let one = side-done (start .pre .0) (3 * t) (omega arith) (start .pre .2) (3 * t + 1) (sym (next-0 t)) (3 * t + 1) refl
-    (at-first .add-side .ensures) in
+    let b = start .pre .1 in
+    let one = first-done A t b (start .pre .2) (at-first .add-side .ensures) in
     let S = one .whole (not-false _ (inner .if1 .left)) in
-    let two = side-done (start .pre .0) (3 * t + 1) (omega arith) S (3 * t + 2) (sym (next-1 t)) (3 * t + 2) (omega arith)
-    (at-second .add-side2 .ensures) in
-    let S₂ = two .whole (not-false _ (third .if2 .left)) in
-    side-done (start .pre .0) (3 * t + 2) (omega arith) S₂ (3 * t) (sym (next-2 t)) (3 * (t + 1)) (omega arith)
-    (at-third .add-side3 .ensures)
+    let two = second-done A t b S (at-second .add-side2 .ensures) in
+    third-done A t b (two .whole (not-false _ (last .if2 .left))) (at-third .add-side3 .ensures)
 
 pub add-triangle-spec : {M : Type 1} → statement M
 add-triangle-spec =

@@ -40,7 +40,8 @@ moved-requires : tie.Need-moved-requires Inv-loop μ-loop
 moved-requires c κs =
     let turn = c .before .before .before .before .before in
     let M = turn .before .before .before .pre in
-    (M .some (turn .before .loop .v) (turn .loop-test .taken), M .most (turn .before .loop .v) (turn .loop-test .taken))
+    let v = turn .before .loop .v in
+    (M .some v (turn .loop-test .taken), M .most v (turn .loop-test .taken))
 
 store-point-requires : tie.Need-store-point-requires Inv-loop μ-loop
 store-point-requires c κs = search needs

@@ -18,13 +18,16 @@ same-length-2 : tie.Need-same-length-2
 same-length-2 c = search needs
 
 returns : tie.Need-returns
-returns c l g C = long-ring C (c .before .before .before .before .ring-sums .ensures .crowded (not-true _ (c .if1 .taken)))
+returns c l g C =
+    let at-sums = c .before .before .before .before in
+    long-ring C (at-sums .ring-sums .ensures .crowded (not-true _ (c .if1 .taken)))
 
 move-all-requires : tie.Need-move-all-requires
 move-all-requires c κs =
     let inner = c .before .before in
     let at-sums = inner .before .before .before .before in
-    movable (at-sums .before .before .before .before .before .pre .0 .2) (at-sums .ring-sums .ensures .whole (not-false _ (inner .if1 .left)))
+    let start = at-sums .before .before .before .before .before in
+    movable (start .pre .0 .2) (at-sums .ring-sums .ensures .whole (not-false _ (inner .if1 .left)))
 
 same-length-3 : tie.Need-same-length-3
 same-length-3 c = search needs
@@ -36,7 +39,8 @@ returns-2 : tie.Need-returns-2
 returns-2 c l g C =
     let at-move = c .before in
     let inner = at-move .before .before .before in
-    all-moved C (inner .before .before .before .before .ring-sums .ensures .whole (not-false _ (inner .if1 .left))) (at-move .move-all .ensures)
+    let at-sums = inner .before .before .before .before in
+    all-moved C (at-sums .ring-sums .ensures .whole (not-false _ (inner .if1 .left))) (at-move .move-all .ensures)
 
 pub moves-by-spec : {M : Type 1} → statement M
 moves-by-spec =

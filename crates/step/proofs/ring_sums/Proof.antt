@@ -28,10 +28,14 @@ add-triangle-requires c κs =
     (head .before .before .before .pre .0, turn .loop-test .taken, head .loop .inv .3)
 
 same-length : tie.Need-same-length Inv-loop μ-loop
-same-length c = omega (arith, c .before .before .before .before .add-triangle .kept, c .before .before .before .before .before .before .before .before .loop .inv .1)
+same-length c =
+    let at-triangle = c .before .before .before .before in
+    omega (arith, at-triangle .add-triangle .kept, at-triangle .before .before .before .before .loop .inv .1)
 
 same-length-2 : tie.Need-same-length-2 Inv-loop μ-loop
-same-length-2 c = omega (arith, c .before .before .before .before .add-triangle .kept, c .before .before .before .before .before .before .before .before .loop .inv .2)
+same-length-2 c =
+    let at-triangle = c .before .before .before .before in
+    omega (arith, at-triangle .add-triangle .kept, at-triangle .before .before .before .before .loop .inv .2)
 
 returns : tie.Need-returns Inv-loop μ-loop
 returns c = record {
