@@ -65,7 +65,8 @@ flip s u m =
 
 -- ---- counted work
 
--- A mesh with the face splits and flips made so far, counted as they are made. The rules build it by the four functions below alone.
+-- A mesh with the face splits and flips made so far, counted as they are made. The rules build it by the four functions
+-- below alone.
 pub record Work : Type 0 where
   pub mesh : Mesh
   pub splits : ℕ

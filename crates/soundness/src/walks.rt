@@ -82,8 +82,8 @@ fn walks_meet_all(links: &[u32], triangles: u32, vertices: u32, starts: &[u32]) 
     met == 3 * (triangles as usize)
 }
 
-// One more than the side where the ring of v starts; 0 where some vertex has not one fan. A zero for each vertex is lent
-// to keep its start.
+// One more than the side where the ring of v starts; 0 where some vertex has not one fan. A zero for each vertex is
+// lent to keep its start.
 fn fan_start_by(
     corners: &[u32],
     links: &[u32],

@@ -301,8 +301,9 @@ fn across_last(links: &[u32], slots: &[u32; 20], odd: u32) -> u32
     links[h] / 3
 }
 
-// The refinement of t, from the end of its base chain upwards. An odd triangle keeps its slot and its place in the chain
-// until it is flipped. What lies across its base is read anew for each split, as a flip may move it to another slot.
+// The refinement of t, from the end of its base chain upwards. An odd triangle keeps its slot and its place in the
+// chain until it is flipped. What lies across its base is read anew for each split, as a flip may move it to another
+// slot.
 pub fn refine(
     positions: &mut [i32],
     corners: &mut [u32],
