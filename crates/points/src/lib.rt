@@ -1,6 +1,5 @@
 // Points with whole coordinates, the rules that make new coordinates, and numbers of four bytes.
 ghost use mathlib.Core.Path.{_≡_};
-ghost use mathlib.Core.Bool.{_&&_};
 ghost use Prim.Native.Nat.{_+_, _*_, _≤_, _<_};
 ghost use lib.IntN.{pos, _+ℤ_, _-ℤ_};
 ghost use lib.ListN.{length};
@@ -25,12 +24,6 @@ impl Point {
         ensures { λ r. ⌜ r ≡ at x y z ⌝ }
     {
         Self { x, y, z }
-    }
-
-    pub fn in_range(self) -> bool
-        ensures { λ r. ⌜ r ≡ (inRange (self .x) && (inRange (self .y) && inRange (self .z))) ⌝ }
-    {
-        in_range(self.x) && (in_range(self.y) && in_range(self.z))
     }
 
     // The nearest third of the sum on each axis: where a face split puts its vertex.

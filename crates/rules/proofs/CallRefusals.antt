@@ -83,7 +83,7 @@ module _ (t : ℕ) (m : Mesh) (S : Sound m) (u : t < m .topology .triangles) (e 
       (λ (k, c, n) R. n (subst (λ (j : ℕ). RoomFor (max 1 j) m) (one-number chain-counted c) R))
       (is-not (room-is (splitsOf (m .topology) t) m))
 
-long-ring-is : (m : Topology) → Decides (any (m .vertices) (λ v. ltb 12 (length (ring m v)))) (LongRing m)
+pub long-ring-is : (m : Topology) → Decides (any (m .vertices) (λ v. ltb 12 (length (ring m v)))) (LongRing m)
 long-ring-is m =
     is-any (m .vertices) (λ v. ltb 12 (length (ring m v))) (λ v. 12 < length (ring m v))
     (λ v. is-lt 12 (length (ring m v)))

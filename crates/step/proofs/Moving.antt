@@ -10,10 +10,10 @@ use lib.IntN.{ℤ, pos}
 use lib.ListN.{length, getD}
 use Rattle.points.specs.declared.Point.{Point}
 use Rattle.points.specs.Axes.{movedPoint}
-use Rattle.rules.proofs.Decide.{Decides, is-lt, is-any, is-true, is-false, is-same}
+use Rattle.rules.proofs.CallRefusals.{long-ring-is}
+use Rattle.rules.proofs.Decide.{is-true, is-false, is-same}
 use Rattle.rules.proofs.Sides.{put-at, put-else}
 use Rattle.rules.specs.Below.{any}
-use Rattle.rules.specs.Conditions.{LongRing}
 use Rattle.rules.specs.Numbers.{moved}
 use Rattle.rules.specs.Ring.{ring}
 use Rattle.rules.specs.Step.{movedCoordinate}
@@ -61,14 +61,10 @@ all-moved {m} C S M = record {
 
 -- What the answer tells.
 module _ (m : Mesh) (l : List ℤ) where
-  long-is : Decides (any (m .topology .vertices) (λ v. ltb 12 (length (ring (m .topology) v)))) (LongRing (m .topology))
-  long-is = is-any (m .topology .vertices) (λ v. ltb 12 (length (ring (m .topology) v)))
-      (λ v. 12 < length (ring (m .topology) v)) (λ v. is-lt 12 (length (ring (m .topology) v)))
-
   pub moved-tells : (r : Bool) → Moved m l r
       → (r ≡ not (any (m .topology .vertices) (λ v. ltb 12 (length (ring (m .topology) v)))))
       × (r ≡ true → Moves (m .topology .vertices) m l)
   moved-tells true M =
       let few = M .short in
-      (ap not (is-same (is-false (λ (v, b, l). let s = few v b in omega arith)) long-is), λ _. M)
-  moved-tells false L = (ap not (is-same (is-true L) long-is), λ e. absurd (subst T (sym e) tt))
+      (ap not (is-same (is-false (λ (v, b, l). let s = few v b in omega arith)) (long-ring-is (m .topology))), λ _. M)
+  moved-tells false L = (ap not (is-same (is-true L) (long-ring-is (m .topology))), λ e. absurd (subst T (sym e) tt))

@@ -65,7 +65,7 @@ fn all_of(generations: &[u8], n: usize, g: u8) -> bool
 }
 
 // Whether no side is on the boundary and all triangles are of one even generation.
-pub fn closed_even(links: &[u32], generations: &[u8], triangles: u32) -> bool
+fn closed_even(links: &[u32], generations: &[u8], triangles: u32) -> bool
     requires { ⌜ (triangles ≤ 65536) × (3 * triangles ≤ length (now links)) × (triangles ≤ length (now generations)) ⌝ }
     ensures { λ r. ⌜ ((v : ℕ) (c : List ℕ) →
         r ≡ closedEven (topologyOf v triangles c (now (links .entry)) (now (generations .entry)))) ⌝ }

@@ -56,7 +56,8 @@ slice-aggregate-finish-2 c = search needs
 finish-requires : tie.Need-finish-requires
 finish-requires c κs =
     let at-refusal = c .before .before .before .before .before .before .before .before .before .before .before in
-    let pre = at-refusal .before .before .before .before .before .before .before .before .before .before .before .before .before .before .before .pre in
+    let at-array = at-refusal .before .before .before .before .before .before .before in
+    let pre = at-array .before .before .before .before .before .before .before .before .pre in
     (pre .0, (pre .1, at-refusal .refusal-of .ensures))
 
 same-length : tie.Need-same-length

@@ -20,7 +20,8 @@ Inv-loop positions₀ corners₀ links₀ generations₀ t slots work₀ _ _ pos
     × (0 < left → end ≡ chainEnd (workNow work positions corners links generations .mesh .topology) t)
 
 abbrev μ-loop : tie.MeasureT-loop
-μ-loop positions₀ corners₀ links₀ generations₀ t slots work₀ _ _ positions corners links generations work left end = left
+μ-loop positions₀ corners₀ links₀ generations₀ t slots work₀ _ _ positions corners links generations work left end =
+    left
 
 -- In the loop, with splits left.
 module _ (c : tie.In-loop Inv-loop μ-loop) where
