@@ -11,7 +11,7 @@ static uint32_t links[3 * TRIANGLE_SLOTS];
 static uint8_t generations[TRIANGLE_SLOTS];
 
 /* The four tables with their lengths, as every call takes them. */
-#define TABLES                                                                                                             \
+#define TABLES \
     positions, 3 * VERTEX_SLOTS, corners, 3 * TRIANGLE_SLOTS, links, 3 * TRIANGLE_SLOTS, generations, TRIANGLE_SLOTS
 
 /* The sizes, the coordinates and the corners. */
@@ -37,7 +37,8 @@ int main(void)
     if (done.refusal != RAWPLINTH_OK)
         return 1;
     counts = done.counts;
-    printf("%u split, %u flips: %u vertices, %u triangles\n", done.splits, done.flips, counts.vertices, counts.triangles);
+    printf("%u split, %u flips: ", done.splits, done.flips);
+    printf("%u vertices, %u triangles\n", counts.vertices, counts.triangles);
 
     uint32_t ring[16];
     rawplinth_ring_read read = rawplinth_ring(TABLES, counts, 4, ring, 16);

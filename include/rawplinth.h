@@ -19,8 +19,8 @@ extern "C" {
 #define RAWPLINTH_MAX_VERTEX_SLOTS 32768
 #define RAWPLINTH_MAX_TRIANGLE_SLOTS 65536
 
-/* How many vertices and triangles are in use. A fresh store has none. Every call takes the counts, and its answer has those
-   for the next call. */
+/* How many vertices and triangles are in use; none in a fresh store. Every call takes the counts, and its answer has
+   those for the next call. */
 typedef struct {
     uint32_t vertices;
     uint32_t triangles;
@@ -71,19 +71,19 @@ typedef struct {
 
      positions     3 for each vertex slot, in units of 1/1024 mm, within 16777216 either way
      corners       3 for each triangle slot
-     links         3 for each triangle slot: 3*triangle+side of the partner, or RAWPLINTH_BOUNDARY; side 0 runs from corner 0
-                   to corner 1, side 1 from 1 to 2, side 2 from 2 to 0
-     generations   1 for each triangle slot: 0 to 20, 0 after a load. An odd triangle is a third of an even one, with side 0
-                   as its base; its flip across the base makes it even. The base chain of an odd triangle goes on to the
-                   triangle across its base, until an even one or the boundary
+     links         3 for each triangle slot: 3*triangle+side of the partner, or RAWPLINTH_BOUNDARY; side 0 runs from
+                   corner 0 to corner 1, side 1 from 1 to 2, side 2 from 2 to 0
+     generations   1 for each triangle slot: 0 to 20, 0 after a load. An odd triangle is a third of an even one, with
+                   side 0 as its base; its flip across the base makes it even. The base chain of an odd triangle goes on
+                   to the triangle across its base, until an even one or the boundary
 
-   Whatever they hold, a call does what it says or is refused, with the first number of its list that applies. Slots past
-   the counts are written only where a call takes them into use.
+   Whatever they hold, a call does what it says or is refused, with the first number of its list that applies. Slots
+   past the counts are written only where a call takes them into use.
 
    A pointer must be valid for its entries, and not null even where there are none. What is lent to one call must not
    overlap, and nobody else may use it while the call runs: calls on different meshes may run at the same time. */
 
-/* Loads a cage: its numbers of vertices and triangles, 3 signed coordinates for each vertex, 3 corners for each triangle,
+/* Loads a cage: its numbers of vertices and triangles, 3 signed coordinates a vertex, 3 corners a triangle,
    each number 4 bytes, low byte first. What is loaded depends neither on the counts nor on what the tables held.
    Refuses with 1, 2, 3, 4, 5, 6, in this order. Writes the first slots of all tables. Needs 3 MB of stack. */
 rawplinth_worked rawplinth_load(
@@ -95,8 +95,8 @@ rawplinth_worked rawplinth_load(
     const uint8_t *cage, size_t cage_length);
 
 /* Refines one triangle: an even one by a face split, an odd one by splits along its base chain until it is flipped.
-   Refuses with 1, 7, 8, 9, 10, 11, in this order. Writes slots in use and those that it takes. Needs 1 MB of stack, as do
-   the calls below. */
+   Refuses with 1, 7, 8, 9, 10, 11, in this order. Writes slots in use and those that it takes. Needs 1 MB of stack,
+   as do the calls below. */
 rawplinth_worked rawplinth_refine(
     int32_t *positions, size_t positions_length,
     uint32_t *corners, size_t corners_length,
@@ -114,9 +114,9 @@ rawplinth_worked rawplinth_whole_step(
     uint8_t *generations, size_t generations_length,
     rawplinth_counts counts);
 
-/* Reads the ring of a vertex v: from a triangle (v,a,b) it writes a and goes on across b-v, from the lowest slot that holds
-   v until it is back; at the boundary from the triangle whose v-a is on it to the last one, whose b it writes too. A
-   neighbour may stand in it more than once.
+/* Reads the ring of a vertex v: from a triangle (v,a,b) it writes a and goes on across b-v, from the lowest slot that
+   holds v until it is back; at the boundary from the triangle whose v-a is on it to the last one, whose b it writes
+   too. A neighbour may stand in it more than once.
    Refuses with 1, 7, 8, 14, in this order. Writes the ring to the front of the buffer, and nothing else. */
 rawplinth_ring_read rawplinth_ring(
     const int32_t *positions, size_t positions_length,
