@@ -1,6 +1,6 @@
 # test     the gate
 # run      the program refine on its tetrahedron
-# lib      target/staticlib/librawplinth.a, for C and Rust to link with include/rawplinth.h
+# lib      target/staticlib/librawplinth.a, for C and Rust to link (include/)
 # example  the example in C, built with the library and run
 # twin     the library and the program beside the second implementation (needs cargo)
 # soak     the same for SECONDS=N of random rounds, from SEED=N

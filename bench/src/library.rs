@@ -1,75 +1,7 @@
 //! The library's calls, through its C interface.
 
-use crate::tables::{Answer, Call, Counts, Lent, PositionRead, RingRead, Worked};
-
-unsafe extern "C" {
-    fn rawplinth_load(
-        positions: *mut i32,
-        positions_length: usize,
-        corners: *mut u32,
-        corners_length: usize,
-        links: *mut u32,
-        links_length: usize,
-        generations: *mut u8,
-        generations_length: usize,
-        counts: Counts,
-        cage: *const u8,
-        cage_length: usize,
-    ) -> Worked;
-
-    fn rawplinth_refine(
-        positions: *mut i32,
-        positions_length: usize,
-        corners: *mut u32,
-        corners_length: usize,
-        links: *mut u32,
-        links_length: usize,
-        generations: *mut u8,
-        generations_length: usize,
-        counts: Counts,
-        triangle: u32,
-    ) -> Worked;
-
-    fn rawplinth_whole_step(
-        positions: *mut i32,
-        positions_length: usize,
-        corners: *mut u32,
-        corners_length: usize,
-        links: *mut u32,
-        links_length: usize,
-        generations: *mut u8,
-        generations_length: usize,
-        counts: Counts,
-    ) -> Worked;
-
-    fn rawplinth_ring(
-        positions: *const i32,
-        positions_length: usize,
-        corners: *const u32,
-        corners_length: usize,
-        links: *const u32,
-        links_length: usize,
-        generations: *const u8,
-        generations_length: usize,
-        counts: Counts,
-        vertex: u32,
-        buffer: *mut u32,
-        buffer_length: usize,
-    ) -> RingRead;
-
-    fn rawplinth_position(
-        positions: *const i32,
-        positions_length: usize,
-        corners: *const u32,
-        corners_length: usize,
-        links: *const u32,
-        links_length: usize,
-        generations: *const u8,
-        generations_length: usize,
-        counts: Counts,
-        vertex: u32,
-    ) -> PositionRead;
-}
+use crate::rawplinth::{rawplinth_load, rawplinth_position, rawplinth_refine, rawplinth_ring, rawplinth_whole_step};
+use crate::tables::{Answer, Call, Lent};
 
 /// A call of the function named, with the four tables as pointers and lengths, then the counts, then what follows.
 macro_rules! call {

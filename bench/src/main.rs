@@ -5,6 +5,8 @@ mod cases;
 mod fast;
 mod library;
 mod measure;
+#[path = "../../include/rawplinth.rs"]
+mod rawplinth;
 mod report;
 mod tables;
 

@@ -1,46 +1,12 @@
-//! What a call is lent and what it answers, laid out as the C interface has it.
+//! What a call is lent and what it answers.
+
+pub use crate::rawplinth::{Counts, PositionRead, RingRead, Worked};
 
 /// The link of a boundary side.
 pub const BOUNDARY: u32 = u32::MAX;
 /// The most slots of vertices and of triangles.
 pub const MOST_VERTEX_SLOTS: usize = 32_768;
 pub const MOST_TRIANGLE_SLOTS: usize = 65_536;
-
-/// The vertices and triangles in use.
-#[repr(C)]
-#[derive(Clone, Copy, Debug, Default, PartialEq)]
-pub struct Counts {
-    pub vertices: u32,
-    pub triangles: u32,
-}
-
-/// The answer of load, refine and whole step.
-#[repr(C)]
-#[derive(Clone, Copy, Debug, Default, PartialEq)]
-pub struct Worked {
-    pub refusal: u32,
-    pub splits: u32,
-    pub flips: u32,
-    pub counts: Counts,
-}
-
-/// The answer of a ring query, without the buffer.
-#[repr(C)]
-#[derive(Clone, Copy, Debug, Default, PartialEq)]
-pub struct RingRead {
-    pub refusal: u32,
-    pub length: u32,
-    pub counts: Counts,
-}
-
-/// The answer of a position query.
-#[repr(C)]
-#[derive(Clone, Copy, Debug, Default, PartialEq)]
-pub struct PositionRead {
-    pub refusal: u32,
-    pub point: [i32; 3],
-    pub counts: Counts,
-}
 
 /// The lent tables: three positions to a vertex slot; three corners, three links and a generation to a triangle slot.
 #[derive(Clone, Debug, PartialEq)]

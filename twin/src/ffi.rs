@@ -1,75 +1,7 @@
 //! The library under test, through its C interface.
 
-use crate::tables::{Answer, Call, Counts, PositionRead, RingRead, Service, Tables, Worked};
-
-unsafe extern "C" {
-    fn rawplinth_load(
-        positions: *mut i32,
-        positions_length: usize,
-        corners: *mut u32,
-        corners_length: usize,
-        links: *mut u32,
-        links_length: usize,
-        generations: *mut u8,
-        generations_length: usize,
-        counts: Counts,
-        cage: *const u8,
-        cage_length: usize,
-    ) -> Worked;
-
-    fn rawplinth_refine(
-        positions: *mut i32,
-        positions_length: usize,
-        corners: *mut u32,
-        corners_length: usize,
-        links: *mut u32,
-        links_length: usize,
-        generations: *mut u8,
-        generations_length: usize,
-        counts: Counts,
-        triangle: u32,
-    ) -> Worked;
-
-    fn rawplinth_whole_step(
-        positions: *mut i32,
-        positions_length: usize,
-        corners: *mut u32,
-        corners_length: usize,
-        links: *mut u32,
-        links_length: usize,
-        generations: *mut u8,
-        generations_length: usize,
-        counts: Counts,
-    ) -> Worked;
-
-    fn rawplinth_ring(
-        positions: *const i32,
-        positions_length: usize,
-        corners: *const u32,
-        corners_length: usize,
-        links: *const u32,
-        links_length: usize,
-        generations: *const u8,
-        generations_length: usize,
-        counts: Counts,
-        vertex: u32,
-        buffer: *mut u32,
-        buffer_length: usize,
-    ) -> RingRead;
-
-    fn rawplinth_position(
-        positions: *const i32,
-        positions_length: usize,
-        corners: *const u32,
-        corners_length: usize,
-        links: *const u32,
-        links_length: usize,
-        generations: *const u8,
-        generations_length: usize,
-        counts: Counts,
-        vertex: u32,
-    ) -> PositionRead;
-}
+use crate::rawplinth::{rawplinth_load, rawplinth_position, rawplinth_refine, rawplinth_ring, rawplinth_whole_step};
+use crate::tables::{Answer, Call, Counts, Service, Tables};
 
 /// Entries on each side of a lent buffer that the library must not write.
 const GUARD: usize = 64;
@@ -111,6 +43,26 @@ struct LentTables {
     generations: Lent<u8>,
 }
 
+/// A call of the function named, with the four tables as pointers and lengths, then what follows.
+macro_rules! call {
+    ($function:ident, $lent:expr $(, $argument:expr)*) => {
+        // SAFETY: every pointer is to as many entries as the length beside it says, and no two overlap.
+        unsafe {
+            $function(
+                $lent.positions.pointer(),
+                $lent.positions.length,
+                $lent.corners.pointer(),
+                $lent.corners.length,
+                $lent.links.pointer(),
+                $lent.links.length,
+                $lent.generations.pointer(),
+                $lent.generations.length
+                $(, $argument)*
+            )
+        }
+    };
+}
+
 impl LentTables {
     fn new(tables: &Tables) -> LentTables {
         LentTables {
@@ -131,101 +83,17 @@ impl LentTables {
 
     fn load(&mut self, counts: Counts, cage: &[u8]) -> Result<Answer, String> {
         let mut lent = Lent::new(cage, 0xA5);
-        // SAFETY: every pointer is to as many entries as the length beside it says, and no two overlap.
-        let worked = unsafe {
-            rawplinth_load(
-                self.positions.pointer(),
-                self.positions.length,
-                self.corners.pointer(),
-                self.corners.length,
-                self.links.pointer(),
-                self.links.length,
-                self.generations.pointer(),
-                self.generations.length,
-                counts,
-                lent.pointer(),
-                lent.length,
-            )
-        };
+        let worked = call!(rawplinth_load, self, counts, lent.pointer(), lent.length);
         if lent.content("cage")? != cage {
             return Err("the cage was written".to_string());
         }
         Ok(Answer::Worked(worked))
     }
 
-    fn refine(&mut self, counts: Counts, triangle: u32) -> Answer {
-        // SAFETY: as for load.
-        Answer::Worked(unsafe {
-            rawplinth_refine(
-                self.positions.pointer(),
-                self.positions.length,
-                self.corners.pointer(),
-                self.corners.length,
-                self.links.pointer(),
-                self.links.length,
-                self.generations.pointer(),
-                self.generations.length,
-                counts,
-                triangle,
-            )
-        })
-    }
-
-    fn whole_step(&mut self, counts: Counts) -> Answer {
-        // SAFETY: as for load.
-        Answer::Worked(unsafe {
-            rawplinth_whole_step(
-                self.positions.pointer(),
-                self.positions.length,
-                self.corners.pointer(),
-                self.corners.length,
-                self.links.pointer(),
-                self.links.length,
-                self.generations.pointer(),
-                self.generations.length,
-                counts,
-            )
-        })
-    }
-
     fn ring(&mut self, counts: Counts, vertex: u32, buffer: &[u32]) -> Result<Answer, String> {
         let mut lent = Lent::new(buffer, 0x5E5E_5E5E);
-        // SAFETY: as for load.
-        let read = unsafe {
-            rawplinth_ring(
-                self.positions.pointer(),
-                self.positions.length,
-                self.corners.pointer(),
-                self.corners.length,
-                self.links.pointer(),
-                self.links.length,
-                self.generations.pointer(),
-                self.generations.length,
-                counts,
-                vertex,
-                lent.pointer(),
-                lent.length,
-            )
-        };
+        let read = call!(rawplinth_ring, self, counts, vertex, lent.pointer(), lent.length);
         Ok(Answer::Ring { read, buffer: lent.content("ring buffer")?.to_vec() })
-    }
-
-    fn position(&mut self, counts: Counts, vertex: u32) -> Answer {
-        // SAFETY: as for load.
-        Answer::Position(unsafe {
-            rawplinth_position(
-                self.positions.pointer(),
-                self.positions.length,
-                self.corners.pointer(),
-                self.corners.length,
-                self.links.pointer(),
-                self.links.length,
-                self.generations.pointer(),
-                self.generations.length,
-                counts,
-                vertex,
-            )
-        })
     }
 }
 
@@ -241,10 +109,10 @@ impl Service for Library {
         let mut lent = LentTables::new(tables);
         let answer = match call {
             Call::Load { cage } => lent.load(counts, cage)?,
-            Call::Refine { triangle } => lent.refine(counts, *triangle),
-            Call::WholeStep => lent.whole_step(counts),
+            Call::Refine { triangle } => Answer::Worked(call!(rawplinth_refine, lent, counts, *triangle)),
+            Call::WholeStep => Answer::Worked(call!(rawplinth_whole_step, lent, counts)),
             Call::Ring { vertex, buffer } => lent.ring(counts, *vertex, buffer)?,
-            Call::Position { vertex } => lent.position(counts, *vertex),
+            Call::Position { vertex } => Answer::Position(call!(rawplinth_position, lent, counts, *vertex)),
         };
         lent.give_back(tables)?;
         Ok(answer)

@@ -20,6 +20,9 @@ mod options;
 mod parts;
 mod program;
 mod random_cages;
+#[path = "../../include/rawplinth.rs"]
+#[cfg_attr(not(linked), allow(dead_code))]
+mod rawplinth;
 mod rng;
 mod smooth;
 mod sound;

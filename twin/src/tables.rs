@@ -1,5 +1,6 @@
 //! The lent tables, the counts that travel with them, the five calls and their answers.
 
+pub use crate::rawplinth::{Counts, PositionRead, RingRead, Worked};
 use crate::rng::Rng;
 
 /// The link of a boundary side; the paper's rim.
@@ -11,44 +12,6 @@ pub const MOST_TRIANGLE_SLOTS: usize = 65_536;
 pub const FARTHEST: i32 = 16_777_216;
 /// The greatest generation.
 pub const LAST_GENERATION: u8 = 20;
-
-/// The vertices and triangles in use.
-#[repr(C)]
-#[derive(Clone, Copy, Debug, Default, PartialEq, Eq)]
-pub struct Counts {
-    pub vertices: u32,
-    pub triangles: u32,
-}
-
-/// The answer of load, refine and whole step.
-#[repr(C)]
-#[derive(Clone, Copy, Debug, Default, PartialEq, Eq)]
-pub struct Worked {
-    pub refusal: u32,
-    pub splits: u32,
-    pub flips: u32,
-    pub counts: Counts,
-}
-
-/// The answer of a ring query, without the buffer.
-#[repr(C)]
-#[derive(Clone, Copy, Debug, Default, PartialEq, Eq)]
-pub struct RingRead {
-    pub refusal: u32,
-    pub length: u32,
-    pub counts: Counts,
-}
-
-/// The answer of a position query.
-#[repr(C)]
-#[derive(Clone, Copy, Debug, Default, PartialEq, Eq)]
-pub struct PositionRead {
-    pub refusal: u32,
-    pub x: i32,
-    pub y: i32,
-    pub z: i32,
-    pub counts: Counts,
-}
 
 /// What a caller lends: three positions to a vertex slot; three corners, three links and a generation to a triangle slot.
 #[derive(Clone, Debug, Default, PartialEq, Eq)]

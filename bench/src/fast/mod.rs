@@ -66,9 +66,10 @@ fn fast_ring(tables: &Tables, counts: Counts, vertex: u32, buffer: &mut [u32]) -
 fn fast_position(tables: &Tables, counts: Counts, vertex: u32) -> PositionRead {
     match starts(tables, counts) {
         Ok(_) if vertex < counts.vertices => {
-            PositionRead { refusal: 0, point: triple(&tables.positions, vertex as usize), counts }
+            let [x, y, z] = triple(&tables.positions, vertex as usize);
+            PositionRead { refusal: 0, x, y, z, counts }
         }
-        refused => PositionRead { refusal: refused.err().unwrap_or(8), point: [0; 3], counts },
+        refused => PositionRead { refusal: refused.err().unwrap_or(8), counts, ..PositionRead::default() },
     }
 }
 

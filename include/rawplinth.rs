@@ -1,0 +1,109 @@
+//! The calls for Rust, as `rawplinth.h` declares and describes them for C. A program takes this file in by
+//! `#[path = ".."] mod rawplinth;`.
+
+/// The vertices and triangles in use.
+#[repr(C)]
+#[derive(Clone, Copy, Debug, Default, PartialEq, Eq)]
+pub struct Counts {
+    pub vertices: u32,
+    pub triangles: u32,
+}
+
+/// The answer of load, refine and whole step.
+#[repr(C)]
+#[derive(Clone, Copy, Debug, Default, PartialEq, Eq)]
+pub struct Worked {
+    pub refusal: u32,
+    pub splits: u32,
+    pub flips: u32,
+    pub counts: Counts,
+}
+
+/// The answer of a ring query, without the buffer.
+#[repr(C)]
+#[derive(Clone, Copy, Debug, Default, PartialEq, Eq)]
+pub struct RingRead {
+    pub refusal: u32,
+    pub length: u32,
+    pub counts: Counts,
+}
+
+/// The answer of a position query.
+#[repr(C)]
+#[derive(Clone, Copy, Debug, Default, PartialEq, Eq)]
+pub struct PositionRead {
+    pub refusal: u32,
+    pub x: i32,
+    pub y: i32,
+    pub z: i32,
+    pub counts: Counts,
+}
+
+unsafe extern "C" {
+    pub fn rawplinth_load(
+        positions: *mut i32,
+        positions_length: usize,
+        corners: *mut u32,
+        corners_length: usize,
+        links: *mut u32,
+        links_length: usize,
+        generations: *mut u8,
+        generations_length: usize,
+        counts: Counts,
+        cage: *const u8,
+        cage_length: usize,
+    ) -> Worked;
+
+    pub fn rawplinth_refine(
+        positions: *mut i32,
+        positions_length: usize,
+        corners: *mut u32,
+        corners_length: usize,
+        links: *mut u32,
+        links_length: usize,
+        generations: *mut u8,
+        generations_length: usize,
+        counts: Counts,
+        triangle: u32,
+    ) -> Worked;
+
+    pub fn rawplinth_whole_step(
+        positions: *mut i32,
+        positions_length: usize,
+        corners: *mut u32,
+        corners_length: usize,
+        links: *mut u32,
+        links_length: usize,
+        generations: *mut u8,
+        generations_length: usize,
+        counts: Counts,
+    ) -> Worked;
+
+    pub fn rawplinth_ring(
+        positions: *const i32,
+        positions_length: usize,
+        corners: *const u32,
+        corners_length: usize,
+        links: *const u32,
+        links_length: usize,
+        generations: *const u8,
+        generations_length: usize,
+        counts: Counts,
+        vertex: u32,
+        buffer: *mut u32,
+        buffer_length: usize,
+    ) -> RingRead;
+
+    pub fn rawplinth_position(
+        positions: *const i32,
+        positions_length: usize,
+        corners: *const u32,
+        corners_length: usize,
+        links: *const u32,
+        links_length: usize,
+        generations: *const u8,
+        generations_length: usize,
+        counts: Counts,
+        vertex: u32,
+    ) -> PositionRead;
+}
