@@ -63,7 +63,7 @@ impl Point {
     }
 }
 
-// The sum of two coordinates.
+// The sum of two numbers, where it fits 32 bits.
 fn added(s: i32, x: i32) -> i32
     requires { ⌜ SumOf 1 (s +ℤ x) ⌝ }
     ensures { λ r. ⌜ r ≡ s +ℤ x ⌝ }

@@ -1,4 +1,4 @@
--- The triangles of a base chain by their places, which a split at the chain's end leaves as they are but for the last.
+-- The places of a base chain: a split at its end leaves those of all odd triangles but the last.
 use mathlib.Core.Path.{_≡_, refl, ap, _∙_, subst}
 use mathlib.Core.Logic.{_≢_}
 use Prim.Native.Nat.{ℕ, zero, suc, _+_, _-_, _*_, _/_, _%_, _≤_, _<_}

@@ -68,7 +68,7 @@ TellsStart vertices triangles corners links v r = (g : List ℕ) →
     let m = topologyOf vertices triangles corners links g in
     Glued m → r ≡ startIf (all vertices (hasOneFan m)) m v
 
--- r says whether each vertex has one fan.
+-- With whatever generations the triangles are glued, r says whether each vertex has one fan.
 abbrev pub TellsFans : ℕ → ℕ → List ℕ → List ℕ → Bool → Type 0
 TellsFans vertices triangles corners links r = (g : List ℕ) →
     let m = topologyOf vertices triangles corners links g in

@@ -69,7 +69,8 @@ fn coordinates_fit(positions: &[i32], n: usize) -> bool
     true
 }
 
-// One more than the side where the ring of v starts; 0 where the tables are not sound.
+// One more than the side where the ring of v starts, the number of sides where v has none; 0 where the tables are not
+// sound.
 pub fn sound_start(
     positions: &[i32],
     corners: &[u32],

@@ -1,4 +1,4 @@
-// The test of fans: a walk round each vertex.
+// The test of fans by a walk round each vertex, and where a ring starts.
 use tables::BOUNDARY;
 use tables::sides::previous;
 ghost use mathlib.Core.Path.{_≡_};
@@ -82,8 +82,8 @@ fn walks_meet_all(links: &[u32], triangles: u32, vertices: u32, starts: &[u32]) 
     met == 3 * (triangles as usize)
 }
 
-// One more than the side where the ring of v starts; 0 where some vertex has not one fan. A zero for each vertex is
-// lent to keep its start.
+// One more than the side where the ring of v starts, the number of sides where v has none; 0 where some vertex has not
+// one fan. A zero for each vertex is lent to keep its start.
 fn fan_start_by(
     corners: &[u32],
     links: &[u32],
@@ -164,7 +164,7 @@ pub fn fan_start(corners: &[u32], links: &[u32], triangles: u32, vertices: u32, 
     fan_start_within_32768(corners, links, triangles, vertices, v)
 }
 
-// Whether each vertex has one fan.
+// Whether each vertex has one fan, where the triangles are glued.
 pub fn fans(corners: &[u32], links: &[u32], triangles: u32, vertices: u32) -> bool
     requires { ⌜ CornersInUse vertices triangles (now corners) (now links) ⌝ }
     ensures { λ r. ⌜ TellsFans vertices triangles (now (corners .entry)) (now (links .entry)) r ⌝ }

@@ -17,7 +17,7 @@ pub record Moves (n : ℕ) (m : Mesh) (moved : List ℤ) : Type 0 where
   pub short : (v : ℕ) → v < n → length (ring (m .topology) v) ≤ 12
   pub each : (v k : ℕ) → v < n → k < 3 → getD moved (3 * v + k) (pos 0) ≡ movedCoordinate m v k
 
--- The list has n entries, each x. Of a local array it is proved for every n, so that none is written out.
+-- The list has n entries, each x.
 pub record Filled {A : Type 0} (x : A) (n : ℕ) (l : List A) : Type 0 where
   pub size : length l ≡ n
   pub each : (i : ℕ) → i < n → getD l i x ≡ x

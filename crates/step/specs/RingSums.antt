@@ -35,7 +35,7 @@ pub record SideAdded (positions : List ℤ) (from to : ℕ) (entries : List ℕ)
 
 -- ---- all sides
 
--- The tables have the slots in use, and what stands there is in use and in range.
+-- At most 65,536 triangles: the tables have the slots in use, and what stands there is in use and in range.
 pub record Summable (n : Counts) (positions : List ℤ) (corners : List ℕ) : Type 0 where
   pub few : n .triangles ≤ 65536
   pub room : 3 * n .triangles ≤ length corners
@@ -51,7 +51,7 @@ pub record Summed (n vertices : ℕ) (positions : List ℤ) (corners entries : L
   pub few : (v : ℕ) → v < vertices → getD entries v 0 ≤ 12
   pub added : (v k : ℕ) → v < vertices → k < 3 → SumOut n positions corners v k (getD sums (3 * v + k) (pos 0))
 
--- By the answer: the first n sides are added up, or some vertex has more than 12.
+-- By the answer: the first n sides are added up, or more than 12 of all sides go out of some vertex.
 pub record SidesAdded (n : ℕ) (c : Counts) (positions : List ℤ) (corners entries : List ℕ) (sums : List ℤ) (r : Bool)
     : Type 0 where
   pub whole : r ≡ true → Summed n (c .vertices) positions corners entries sums
@@ -59,7 +59,7 @@ pub record SidesAdded (n : ℕ) (c : Counts) (positions : List ℤ) (corners ent
 
 -- ---- the vertices
 
--- Each vertex has its slots, and 1 to 12 ring entries.
+-- At most 32,768 vertices: each has its slots, and 1 to 12 ring entries.
 pub record Movable (vertices : ℕ) (positions : List ℤ) (entries : List ℕ) (sums : List ℤ) : Type 0 where
   pub few : vertices ≤ 32768
   pub slots : 3 * vertices ≤ length positions

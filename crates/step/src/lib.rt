@@ -109,7 +109,7 @@ fn add_side(positions: &[i32], from: u32, to: u32, entries: &mut [u8], sums: &mu
     true
 }
 
-// The three sides of triangle t, after those of the triangles before it.
+// Adds the three sides of triangle t to those of the triangles before it; false where a vertex has more than 12.
 fn add_triangle(
     positions: &[i32],
     corners: &[u32],
@@ -137,7 +137,7 @@ fn add_triangle(
 }
 
 // How many entries each ring has, and the sum of their positions: where no side is on the boundary, a ring has the
-// targets of all sides out of its vertex. It stops at a ring of more than 12 entries.
+// targets of all sides out of its vertex. It stops, with false, at a ring of more than 12 entries.
 fn ring_sums(
     positions: &[i32],
     corners: &[u32],
@@ -177,8 +177,8 @@ fn move_all(positions: &[i32], vertices: u32, entries: &[u8], moved: &mut [i32])
     }
 }
 
-// Where each vertex moves, with an array lent to count ring entries, and both arrays zero at first. It stops at a ring
-// of more than 12 entries.
+// Where each vertex moves, with an array lent to count ring entries, and both arrays zero at first. It stops, with
+// false, at a ring of more than 12 entries.
 fn moves_by(
     positions: &[i32],
     corners: &[u32],
