@@ -6,17 +6,18 @@ use mathlib.Core.List.{List, []}
 use Prim.Native.Nat.{ℕ, _+_, _*_, _≤_, _<_}
 use native.Mathlib.Omega.{arith}
 use lib.ListN.{length, getD}
-use Rattle.rules.proofs.Alike.{SameCorners, SameSides, all-same, corners-fit-same, sides-differ-same, partner-same}
-use Rattle.rules.proofs.Alike.{one-fan-same}
-use Rattle.rules.proofs.CageTests.{sizes-fit-is, corners-fit-is, sides-differ-is}
-use Rattle.rules.proofs.Decide.{Decides, is-true, is-false, is-same, when-true}
-use Rattle.rules.proofs.Fill.{length-fill, getD-fill}
-use Rattle.rules.proofs.Load.{matches-opposite, opposite-back, partner-matches, loaded-loads}
-use Rattle.rules.proofs.LoadTests.{load-by-tests}
+use Rattle.rules.proofs.Loads.Alike.{SameCorners, SameSides, all-same, corners-fit-same, sides-differ-same}
+use Rattle.rules.proofs.Loads.Alike.{partner-same}
+use Rattle.rules.proofs.Loads.Alike.{one-fan-same}
+use Rattle.rules.proofs.Loads.CageTests.{sizes-fit-is, corners-fit-is, sides-differ-is}
+use Rattle.rules.proofs.Numbers.Decide.{Decides, is-true, is-false, is-same, when-true}
+use Rattle.rules.proofs.Numbers.Fill.{length-fill, getD-fill}
+use Rattle.rules.proofs.Loads.Load.{matches-opposite, opposite-back, partner-matches, loaded-loads}
+use Rattle.rules.proofs.Loads.LoadTests.{load-by-tests}
 use Rattle.rules.specs.Promises.{Matches, only, alone}
-use Rattle.rules.proofs.Manifold.{Joined, pair}
-use Rattle.rules.proofs.SoundTest.{tables-agree-is}
-use Rattle.rules.proofs.Turning.{Glued}
+use Rattle.rules.proofs.Links.Manifold.{Joined, pair}
+use Rattle.rules.proofs.Soundness.SoundTest.{tables-agree-is}
+use Rattle.rules.proofs.Rings.Turning.{Glued}
 use Rattle.rules.specs.Below.{all, fill}
 use Rattle.rules.specs.Cage.{Cage, cageOf, partner, loaded, sizesFit, cornersFit, coordinatesFit, sidesDiffer, fansFit}
 use Rattle.rules.specs.Conditions.{SizesFit, SidesDiffer}

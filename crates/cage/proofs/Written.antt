@@ -4,7 +4,7 @@ use mathlib.Core.List.{List}
 use Prim.Native.Nat.{ℕ, _+_, _*_}
 use lib.IntN.{ℤ}
 use lib.ListN.{getD}
-use Rattle.rules.proofs.Fill.{fill-same}
+use Rattle.rules.proofs.Numbers.Fill.{fill-same}
 use Rattle.rules.specs.Below.{fill}
 use Rattle.rules.specs.Cage.{cageOf, loaded}
 use Rattle.rules.specs.Numbers.{numberAt, signed}

@@ -8,10 +8,10 @@ use Prim.Native.Nat.{ℕ, _≤_, _<_}
 use native.Mathlib.Omega.{arith}
 use lib.Dec.{eqb, leb, ltb}
 use lib.ListN.{length}
-use Rattle.rules.proofs.CallRefusals.{load-judged, position-refusal-first}
-use Rattle.rules.proofs.Decide.{Decides, stable}
-use Rattle.rules.proofs.FirstThatHolds.{refuses, carries, Judged, carried, refused, none-hold}
-use Rattle.rules.proofs.SoundTest.{tables-agree-is, sound-is}
+use Rattle.rules.proofs.Calls.CallRefusals.{load-judged, position-refusal-first}
+use Rattle.rules.proofs.Numbers.Decide.{Decides, stable}
+use Rattle.rules.proofs.Calls.FirstThatHolds.{refuses, carries, Judged, carried, refused, none-hold}
+use Rattle.rules.proofs.Soundness.SoundTest.{tables-agree-is, sound-is}
 use Rattle.rules.specs.Below.{any}
 use Rattle.rules.specs.Calls.{Test, _if_, firstOf, Outcome, outcomeOf, zeroPoint, splitsOf, roomFor, worked, loadCall}
 use Rattle.rules.specs.Calls.{refineRefusal, refineCall, closedEven, wholeStepRefusal, ringRefusal, ringRead, ringCall}

@@ -6,15 +6,16 @@ use Prim.Native.Nat.{ℕ, _*_, _%_, _≤_, _<_}
 use lib.ListN.{length, getD}
 use lib.Dec.{T}
 use lib.IntN.{ℤ, pos, natAbs, _-ℤ_, _*ℤ_}
-use Rattle.rules.proofs.CallRefusals.{load-refusal, refine-refusal, whole-step-refusal, ring-refusal}
-use Rattle.rules.proofs.CallRefusals.{position-refusal, refused-leaves, chain-counted}
-use Rattle.rules.proofs.Histories.{every-history, history-sound}
-use Rattle.rules.proofs.Load.{links-are}
-use Rattle.rules.proofs.Outcomes.{load-makes, refine-makes, chain-falls, refine-is-split}
-use Rattle.rules.proofs.Outcomes.{whole-step-makes, ring-reads, position-reads, half-up-nearest, half-up-alone}
-use Rattle.rules.proofs.RingTheory.{ring-makes}
-use Rattle.rules.proofs.Rounding.{nearest-third, nearest-third-only}
-use Rattle.rules.proofs.SoundTest.{sound-is}
+use Rattle.rules.proofs.Calls.CallRefusals.{load-refusal, refine-refusal, whole-step-refusal, ring-refusal}
+use Rattle.rules.proofs.Calls.CallRefusals.{position-refusal, refused-leaves, chain-counted}
+use Rattle.rules.proofs.Calls.Histories.{every-history, history-sound}
+use Rattle.rules.proofs.Loads.Load.{links-are}
+use Rattle.rules.proofs.Calls.Outcomes.{load-makes, refine-makes, chain-falls, refine-is-split}
+use Rattle.rules.proofs.Calls.Outcomes.{whole-step-makes, ring-reads, position-reads, half-up-nearest}
+use Rattle.rules.proofs.Calls.Outcomes.{half-up-alone}
+use Rattle.rules.proofs.Rings.RingTheory.{ring-makes}
+use Rattle.rules.proofs.Numbers.Rounding.{nearest-third, nearest-third-only}
+use Rattle.rules.proofs.Soundness.SoundTest.{sound-is}
 use Rattle.rules.specs.Below.{fill}
 use Rattle.rules.specs.Cage.{Cage, cageOf, loaded}
 use Rattle.rules.specs.Calls.{outcomeOf, zeroPoint, loadCall, refineCall, wholeStepCall, ringCall, positionCall}

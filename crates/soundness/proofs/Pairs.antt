@@ -4,8 +4,8 @@ use native.Mathlib.Omega.{arith}
 use mathlib.Core.Logic.{_⊎_, inl, inr}
 use mathlib.Core.Path.{_≡_, sym}
 use lib.Dec.{T}
-use Rattle.rules.proofs.Decide.{Decides, is-self, is-eq, is-lt, is-iff, is-and, is-or}
-use Rattle.rules.proofs.FiveKinds.{kind-other-way}
+use Rattle.rules.proofs.Numbers.Decide.{Decides, is-self, is-eq, is-lt, is-iff, is-and, is-or}
+use Rattle.rules.proofs.Soundness.FiveKinds.{kind-other-way}
 use Rattle.rules.specs.Sound.{Linked, role, fiveKinds}
 use Rattle.rules.specs.Tables.{Topology, sides, origin, target, boundary, link, generation}
 use Rattle.soundness.specs.Parts.{pairFits, linkFits}

@@ -7,11 +7,11 @@ use mathlib.Core.Logic.{_≢_}
 use mathlib.Core.Path.{_≡_, refl}
 use lib.IntN.{pos}
 use lib.ListN.{getD}
-use Rattle.rules.proofs.Decide.{Decides, is-eq, is-lt, is-le, is-not, is-iff, is-then, is-and, is-all, is-same}
-use Rattle.rules.proofs.FanTest.{one-fan-is}
-use Rattle.rules.proofs.Sides.{by-triangle}
-use Rattle.rules.proofs.SoundTest.{SoundSide, in-range-is, tables-agree-is, glued, sound-is}
-use Rattle.rules.proofs.Turning.{Glued}
+use Rattle.rules.proofs.Numbers.Decide.{Decides, is-eq, is-lt, is-le, is-not, is-iff, is-then, is-and, is-all, is-same}
+use Rattle.rules.proofs.Rings.FanTest.{one-fan-is}
+use Rattle.rules.proofs.Links.Sides.{by-triangle}
+use Rattle.rules.proofs.Soundness.SoundTest.{SoundSide, in-range-is, tables-agree-is, glued, sound-is}
+use Rattle.rules.proofs.Rings.Turning.{Glued}
 use Rattle.rules.specs.Below.{all}
 use Rattle.rules.specs.Numbers.{InRange, inRange}
 use Rattle.rules.specs.Sound.{OneFan, Sound, hasOneFan, isSound}

@@ -5,7 +5,7 @@ use native.Mathlib.Omega.{arith}
 use mathlib.Core.Logic.{_≢_}
 use mathlib.Core.Path.{_≡_}
 use lib.ListN.{length}
-use Rattle.rules.proofs.FanTotal.{walkLength}
+use Rattle.rules.proofs.Rings.FanTotal.{walkLength}
 use Rattle.rules.specs.Ring.{fanFrom}
 use Rattle.rules.specs.Tables.{Topology, sides, rotate}
 

@@ -6,9 +6,9 @@ use mathlib.Core.Logic.{_≢_, _⊎_}
 use mathlib.Core.Path.{_≡_}
 use lib.Dec.{eqb, ltb}
 use lib.ListN.{length, getD}
-use Rattle.rules.proofs.FanTotal.{walkLength}
+use Rattle.rules.proofs.Rings.FanTotal.{walkLength}
 use Rattle.rules.specs.Below.{all, total}
-use Rattle.rules.proofs.Turning.{Glued}
+use Rattle.rules.proofs.Rings.Turning.{Glued}
 use Rattle.rules.specs.Ring.{firstSide}
 use Rattle.rules.specs.Sound.{hasOneFan}
 use Rattle.rules.specs.Tables.{Topology, topologyOf, sides, boundary}

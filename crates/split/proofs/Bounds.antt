@@ -7,9 +7,9 @@ use mathlib.Core.List.{List}
 use mathlib.Core.Path.{_≡_}
 use lib.ListN.{length, getD, set, List·getD-eq-default}
 use lib.Seq.{getD-set-same, getD-set-other, set-out}
-use Rattle.rules.proofs.Bases.{base-is}
-use Rattle.rules.proofs.Decide.{when-true}
-use Rattle.rules.proofs.RefineLoop.{settle-counts}
+use Rattle.rules.proofs.Splits.Bases.{base-is}
+use Rattle.rules.proofs.Numbers.Decide.{when-true}
+use Rattle.rules.proofs.Chains.RefineLoop.{settle-counts}
 use Rattle.rules.specs.Split.{Work, split, flip, withFlip, splitPlaced, settle}
 use Rattle.rules.specs.Tables.{Topology, withTopology, link, generation, isBase}
 use Rattle.split.specs.Made.{splitCounted}

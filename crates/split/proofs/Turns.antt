@@ -4,8 +4,8 @@ use native.Mathlib.Omega.{arith}
 use mathlib.Core.List.{List}
 use mathlib.Core.Path.{_≡_, sym, ap, _∙_, subst}
 use lib.ListN.{length, getD}
-use Rattle.rules.proofs.Carried.{RefineFound}
-use Rattle.rules.proofs.RefineLoop.{Across, Refining, few-splits, refining-next, refining-on, refining-across}
+use Rattle.rules.proofs.Calls.Carried.{RefineFound}
+use Rattle.rules.proofs.Chains.RefineLoop.{Across, Refining, few-splits, refining-next, refining-on, refining-across}
 use Rattle.rules.specs.Split.{Work, faceSplit, chainEnd}
 use Rattle.rules.specs.Tables.{Mesh, link}
 use Rattle.split.specs.Made.{MaySplit}

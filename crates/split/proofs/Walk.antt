@@ -9,8 +9,8 @@ use mathlib.Core.Path.{_≡_, refl, sym, ap, _∙_, subst}
 use lib.ListN.{length, getD, set}
 use lib.Seq.{getD-set-same, getD-set-other}
 use borrow.Author.Tests.{eq-eqb, ne-eqb}
-use Rattle.rules.proofs.Decide.{odd-test, even-test}
-use Rattle.rules.proofs.Remembered.{chainAt}
+use Rattle.rules.proofs.Numbers.Decide.{odd-test, even-test}
+use Rattle.rules.proofs.Chains.Remembered.{chainAt}
 use Rattle.rules.specs.Split.{chainEndWithin, chainOddWithin, chainEnd, chainOdd}
 use Rattle.rules.specs.Tables.{Topology, link, boundary, generation}
 use Rattle.split.specs.declared.Chain.{Chain}

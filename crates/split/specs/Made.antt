@@ -4,7 +4,7 @@ use mathlib.Core.List.{List, [], _∷_}
 use mathlib.Core.Path.{_≡_}
 use lib.IntN.{ℤ}
 use lib.ListN.{getD}
-use Rattle.rules.proofs.Remembered.{chainAt}
+use Rattle.rules.proofs.Chains.Remembered.{chainAt}
 use Rattle.rules.specs.Conditions.{RoomFor}
 use Rattle.rules.specs.Split as rules
 use Rattle.rules.specs.Split.{withSplit, splitPlaced, chainEnd, chainOdd}

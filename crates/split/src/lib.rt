@@ -8,7 +8,7 @@ ghost use Prim.Native.Nat.{ℕ, _+_, _-_, _*_, _/_, _≤_, _<_, max};
 ghost use lib.IntN.{ℤ};
 ghost use lib.ListN.{length, getD};
 ghost use Rattle.points.specs.Axes.{eachAxis};
-ghost use Rattle.rules.proofs.Carried.{RefineFound};
+ghost use Rattle.rules.proofs.Calls.Carried.{RefineFound};
 ghost use Rattle.rules.specs.Split.{split, flip, centre, settle, faceSplit, atFirst, refine};
 ghost use Rattle.rules.specs.Tables.{isBase};
 ghost use Rattle.tables.specs.declared.Counts.{Counts};

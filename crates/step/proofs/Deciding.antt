@@ -5,9 +5,9 @@ use mathlib.Core.Path.{_≡_, ap, _∙_}
 use Prim.Native.Nat.{ℕ}
 use lib.IntN.{ℤ}
 use lib.ListN.{replicate, length-replicate, getD-replicate}
-use Rattle.rules.proofs.CallRefusals.{closed-even-is}
-use Rattle.rules.proofs.Decide.{when-true}
-use Rattle.rules.proofs.StepRefusals.{step-carried}
+use Rattle.rules.proofs.Calls.CallRefusals.{closed-even-is}
+use Rattle.rules.proofs.Numbers.Decide.{when-true}
+use Rattle.rules.proofs.Steps.StepRefusals.{step-carried}
 use Rattle.rules.specs.Calls.{worked, closedEven, wholeStepRefusal, wholeStepCall}
 use Rattle.rules.specs.Sound.{Sound}
 use Rattle.rules.specs.Split.{Work, atFirst}

@@ -10,9 +10,9 @@ use lib.IntN.{ℤ, pos}
 use lib.ListN.{length, getD}
 use Rattle.points.specs.declared.Point.{Point}
 use Rattle.points.specs.Axes.{movedPoint}
-use Rattle.rules.proofs.CallRefusals.{long-ring-is}
-use Rattle.rules.proofs.Decide.{is-true, is-false, is-same}
-use Rattle.rules.proofs.Sides.{put-at, put-else}
+use Rattle.rules.proofs.Calls.CallRefusals.{long-ring-is}
+use Rattle.rules.proofs.Numbers.Decide.{is-true, is-false, is-same}
+use Rattle.rules.proofs.Links.Sides.{put-at, put-else}
 use Rattle.rules.specs.Below.{any}
 use Rattle.rules.specs.Numbers.{moved}
 use Rattle.rules.specs.Ring.{ring}

@@ -2,8 +2,8 @@
 use mathlib.Core.Path.{_≡_}
 use Prim.Native.Nat.{ℕ, _≤_, _<_}
 use native.Mathlib.Omega.{arith}
-use Rattle.rules.proofs.Carried.{StepFound}
-use Rattle.rules.proofs.StepLoop.{step-splits, step-flips, step-next}
+use Rattle.rules.proofs.Calls.Carried.{StepFound}
+use Rattle.rules.proofs.Steps.StepLoop.{step-splits, step-flips, step-next}
 use Rattle.rules.specs.Split.{Work, atFirst}
 use Rattle.rules.specs.Step.{refineFirst}
 use Rattle.rules.specs.Tables.{Mesh}

@@ -10,10 +10,10 @@ use lib.ListN.{length, getD, length-set}
 use lib.Seq.{getD-set-same, getD-set-other}
 use Rattle.points.proofs.Axes.{each-fits}
 use Rattle.points.specs.Axes.{SumOf}
-use Rattle.rules.proofs.RingSums.{ahead, outOf, SumOut, none-added, none-out, one-added, one-out, other-added}
-use Rattle.rules.proofs.RingSums.{other-out, out-up, sum-low, sum-high, ring-counted, ring-added}
-use Rattle.rules.proofs.RingVertices.{ring-some}
-use Rattle.rules.proofs.Sides.{next-0, next-1, next-2, next-lt, put-at, put-else, length-put}
+use Rattle.rules.proofs.Rings.RingSums.{ahead, outOf, SumOut, none-added, none-out, one-added, one-out, other-added}
+use Rattle.rules.proofs.Rings.RingSums.{other-out, out-up, sum-low, sum-high, ring-counted, ring-added}
+use Rattle.rules.proofs.Rings.RingVertices.{ring-some}
+use Rattle.rules.proofs.Links.Sides.{next-0, next-1, next-2, next-lt, put-at, put-else, length-put}
 use Rattle.rules.specs.Conditions.{LongRing}
 use Rattle.rules.specs.Numbers.{InRange}
 use Rattle.rules.specs.Ring.{ring}

@@ -7,7 +7,7 @@ use lib.IntN.{ℤ, pos}
 use lib.ListN.{length, getD, set}
 use Rattle.points.specs.Axes.{eachAxis, plus, Fits}
 use Rattle.points.specs.declared.Point.{Point}
-use Rattle.rules.proofs.RingSums.{outOf, SumOut}
+use Rattle.rules.proofs.Rings.RingSums.{outOf, SumOut}
 use Rattle.rules.specs.Numbers.{InRange, moved}
 use Rattle.tables.specs.Lent.{putPoint}
 use Rattle.tables.specs.declared.Counts.{Counts}

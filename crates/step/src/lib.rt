@@ -10,7 +10,7 @@ ghost use Prim.Native.Nat.{ℕ, _+_, _*_, _/_, _≤_, _<_};
 ghost use lib.Dec.{eqb, ltb};
 ghost use lib.IntN.{pos};
 ghost use lib.ListN.{length, getD};
-ghost use Rattle.rules.proofs.Carried.{StepFound};
+ghost use Rattle.rules.proofs.Calls.Carried.{StepFound};
 ghost use Rattle.rules.specs.Below.{all, any};
 ghost use Rattle.rules.specs.Calls.{closedEven, wholeStepRefusal, wholeStepCall};
 ghost use Rattle.rules.specs.Ring.{ring};

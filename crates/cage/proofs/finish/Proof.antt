@@ -1,7 +1,7 @@
 -- `cage::finish` meets its contract: a refusal leaves the mesh, and else it is the loaded one.
 use mathlib.Core.Path.{sym, _∙_}
 use native.Mathlib.Omega.{arith}
-use Rattle.rules.proofs.LoadTests.{load-refused, load-carried}
+use Rattle.rules.proofs.Loads.LoadTests.{load-refused, load-carried}
 use Rattle.rules.specs.Cage.{cageOf}
 use borrow.Author.Needs.{needs}
 use Rattle.cage.proofs.finish.Statement.{statement}

@@ -2,10 +2,10 @@
 use borrow.Author.Tests.{not-true, not-false}
 use native.Mathlib.Omega.{arith}
 use mathlib.Core.Path.{_≡_, refl, sym, _∙_}
-use Rattle.rules.proofs.CageTests.{sizes-fit-is}
-use Rattle.rules.proofs.Decide.{when-true}
-use Rattle.rules.proofs.LoadTests.{load-by-tests, load-refused}
-use Rattle.rules.proofs.SoundTest.{tables-agree-is}
+use Rattle.rules.proofs.Loads.CageTests.{sizes-fit-is}
+use Rattle.rules.proofs.Numbers.Decide.{when-true}
+use Rattle.rules.proofs.Loads.LoadTests.{load-by-tests, load-refused}
+use Rattle.rules.proofs.Soundness.SoundTest.{tables-agree-is}
 use Rattle.rules.specs.Cage.{sizesFit}
 use Rattle.rules.specs.Conditions.{SizesFit}
 use Rattle.rules.specs.Tables.{Mesh, TablesAgree, tablesAgree, topologyOf, meshOf}

@@ -1,7 +1,7 @@
 -- `mesh::refine` meets its contract.
 use borrow.Author.Needs.{needs}
 use mathlib.Core.Path.{_≡_, sym, ap, _∙_}
-use Rattle.rules.proofs.Carried.{refine-found}
+use Rattle.rules.proofs.Calls.Carried.{refine-found}
 use Rattle.rules.specs.Calls.{worked, refineRefusal}
 use Rattle.rules.specs.Tables.{Mesh}
 use Rattle.tables.specs.Lent.{meshNow}

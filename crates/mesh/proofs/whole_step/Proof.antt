@@ -1,6 +1,6 @@
 -- `mesh::whole_step` meets its contract.
 use borrow.Author.Needs.{needs}
-use Rattle.rules.proofs.StepRefusals.{step-refused}
+use Rattle.rules.proofs.Steps.StepRefusals.{step-refused}
 use Rattle.rules.specs.Tables.{Mesh}
 use Rattle.tables.specs.Lent.{meshNow}
 use Rattle.mesh.proofs.Refusing.{step-standing, standing-sound}

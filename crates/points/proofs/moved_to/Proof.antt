@@ -8,8 +8,9 @@ use lib.IntN.{ℤ, pos, _-ℤ_}
 use mir.Syntax.{w32}
 use mir.Facts.{toZ-ofZ}
 use Rattle.rules.specs.Numbers.{halfUp, weight, moved}
-use Rattle.rules.proofs.Differences.{Is, nat, add, sub, scale, at-most, at-most-gives, less, less-gives}
-use Rattle.rules.proofs.Rounding.{Floor, half-up, half-up-only, weight-at-most, moved-is, moved-at-most, parts-of-mean}
+use Rattle.rules.proofs.Numbers.Differences.{Is, nat, add, sub, scale, at-most, at-most-gives, less, less-gives}
+use Rattle.rules.proofs.Numbers.Rounding.{Floor, half-up, half-up-only, weight-at-most, moved-is, moved-at-most}
+use Rattle.rules.proofs.Numbers.Rounding.{parts-of-mean}
 use Rattle.points.proofs.Signed.{returned, counted, sum-of-one, sum-of-some, widened, widens}
 use Rattle.points.proofs.moved_to.Statement.{statement}
 use Rattle.points.proofs.moved_to.Tie as tie

@@ -3,7 +3,7 @@ use borrow.Author.Needs.{needs}
 use Prim.Native.Nat.{_-_, _<_}
 use native.Mathlib.Omega.{arith}
 use mathlib.Core.Path.{_≡_}
-use Rattle.rules.proofs.RefineLoop.{Refining, refining-begins, refining-ends, few-splits}
+use Rattle.rules.proofs.Chains.RefineLoop.{Refining, refining-begins, refining-ends, few-splits}
 use Rattle.rules.specs.Split as rules
 use Rattle.rules.specs.Split.{chainEnd}
 use Rattle.rules.specs.Tables.{Mesh}

@@ -8,7 +8,7 @@ use mathlib.Core.List.{List}
 use mathlib.Core.Path.{_≡_, sym}
 use lib.Dec.{eqb}
 use lib.ListN.{getD}
-use Rattle.rules.proofs.Decide.{all-more, all-fails}
+use Rattle.rules.proofs.Numbers.Decide.{all-more, all-fails}
 use Rattle.rules.specs.Below.{all}
 use Rattle.step.proofs.all_of.Statement.{statement}
 use Rattle.step.proofs.all_of.Tie as tie

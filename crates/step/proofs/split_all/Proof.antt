@@ -3,8 +3,8 @@ use borrow.Author.Needs.{needs}
 use Prim.Native.Nat.{_-_, _≤_}
 use native.Mathlib.Omega.{arith}
 use mathlib.Core.Path.{_≡_, refl, _∙_}
-use Rattle.rules.proofs.Relaxed.{SameSlots}
-use Rattle.rules.proofs.StepLoop.{step-slots, step-on}
+use Rattle.rules.proofs.Soundness.Relaxed.{SameSlots}
+use Rattle.rules.proofs.Steps.StepLoop.{step-slots, step-on}
 use Rattle.rules.specs.Split.{atFirst}
 use Rattle.rules.specs.Step.{refineFirst}
 use Rattle.tables.specs.Lent.{meshNow}

@@ -2,8 +2,8 @@
 use borrow.Author.Needs.{needs}
 use native.Mathlib.Omega.{arith}
 use mathlib.Core.Path.{sym, _∙_}
-use Rattle.rules.proofs.Carried.{step-found}
-use Rattle.rules.proofs.StepRefusals.{step-refused}
+use Rattle.rules.proofs.Calls.Carried.{step-found}
+use Rattle.rules.proofs.Steps.StepRefusals.{step-refused}
 use Rattle.step.proofs.Deciding.{step-made}
 use Rattle.step.proofs.step_by.Statement.{statement}
 use Rattle.step.proofs.step_by.Tie as tie

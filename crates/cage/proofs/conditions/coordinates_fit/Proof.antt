@@ -8,7 +8,7 @@ use mathlib.Core.List.{List}
 use mathlib.Core.Path.{_≡_, sym, ap, _∙_}
 use mir.Syntax.{w32}
 use Rattle.points.proofs.Signed.{returned}
-use Rattle.rules.proofs.Decide.{all-more, all-fails}
+use Rattle.rules.proofs.Numbers.Decide.{all-more, all-fails}
 use Rattle.rules.specs.Below.{all}
 use Rattle.rules.specs.Numbers.{numberAt, signed, inRange}
 use Rattle.cage.proofs.conditions.coordinates_fit.Statement.{statement}

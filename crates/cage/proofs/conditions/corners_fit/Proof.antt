@@ -5,7 +5,7 @@ use Prim.Native.Nat.{_-_, _*_, _≤_}
 use native.Mathlib.Omega.{arith}
 use mathlib.Core.Bool.{true}
 use mathlib.Core.Path.{_≡_, sym, _∙_}
-use Rattle.rules.proofs.Decide.{all-more, all-fails}
+use Rattle.rules.proofs.Numbers.Decide.{all-more, all-fails}
 use Rattle.rules.specs.Below.{all}
 use Rattle.rules.specs.Cage.{cornersFit}
 use Rattle.cage.specs.Decoded.{cornerFits}

@@ -5,7 +5,7 @@ use Prim.Native.Nat.{_-_, _<_}
 use native.Mathlib.Omega.{arith}
 use lib.ListN.{length, getD, length-set}
 use Rattle.rules.specs.Tables.{previous}
-use Rattle.rules.proofs.Sides.{previous-lt}
+use Rattle.rules.proofs.Links.Sides.{previous-lt}
 use Rattle.cage.specs.Decoded.{decoded}
 use Rattle.cage.specs.Pairing.{Last, Linking}
 use Rattle.cage.proofs.Links.{linking-none, matches, linking-more}

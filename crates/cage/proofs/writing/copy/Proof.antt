@@ -4,7 +4,7 @@ use Prim.Native.Nat.{_-_, _≤_}
 use native.Mathlib.Omega.{arith}
 use mathlib.Core.Path.{_≡_, refl}
 use lib.ListN.{length, getD, length-set}
-use Rattle.rules.proofs.Fill.{fill-more}
+use Rattle.rules.proofs.Numbers.Fill.{fill-more}
 use Rattle.rules.specs.Below.{fill}
 use Rattle.cage.proofs.writing.copy.Statement.{statement}
 use Rattle.cage.proofs.writing.copy.Tie as tie

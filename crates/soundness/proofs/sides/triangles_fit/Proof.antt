@@ -4,7 +4,7 @@ use native.Mathlib.Omega.{arith}
 use Prim.Native.Nat.{_-_, _≤_}
 use mathlib.Core.Bool.{true}
 use mathlib.Core.Path.{_≡_, sym}
-use Rattle.rules.proofs.Decide.{all-more, all-fails}
+use Rattle.rules.proofs.Numbers.Decide.{all-more, all-fails}
 use Rattle.rules.specs.Below.{all}
 use Rattle.rules.specs.Tables.{Topology, topologyOf}
 use Rattle.soundness.specs.Parts.{triangleFits}

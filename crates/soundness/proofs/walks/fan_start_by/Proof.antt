@@ -9,11 +9,11 @@ use mathlib.Core.List.{List}
 use mathlib.Core.Path.{_≡_, refl, _∙_}
 use lib.Dec.{ltb}
 use lib.ListN.{getD}
-use Rattle.rules.proofs.Decide.{is-lt, is-iff, is-then, is-all, is-same, when-true}
-use Rattle.rules.proofs.FanTest.{one-start, one-fan-is}
-use Rattle.rules.proofs.FanTotal.{walks-are}
-use Rattle.rules.proofs.Fans.{Starts, first-side, first-in-use, first-none}
-use Rattle.rules.proofs.Turning.{Glued}
+use Rattle.rules.proofs.Numbers.Decide.{is-lt, is-iff, is-then, is-all, is-same, when-true}
+use Rattle.rules.proofs.Rings.FanTest.{one-start, one-fan-is}
+use Rattle.rules.proofs.Rings.FanTotal.{walks-are}
+use Rattle.rules.proofs.Rings.Fans.{Starts, first-side, first-in-use, first-none}
+use Rattle.rules.proofs.Rings.Turning.{Glued}
 use Rattle.rules.specs.Below.{all}
 use Rattle.rules.specs.Ring.{firstSide}
 use Rattle.rules.specs.Sound.{OneFan, hasOneFan}

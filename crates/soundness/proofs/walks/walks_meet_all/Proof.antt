@@ -8,8 +8,8 @@ use mathlib.Core.List.{List}
 use mathlib.Core.Path.{_≡_, refl}
 use lib.Dec.{eqb, ltb}
 use lib.ListN.{getD}
-use Rattle.rules.proofs.Decide.{all-more, all-fails}
-use Rattle.rules.proofs.FanTotal.{walkLength}
+use Rattle.rules.proofs.Numbers.Decide.{all-more, all-fails}
+use Rattle.rules.proofs.Rings.FanTotal.{walkLength}
 use Rattle.rules.specs.Below.{all, total}
 use Rattle.rules.specs.Tables.{Topology, topologyOf, sides}
 use Rattle.soundness.specs.Walks.{walksMeetAll}

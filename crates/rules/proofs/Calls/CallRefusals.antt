@@ -1,0 +1,192 @@
+-- For each call: its refusal is the first of its conditions that holds, and what a call that is carried out has found.
+use mathlib.Core.Path.{_≡_, refl, sym, ap, _∙_, subst}
+use mathlib.Core.Logic.{_≢_}
+use mathlib.Core.Bool.{not}
+use mathlib.Core.List.{List, []}
+use Prim.Native.Nat.{ℕ, suc, _+_, _*_, _≤_, _<_, _%_, max}
+use native.Mathlib.Omega.{arith}
+use lib.ListN.{length}
+use lib.Dec.{eqb, leb, ltb}
+use Rattle.rules.proofs.Loads.CageTests.{sizes-fit-is, corners-fit-is, coordinates-fit-is, sides-differ-is}
+use Rattle.rules.proofs.Chains.ChainEnd.{ends-at-boundary-is}
+use Rattle.rules.proofs.Numbers.Decide.{Decides, is-eq, is-lt, is-le, is-not, is-iff, stable, is-and, even-is}
+use Rattle.rules.proofs.Numbers.Decide.{is-all}
+use Rattle.rules.proofs.Numbers.Decide.{is-any}
+use Rattle.rules.proofs.Calls.FirstThatHolds.{Judged, first-if, first-unless, judged, judged-refusal}
+use Rattle.rules.proofs.Calls.FirstThatHolds.{judged-refused}
+use Rattle.rules.proofs.Loads.Load.{fans-fit-is}
+use Rattle.rules.proofs.Chains.Refine.{chain-counts}
+use Rattle.rules.proofs.Soundness.Relaxed.{sound-manifold, sound-bases}
+use Rattle.rules.proofs.Soundness.SoundTest.{tables-agree-is, sound-is}
+use Rattle.rules.specs.Below.{any}
+use Rattle.rules.specs.Cage.{Cage, cageOf, loaded}
+use Rattle.rules.specs.Calls.{outcomeOf, zeroPoint, worked, roomFor, splitsOf, closedEven, loadRefusal}
+use Rattle.rules.specs.Calls.{refineRefusal, wholeStepRefusal, ringRefusal, positionRefusal, loadCall, refineCall}
+use Rattle.rules.specs.Calls.{wholeStepCall, ringRead, ringCall, positionRead, positionCall}
+use Rattle.rules.specs.Conditions.{EndsAtBoundary, OddInChain, atEven, atBoundary, onward, RoomFor, TooFewSlots}
+use Rattle.rules.specs.Conditions.{ClosedEven, First, none, LongRing, loadConditions, refineConditions}
+use Rattle.rules.specs.Conditions.{wholeStepConditions, ringConditions, positionConditions}
+use Rattle.rules.specs.History.{Call, loads, refines, steps, asksRing, asksPosition, outcome, lentBuffer}
+use Rattle.rules.specs.Ring.{ring}
+use Rattle.rules.specs.Sound.{Sound}
+use Rattle.rules.specs.Split.{atFirst, chainEnd, chainOdd, refine}
+use Rattle.rules.specs.Step.{wholeStep}
+use Rattle.rules.specs.Tables.{Topology, Mesh, sides, boundary, link, generation, vertexSlots, triangleSlots}
+
+-- ---- tests
+
+-- A number not in use.
+unused-is : (n k : ℕ) → Decides (leb k n) (¬ (n < k))
+unused-is n k = is-iff (λ l q. omega arith) (λ q. omega arith) (is-le k n)
+
+pub room-is : (s : ℕ) (m : Mesh) → Decides (roomFor s m) (RoomFor s m)
+room-is s m =
+    is-iff (λ x. record { vertices = x .0; triangles = x .1 }) (λ R. (R .vertices, R .triangles))
+    (is-and (is-le (m .topology .vertices + s) (vertexSlots m))
+    (is-le (m .topology .triangles + 2 * s) (triangleSlots m)))
+
+-- All triangles have the generation of the first, if there is one.
+pub closed-even-is : (m : Topology) → 1 ≤ m .triangles → Decides (closedEven m) (ClosedEven m)
+unfolding closedEven
+closed-even-is m some =
+    is-iff (λ x. record { closed = x .0 .0; common = generation m 0; even = x .1; all = x .0 .1 })
+    (λ C. ((C .closed, λ t l. C .all t l ∙ sym (C .all 0 some)), ap (λ (g : ℕ). g % 2) (C .all 0 some) ∙ C .even))
+    (is-and (is-and (is-all (sides m) (λ h. not (eqb (link m h) boundary)) (λ h. link m h ≢ boundary)
+    (λ h l. is-not (is-eq (link m h) boundary)))
+    (is-all (m .triangles) (λ t. eqb (generation m t) (generation m 0)) (λ t. generation m t ≡ generation m 0)
+    (λ t l. is-eq (generation m t) (generation m 0))))
+    (even-is (generation m 0)))
+
+-- The odd triangles of a base chain have one number.
+one-number : {m : Topology} {t j k : ℕ} → OddInChain m t j → OddInChain m t k → j ≡ k
+one-number (atEven e) (atEven f) = refl
+one-number (atEven e) (atBoundary f l) = absurd (omega arith)
+one-number (atEven e) (onward f l c) = absurd (omega arith)
+one-number (atBoundary e l) (atEven f) = absurd (omega arith)
+one-number (atBoundary e l) (atBoundary f k) = refl
+one-number (atBoundary e l) (onward f n c) = absurd (n l)
+one-number (onward e n c) (atEven f) = absurd (omega arith)
+one-number (onward e n c) (atBoundary f l) = absurd (n l)
+one-number (onward e n c) (onward f l d) = ap suc (one-number c d)
+
+-- A base chain of sound tables that does not end at the boundary.
+module _ (t : ℕ) (m : Mesh) (S : Sound m) (u : t < m .topology .triangles) (e : ¬ EndsAtBoundary (m .topology) t) where
+  pub ends-even : generation (m .topology) (chainEnd (m .topology) t) % 2 ≡ 0
+  ends-even =
+      even-is (generation (m .topology) (chainEnd (m .topology) t)) .holds
+      (is-not (ends-at-boundary-is (m .topology) (sound-manifold S) (sound-bases S) t u) .passes e)
+
+  pub chain-counted : OddInChain (m .topology) t (chainOdd (m .topology) t)
+  chain-counted = chain-counts t m S u ends-even
+
+  pub too-few-is : Decides (not (roomFor (splitsOf (m .topology) t) m)) (TooFewSlots t m)
+  too-few-is =
+      is-iff (λ n. (chainOdd (m .topology) t, chain-counted, n))
+      (λ (k, c, n) R. n (subst (λ (j : ℕ). RoomFor (max 1 j) m) (one-number chain-counted c) R))
+      (is-not (room-is (splitsOf (m .topology) t) m))
+
+pub long-ring-is : (m : Topology) → Decides (any (m .vertices) (λ v. ltb 12 (length (ring m v)))) (LongRing m)
+long-ring-is m =
+    is-any (m .vertices) (λ v. ltb 12 (length (ring m v))) (λ v. 12 < length (ring m v))
+    (λ v. is-lt 12 (length (ring m v)))
+
+-- ---- the refusals
+
+pub load-refusal-first : (bytes : List ℕ) (m : Mesh) → First (loadConditions bytes m) (loadRefusal bytes m)
+unfolding loadRefusal
+load-refusal-first bytes m =
+    let c : Cage = cageOf bytes in
+    first-unless 1 (tables-agree-is m) (λ A.
+    first-unless 2 (sizes-fit-is bytes m) (λ S.
+    first-unless 3 (corners-fit-is c) (λ K.
+    first-unless 4 (coordinates-fit-is c) (λ _.
+    first-unless 5 (sides-differ-is c) (λ D.
+    first-unless 6 (fans-fit-is c m A (S .vertexRoom) (S .triangleRoom) K D) (λ _. none))))))
+
+pub refine-refusal-first : (t : ℕ) (m : Mesh) → First (refineConditions t m) (refineRefusal t m)
+unfolding refineRefusal
+refine-refusal-first t m =
+    first-unless 1 (tables-agree-is m) (λ A.
+    first-unless 7 (sound-is m) (λ S.
+    first-if 8 (unused-is t (m .topology .triangles)) (λ u.
+    first-if 9 (is-eq (generation (m .topology) t) 20) (λ _.
+    first-if 10 (ends-at-boundary-is (m .topology) (sound-manifold S) (sound-bases S) t
+    (stable (is-lt t (m .topology .triangles)) u)) (λ e.
+    first-if 11 (too-few-is t m S (stable (is-lt t (m .topology .triangles)) u) e) (λ _. none))))))
+
+pub whole-step-refusal-first : (m : Mesh) → First (wholeStepConditions m) (wholeStepRefusal m)
+unfolding wholeStepRefusal
+whole-step-refusal-first m =
+    first-unless 1 (tables-agree-is m) (λ A.
+    first-unless 7 (sound-is m) (λ S.
+    first-unless 12 (closed-even-is (m .topology) (S .someTriangle)) (λ _.
+    first-if 9 (is-eq (generation (m .topology) 0) 20) (λ _.
+    first-if 13 (long-ring-is (m .topology)) (λ _.
+    first-unless 11 (room-is (m .topology .triangles) m) (λ _. none))))))
+
+pub ring-refusal-first : (v : ℕ) (buffer : List ℕ) (m : Mesh)
+    → First (ringConditions v buffer m) (ringRefusal v buffer m)
+unfolding ringRefusal
+ring-refusal-first v buffer m =
+    first-unless 1 (tables-agree-is m) (λ A.
+    first-unless 7 (sound-is m) (λ S.
+    first-if 8 (unused-is v (m .topology .vertices)) (λ _.
+    first-if 14 (is-lt (length buffer) (length (ring (m .topology) v))) (λ _. none))))
+
+pub position-refusal-first : (v : ℕ) (m : Mesh) → First (positionConditions v m) (positionRefusal v m)
+unfolding positionRefusal
+position-refusal-first v m =
+    first-unless 1 (tables-agree-is m)
+    (λ A. first-unless 7 (sound-is m) (λ S. first-if 8 (unused-is v (m .topology .vertices)) (λ _. none)))
+
+-- ---- each call is refused, or its outcome is the one that the rules give
+
+pub load-judged : (bytes : List ℕ) (m : Mesh)
+    → Judged (loadRefusal bytes m) m [] (worked (atFirst (loaded (cageOf bytes) m))) (loadCall bytes m)
+unfolding loadCall
+load-judged bytes m = judged (loadRefusal bytes m) m [] (worked (atFirst (loaded (cageOf bytes) m)))
+
+pub refine-judged : (t : ℕ) (m : Mesh)
+    → Judged (refineRefusal t m) m [] (worked (refine t (atFirst m))) (refineCall t m)
+unfolding refineCall
+refine-judged t m = judged (refineRefusal t m) m [] (worked (refine t (atFirst m)))
+
+pub whole-step-judged : (m : Mesh) → Judged (wholeStepRefusal m) m [] (worked (wholeStep m)) (wholeStepCall m)
+unfolding wholeStepCall
+whole-step-judged m = judged (wholeStepRefusal m) m [] (worked (wholeStep m))
+
+pub ring-judged : (v : ℕ) (buffer : List ℕ) (m : Mesh)
+    → Judged (ringRefusal v buffer m) m buffer (ringRead v buffer m) (ringCall v buffer m)
+unfolding ringCall
+ring-judged v buffer m = judged (ringRefusal v buffer m) m buffer (ringRead v buffer m)
+
+pub position-judged : (v : ℕ) (m : Mesh) → Judged (positionRefusal v m) m [] (positionRead v m) (positionCall v m)
+unfolding positionCall
+position-judged v m = judged (positionRefusal v m) m [] (positionRead v m)
+
+-- ---- the number that a call returns
+
+pub load-refusal : (bytes : List ℕ) (m : Mesh) → First (loadConditions bytes m) (loadCall bytes m .refusal)
+load-refusal bytes m = rw (judged-refusal refl (load-judged bytes m)) (load-refusal-first bytes m)
+
+pub refine-refusal : (t : ℕ) (m : Mesh) → First (refineConditions t m) (refineCall t m .refusal)
+refine-refusal t m = rw (judged-refusal refl (refine-judged t m)) (refine-refusal-first t m)
+
+pub whole-step-refusal : (m : Mesh) → First (wholeStepConditions m) (wholeStepCall m .refusal)
+whole-step-refusal m = rw (judged-refusal refl (whole-step-judged m)) (whole-step-refusal-first m)
+
+pub ring-refusal : (v : ℕ) (buffer : List ℕ) (m : Mesh)
+    → First (ringConditions v buffer m) (ringCall v buffer m .refusal)
+ring-refusal v buffer m = rw (judged-refusal refl (ring-judged v buffer m)) (ring-refusal-first v buffer m)
+
+pub position-refusal : (v : ℕ) (m : Mesh) → First (positionConditions v m) (positionCall v m .refusal)
+position-refusal v m = rw (judged-refusal refl (position-judged v m)) (position-refusal-first v m)
+
+-- A refused call leaves what it is lent.
+pub refused-leaves : (c : Call) (m : Mesh) → outcome c m .refusal ≢ 0
+    → outcome c m ≡ outcomeOf (outcome c m .refusal) 0 0 0 zeroPoint m (lentBuffer c)
+refused-leaves (loads bytes) m = judged-refused refl (load-judged bytes m)
+refused-leaves (refines t) m = judged-refused refl (refine-judged t m)
+refused-leaves steps m = judged-refused refl (whole-step-judged m)
+refused-leaves (asksRing v buffer) m = judged-refused refl (ring-judged v buffer m)
+refused-leaves (asksPosition v) m = judged-refused refl (position-judged v m)

@@ -1,0 +1,104 @@
+-- What a call that is carried out has found, and what it makes of the mesh.
+use mathlib.Core.Path.{_≡_, _∙_}
+use mathlib.Core.Logic.{_≢_}
+use mathlib.Core.List.{List}
+use Prim.Native.Nat.{ℕ, _%_, _<_}
+use native.Mathlib.Omega.{arith}
+use Rattle.rules.proofs.Loads.CageTests.{sizes-fit-is, corners-fit-is, coordinates-fit-is, sides-differ-is}
+use Rattle.rules.proofs.Calls.CallRefusals.{room-is, closed-even-is, ends-even, chain-counted}
+use Rattle.rules.proofs.Calls.CallRefusals.{load-refusal-first}
+use Rattle.rules.proofs.Calls.CallRefusals.{refine-refusal-first, whole-step-refusal-first}
+use Rattle.rules.proofs.Numbers.Decide.{is-lt, stable}
+use Rattle.rules.proofs.Calls.FirstThatHolds.{none-hold}
+use Rattle.rules.proofs.Loads.Load.{fans-fit-is}
+use Rattle.rules.proofs.Chains.Refine.{Refined, refine-refined}
+use Rattle.rules.proofs.Soundness.SoundTest.{tables-agree-is, sound-is}
+use Rattle.rules.proofs.Steps.WholeStep.{step-makes}
+use Rattle.rules.specs.Cage.{Cage, cageOf}
+use Rattle.rules.specs.Calls.{splitsOf, loadRefusal, refineRefusal, wholeStepRefusal}
+use Rattle.rules.specs.Conditions.{SizesFit, CornersFit, RoomFor, ClosedEven, CoordinatesFit, SidesDiffer}
+use Rattle.rules.specs.Conditions.{FansFit}
+use Rattle.rules.specs.Promises.{StepMakes}
+use Rattle.rules.specs.Sound.{Sound}
+use Rattle.rules.specs.Split.{atFirst, chainEnd, chainOdd, refine}
+use Rattle.rules.specs.Step.{wholeStep}
+use Rattle.rules.specs.Tables.{Mesh, TablesAgree, generation}
+
+-- ---- load
+
+pub record LoadFound (bytes : List ℕ) (m : Mesh) : Type 0 where
+  pub agree : TablesAgree m
+  pub sizes : SizesFit bytes m
+  pub corners : CornersFit (cageOf bytes)
+  pub coordinates : CoordinatesFit (cageOf bytes)
+  pub differ : SidesDiffer (cageOf bytes)
+  pub fans : FansFit (cageOf bytes) m
+
+pub load-found : (bytes : List ℕ) (m : Mesh) → loadRefusal bytes m ≡ 0 → LoadFound bytes m
+load-found bytes m z =
+    let c : Cage = cageOf bytes in
+    let (a, (s, (k, (r, (d, (f, _)))))) = none-hold (load-refusal-first bytes m) z tt in
+    let A = stable (tables-agree-is m) a in
+    let S = stable (sizes-fit-is bytes m) s in
+    let K = stable (corners-fit-is c) k in
+    let D = stable (sides-differ-is c) d in
+    record {
+      agree = A;
+      sizes = S;
+      corners = K;
+      coordinates = stable (coordinates-fit-is c) r;
+      differ = D;
+      fans = stable (fans-fit-is c m A (S .vertexRoom) (S .triangleRoom) K D) f;
+    }
+
+-- ---- refine
+
+pub record RefineFound (t : ℕ) (m : Mesh) : Type 0 where
+  pub sound : Sound m
+  pub inUse : t < m .topology .triangles
+  pub young : generation (m .topology) t < 20
+  pub evenEnd : generation (m .topology) (chainEnd (m .topology) t) % 2 ≡ 0
+  pub room : RoomFor (splitsOf (m .topology) t) m
+
+pub refine-found : (t : ℕ) (m : Mesh) → refineRefusal t m ≡ 0 → RefineFound t m
+refine-found t m z =
+    let (_, (s, (i, (n, (e, (r, _)))))) = none-hold (refine-refusal-first t m) z tt in
+    let S = stable (sound-is m) s in
+    let u : t < m .topology .triangles = stable (is-lt t (m .topology .triangles)) i in
+    let y = S .generations t u in
+    record {
+      sound = S;
+      inUse = u;
+      young = omega arith;
+      evenEnd = ends-even t m S u e;
+      room =
+          stable (room-is (splitsOf (m .topology) t) m)
+          (λ n. r (chainOdd (m .topology) t, chain-counted t m S u e, n));
+    }
+
+pub found-refined : {t : ℕ} {m : Mesh} → RefineFound t m
+    → Refined t (splitsOf (m .topology) t) 0 m (refine t (atFirst m))
+found-refined {t} {m} F = refine-refined t m (F .sound) (F .inUse) (F .young) (F .evenEnd) (F .room)
+
+-- ---- whole step
+
+pub record StepFound (m : Mesh) : Type 0 where
+  pub sound : Sound m
+  pub closed : ClosedEven (m .topology)
+  pub young : closed .common ≢ 20
+  pub room : RoomFor (m .topology .triangles) m
+
+pub step-found : (m : Mesh) → wholeStepRefusal m ≡ 0 → StepFound m
+step-found m z =
+    let (_, (s, (c, (n, (_, (r, _)))))) = none-hold (whole-step-refusal-first m) z tt in
+    let S = stable (sound-is m) s in
+    let C = stable (closed-even-is (m .topology) (S .someTriangle)) c in
+    record {
+      sound = S;
+      closed = C;
+      young = λ e. n (C .all 0 (S .someTriangle) ∙ e);
+      room = stable (room-is (m .topology .triangles) m) r;
+    }
+
+pub found-step : {m : Mesh} (F : StepFound m) → StepMakes (F .closed .common) m (wholeStep m)
+found-step {m} F = step-makes m (F .sound) (F .closed) (F .young) (F .room)

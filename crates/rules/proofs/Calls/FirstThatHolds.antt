@@ -1,0 +1,88 @@
+-- The first condition that holds, by the tests that decide the conditions.
+use mathlib.Core.Path.{_≡_, refl, sym, _∙_, ap}
+use mathlib.Core.Logic.{_≢_}
+use mathlib.Core.Bool.{Bool, true, false, not, _&&_}
+use mathlib.Core.List.{List, [], _∷_}
+use Prim.Native.Nat.{ℕ, zero, suc, _<_}
+use native.Mathlib.Omega.{arith}
+use lib.Dec.{T, ltb}
+use Rattle.rules.proofs.Numbers.Decide.{Decides, is-self, is-lt, is-not, stable, is-and}
+use Rattle.rules.specs.Calls.{Outcome, outcomeOf, zeroPoint, unless}
+use Rattle.rules.specs.Conditions.{Condition, _when_, First, this, later, none}
+use Rattle.rules.specs.Tables.{Mesh}
+
+-- A condition that holds where its test passes. What comes after may use that it does not hold.
+pub first-if : (n : ℕ) {b : Bool} {P : Type 0} {k : ℕ} {rest : List Condition} → Decides b P → (¬ P → First rest k)
+    → First (n when P ∷ rest) (elim b [ true ↦ n | false ↦ k ])
+first-if n {b = true} d f = this (d .holds tt)
+first-if n {b = false} d f = later (d .passes) (f (d .passes))
+
+-- A condition that holds where the test of its opposite fails.
+pub first-unless : (n : ℕ) {b : Bool} {Q : Type 0} {k : ℕ} {rest : List Condition} → Decides b Q → (Q → First rest k)
+    → First (n when (¬ Q) ∷ rest) (elim (not b) [ true ↦ n | false ↦ k ])
+first-unless n d f = first-if n (is-not d) (λ x. f (stable d x))
+
+-- ---- no condition holds
+
+-- No number of the list is 0.
+abbrev positive : List Condition → Bool
+positive [] = true
+positive (n when P ∷ rest) = ltb 0 n && positive rest
+
+-- None of the conditions holds.
+abbrev pub NoneHold : List Condition → Type 0
+NoneHold [] = Unit {0}
+NoneHold (n when P ∷ rest) = (¬ P) × NoneHold rest
+
+positive-both : (n : ℕ) (b : Bool) → T (ltb 0 n && b) → (0 < n) × T b
+positive-both n b = is-and (is-lt 0 n) (is-self b) .holds
+
+not-zero : (n : ℕ) → n ≡ 0 → 0 < n → ⊥
+not-zero n z l = omega arith
+
+-- None holds where the refusal is 0.
+pub none-hold : {conditions : List Condition} {k : ℕ} → First conditions k → k ≡ 0 → T (positive conditions)
+    → NoneHold conditions
+none-hold none z t = tt
+none-hold (this {n} {rest = rest} p) z t = absurd (not-zero n z (positive-both n (positive rest) t .0))
+none-hold (later {n} {rest = rest} q f) z t = (q, none-hold f z (positive-both n (positive rest) t .1))
+
+-- ---- what a refusal leaves
+
+-- The call that m and the buffer are lent to either is refused, or its outcome is `success`.
+pub data Judged (n : ℕ) (m : Mesh) (buffer : List ℕ) (success : Outcome) : Outcome → Type 0 where
+  carried : n ≡ 0 → Judged n m buffer success success
+  refused : n ≢ 0 → Judged n m buffer success (outcomeOf n 0 0 0 zeroPoint m buffer)
+
+pub judged : (n : ℕ) (m : Mesh) (buffer : List ℕ) (success : Outcome)
+    → Judged n m buffer success (unless n m buffer success)
+judged zero m buffer success = carried refl
+judged (suc n) m buffer success = refused (λ e. omega arith)
+
+pub judged-refusal : {n : ℕ} {m : Mesh} {buffer : List ℕ} {success o : Outcome} → success .refusal ≡ 0
+    → Judged n m buffer success o → o .refusal ≡ n
+judged-refusal z (carried e) = z ∙ sym e
+judged-refusal z (refused e) = refl
+
+pub judged-refused : {n : ℕ} {m : Mesh} {buffer : List ℕ} {success o : Outcome} → success .refusal ≡ 0
+    → Judged n m buffer success o
+    → o .refusal ≢ 0 → o ≡ outcomeOf (o .refusal) 0 0 0 zeroPoint m buffer
+judged-refused z (carried e) r = absurd (r z)
+judged-refused z (refused e) r = refl
+
+pub judged-carried : {n : ℕ} {m : Mesh} {buffer : List ℕ} {success o : Outcome} → Judged n m buffer success o
+    → o .refusal ≡ 0 → (n ≡ 0) × (o ≡ success)
+judged-carried (carried e) r = (e, refl)
+judged-carried (refused e) r = absurd (e r)
+
+-- The outcome of a call whose refusal n was found to be r.
+module _ (m : Mesh) (buffer : List ℕ) (success : Outcome) (n r : ℕ) (e : r ≡ n) where
+  pub refuses : r ≢ 0 → outcomeOf r 0 0 0 zeroPoint m buffer ≡ unless n m buffer success
+  refuses x = go (judged n m buffer success)
+    where
+      go : {o : Outcome} → Judged n m buffer success o → outcomeOf r 0 0 0 zeroPoint m buffer ≡ o
+      go (carried z) = absurd (x (e ∙ z))
+      go (refused z) = ap (λ (k : ℕ). outcomeOf k 0 0 0 zeroPoint m buffer) e
+
+  pub carries : r ≡ 0 → success ≡ unless n m buffer success
+  carries z = ap (λ (k : ℕ). unless k m buffer success) (sym z ∙ e)

@@ -1,0 +1,184 @@
+-- Every history: what each call keeps, and so what holds after every list of calls.
+use mathlib.Core.Path.{_≡_, refl, sym, _∙_, subst}
+use mathlib.Core.Logic.{inl, inr}
+use mathlib.Core.Bool.{true, false}
+use mathlib.Core.List.{List, [], _∷_}
+use Prim.Native.Nat.{ℕ, _+_, _*_, _/_, _%_, _≤_, min}
+use native.Mathlib.Omega.{arith}
+use lib.Dec.{eqb}
+use lib.IntN.{pos, _+ℤ_, _-ℤ_}
+use borrow.Author.Tests.{ne-eqb}
+use Rattle.rules.proofs.Splits.Bases.{reached}
+use Rattle.rules.proofs.Loads.CageEdges.{load-characteristic}
+use Rattle.rules.proofs.Calls.CallRefusals.{load-judged, refine-judged, whole-step-judged, ring-judged}
+use Rattle.rules.proofs.Calls.CallRefusals.{position-judged}
+use Rattle.rules.proofs.Calls.Carried.{LoadFound, RefineFound, load-found, refine-found, found-refined}
+use Rattle.rules.proofs.Calls.Carried.{step-found}
+use Rattle.rules.proofs.Calls.Carried.{found-step}
+use Rattle.rules.proofs.Numbers.Differences.{nat, add, sub, equal}
+use Rattle.rules.proofs.Calls.FirstThatHolds.{Judged, carried, refused, judged-carried}
+use Rattle.rules.proofs.Loads.Load.{load-sound}
+use Rattle.rules.proofs.Links.Manifold.{partnered}
+use Rattle.rules.proofs.Chains.Refine.{Refined, chain-counts, chain-bound}
+use Rattle.rules.proofs.Soundness.Relaxed.{sound-manifold}
+use Rattle.rules.proofs.Splits.SplitRead.{mutual-links}
+use Rattle.rules.specs.Below.{all}
+use Rattle.rules.specs.Cage.{cageOf, loaded}
+use Rattle.rules.specs.Calls.{Outcome, worked, loadRefusal, refineCall}
+use Rattle.rules.specs.Conditions.{OddInChain, atEven, atBoundary, onward}
+use Rattle.rules.specs.History.{Near, ReportsSplits, Kept, Call, loads, refines, steps, asksRing, asksPosition}
+use Rattle.rules.specs.History.{LastLoad, nothing, cage, outcome, after, opens, lastLoad, edges, characteristic}
+use Rattle.rules.specs.History.{cageCharacteristic, EveryHistory}
+use Rattle.rules.specs.Promises.{StepMakes}
+use Rattle.rules.specs.Sound.{Sound}
+use Rattle.rules.specs.Split.{Work, atFirst, chainOdd, refine}
+use Rattle.rules.specs.Tables.{Topology, Mesh, link, generation}
+
+-- What is kept from an accepted load on: the tables are sound, and the characteristic is the cage's.
+pub record Good (bytes : List ℕ) (m : Mesh) : Type 0 where
+  pub sound : Sound m
+  pub euler : characteristic (m .topology) ≡ cageCharacteristic (cageOf bytes)
+
+abbrev pub Holds : LastLoad → Mesh → Type 0
+Holds nothing m = Unit {0}
+Holds (cage bytes) m = Good bytes m
+
+-- What a call has to keep; a call added later adds its case to `keeps` alone.
+pub record Keeps (c : Call) (m : Mesh) : Type 0 where
+  pub holds : (o : LastLoad) → Holds o m → Holds (opens c m o) (outcome c m .mesh)
+
+-- ---- splits keep the characteristic
+
+-- s splits, q of them at the boundary.
+same-characteristic : (v e f s q : ℕ) {v′ e′ f′ : ℕ} → v′ ≡ v + s + q → e′ ≡ e + 3 * s + q → f′ ≡ f + 2 * s
+    → pos v′ -ℤ pos e′ +ℤ pos f′ ≡ pos v -ℤ pos e +ℤ pos f
+same-characteristic v e f s q {v′} {e′} {f′} a b c =
+    equal (add (sub (nat v′) (nat e′)) (nat f′)) (add (sub (nat v) (nat e)) (nat f)) (omega arith)
+
+-- A mesh that a call made of a sound one: sound, and of the same characteristic.
+record Stays (m n : Mesh) : Type 0 where
+  sound : Sound n
+  euler : characteristic (n .topology) ≡ characteristic (m .topology)
+
+refined-stays : {t s q : ℕ} {m : Mesh} {w : Work} → Refined t s q m w → Stays m (w .mesh)
+refined-stays {s = s} {q = q} {m = m} R = record {
+  sound = R .sound;
+  euler =
+      same-characteristic (m .topology .vertices) (edges (m .topology)) (m .topology .triangles) s q (R .vertices)
+      (R .edges) (R .triangles);
+}
+
+step-stays : {g : ℕ} {m : Mesh} {w : Work} → StepMakes g m w → Stays m (w .mesh)
+step-stays {m = m} {w = w} P =
+    let v : ℕ = m .topology .vertices in
+    let e : ℕ = edges (m .topology) in
+    let f : ℕ = m .topology .triangles in
+    let a : reached w .vertices ≡ v + f + 0 = omega (arith, P .vertices) in
+    let b : edges (reached w) ≡ e + 3 * f + 0 = omega (arith, P .edges) in
+    let c : reached w .triangles ≡ f + 2 * f = omega (arith, P .triangles) in
+    record { sound = P .sound; euler = same-characteristic v e f f 0 a b c }
+
+holds-on : {m n : Mesh} (o : LastLoad) → Stays m n → Holds o m → Holds o n
+holds-on nothing S h = tt
+holds-on (cage bytes) S h = record { sound = S .sound; euler = S .euler ∙ h .euler }
+
+-- A call that is refused leaves the mesh, and one that is carried out makes one that stays.
+judged-keeps : {n : ℕ} {m : Mesh} {buffer : List ℕ} {success o : Outcome} (a : LastLoad) → Judged n m buffer success o
+    → (n ≡ 0 → Holds a m → Holds a (success .mesh)) → Holds a m → Holds a (o .mesh)
+judged-keeps a (carried z) f h = f z h
+judged-keeps a (refused z) f h = h
+
+-- ---- load
+
+loaded-good : (bytes : List ℕ) (m : Mesh) → LoadFound bytes m → Good bytes (loaded (cageOf bytes) m)
+loaded-good bytes m L = record {
+  sound = load-sound bytes m (L .agree) (L .sizes) (L .corners) (L .coordinates) (L .differ) (L .fans);
+  euler =
+      load-characteristic (cageOf bytes) m (L .agree) (L .sizes .vertexRoom) (L .sizes .triangleRoom) (L .corners)
+      (L .differ);
+}
+
+load-holds : (bytes : List ℕ) (m : Mesh) (a : LastLoad) {o : Outcome}
+    → Judged (loadRefusal bytes m) m [] (worked (atFirst (loaded (cageOf bytes) m))) o
+    → Holds a m → Holds (elim (eqb (o .refusal) 0) [ true ↦ cage bytes | false ↦ a ]) (o .mesh)
+load-holds bytes m a (carried z) h = loaded-good bytes m (load-found bytes m z)
+load-holds bytes m a (refused z) h = rw (ne-eqb (loadRefusal bytes m) 0 z) h
+
+-- ---- the calls
+
+pub keeps : (c : Call) (m : Mesh) → Keeps c m
+keeps (loads bytes) m = record { holds = λ a. load-holds bytes m a (load-judged bytes m) }
+keeps (refines t) m = record {
+  holds = λ a.
+      judged-keeps a (refine-judged t m) (λ z. holds-on a (refined-stays (found-refined (refine-found t m z))));
+}
+keeps steps m = record {
+  holds = λ a. judged-keeps a (whole-step-judged m) (λ z. holds-on a (step-stays (found-step (step-found m z))));
+}
+keeps (asksRing v buffer) m = record { holds = λ a. judged-keeps a (ring-judged v buffer m) (λ z h. h) }
+keeps (asksPosition v) m = record { holds = λ a. judged-keeps a (position-judged v m) (λ z h. h) }
+
+history-holds : (calls : List Call) (m : Mesh) (o : LastLoad) → Holds o m → Holds (lastLoad calls m o) (after calls m)
+unfolding lastLoad after
+history-holds [] m o h = h
+history-holds (c ∷ cs) m o h = history-holds cs (outcome c m .mesh) (opens c m o) (keeps c m .holds o h)
+
+-- ---- what the customer asked for
+
+level-near : (g i h j : ℕ) → (g + min 1 i) / 2 ≡ (h + min 1 j) / 2 → Near g h
+level-near g i h j e = record {
+  up = omega arith;
+  down = omega arith;
+  even = λ x. elim x [ inl q ↦ (omega arith, omega arith) | inr q ↦ (omega arith, omega arith) ];
+}
+
+-- An odd triangle's chain has an odd triangle, itself; an even one's has none.
+odd-some : {m : Topology} {t k : ℕ} → OddInChain m t k → generation m t % 2 ≡ 1 → 1 ≤ k
+odd-some (atEven e) o = absurd (omega arith)
+odd-some (atBoundary q e) o = omega arith
+odd-some (onward q e x) o = omega arith
+
+odd-none : {m : Topology} {t k : ℕ} → OddInChain m t k → generation m t % 2 ≡ 0 → k ≡ 0
+odd-none (atEven e) o = refl
+odd-none (atBoundary q e) o = absurd (omega arith)
+odd-none (onward q e x) o = absurd (omega arith)
+
+-- What a refine that is carried out makes and reports.
+pub found-refines : (t : ℕ) (m : Mesh) → RefineFound t m → ReportsSplits m t (worked (refine t (atFirst m)))
+found-refines t m F =
+    let R = found-refined F in
+    let c = chain-counts t m (F .sound) (F .inUse) (F .evenEnd) in
+    let b = chain-bound t m (F .sound) (F .inUse) (F .evenEnd) in
+    let all : generation (m .topology) t % 2 ≡ 1 → refine t (atFirst m) .splits ≡ chainOdd (m .topology) t =
+    λ o. let i = odd-some c o in omega (arith, R .splits) in
+    record {
+      odd = λ o. subst (OddInChain (m .topology) t) (sym (all o)) c;
+      bound = λ o. let i = all o in omega arith;
+      even = λ e. let i = odd-none c e in omega (arith, R .splits);
+      made = omega (arith, R .triangles, R .splits);
+    }
+
+pub carried-refines : (t : ℕ) (m : Mesh) → refineCall t m .refusal ≡ 0 → ReportsSplits m t (refineCall t m)
+carried-refines t m z =
+    let x = judged-carried (refine-judged t m) z in
+    subst (ReportsSplits m t) (sym (x .1)) (found-refines t m (refine-found t m (x .0)))
+
+good-kept : (bytes : List ℕ) (m : Mesh) → Good bytes m → Kept bytes m
+good-kept bytes m G =
+    let F = sound-manifold (G .sound) in
+    record {
+      linksMutual = mutual-links (m .topology) F;
+      euler = G .euler;
+      near = λ h l n. level-near _ (h % 3) _ (link (m .topology) h % 3) (sym (partnered (F .linked h l) n .level));
+      refines = λ t z. carried-refines t m z;
+    }
+
+module _ (calls : List Call) (m : Mesh) (bytes : List ℕ) (e : lastLoad calls m nothing ≡ cage bytes) where
+  good-after : Good bytes (after calls m)
+  good-after = subst (λ (o : LastLoad). Holds o (after calls m)) e (history-holds calls m nothing tt)
+
+  pub history-sound : Sound (after calls m)
+  history-sound = good-after .sound
+
+pub every-history : EveryHistory
+every-history calls m bytes e = good-kept bytes (after calls m) (good-after calls m bytes e)

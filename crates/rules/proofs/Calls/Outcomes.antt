@@ -1,0 +1,142 @@
+-- What each call that is carried out makes.
+use mathlib.Core.Path.{_≡_, sym, subst}
+use mathlib.Core.Logic.{_≢_}
+use mathlib.Core.List.{List}
+use Prim.Native.Nat.{ℕ, _*_, _%_, _<_}
+use native.Mathlib.Omega.{arith}
+use lib.IntN.{ℤ}
+use Rattle.rules.proofs.Loads.CageEdges.{load-edges}
+use Rattle.rules.proofs.Calls.CallRefusals.{load-judged, refine-judged, whole-step-judged, ring-judged}
+use Rattle.rules.proofs.Calls.CallRefusals.{position-judged}
+use Rattle.rules.proofs.Calls.Carried.{load-found, refine-found, found-refined, step-found, found-step}
+use Rattle.rules.proofs.Chains.Chain.{falls}
+use Rattle.rules.proofs.Calls.FirstThatHolds.{judged-carried}
+use Rattle.rules.proofs.Calls.Histories.{found-refines}
+use Rattle.rules.proofs.Chains.Kobbelt.{refine-is-kobbelt}
+use Rattle.rules.proofs.Loads.Load.{loaded-loads, links-are, load-sound, loaded-past, loaded-positions-past}
+use Rattle.rules.proofs.Soundness.Relaxed.{sound-manifold, sound-bases}
+use Rattle.rules.proofs.Numbers.Rounding.{half-up, half-up-only}
+use Rattle.rules.specs.Cage.{Cage, cageOf, loaded}
+use Rattle.rules.specs.Calls.{worked, loadCall, refineCall, wholeStepCall, ringRead, ringCall, positionRead}
+use Rattle.rules.specs.Calls.{positionCall}
+use Rattle.rules.specs.Numbers.{halfUp}
+use Rattle.rules.specs.Promises.{Nearest, Loaded, ChainFalls, RefineMakes, StepMakes, kobbelt}
+use Rattle.rules.specs.Sound.{Sound}
+use Rattle.rules.specs.Split.{atFirst, refine}
+use Rattle.rules.specs.Step.{wholeStep}
+use Rattle.rules.specs.Tables.{Mesh, boundary, link, generation}
+
+-- ---- load
+
+pub load-makes : (bytes : List ℕ) (m : Mesh) → loadCall bytes m .refusal ≡ 0
+    → (loadCall bytes m ≡ worked (atFirst (loaded (cageOf bytes) m)))
+    × Loaded (cageOf bytes) m (loaded (cageOf bytes) m)
+unfolding loaded
+load-makes bytes m z =
+    let c : Cage = cageOf bytes in
+    let x = judged-carried (load-judged bytes m) z in
+    let L = load-found bytes m (x .0) in
+    let A = L .agree in
+    let v = L .sizes .vertexRoom in
+    let f = L .sizes .triangleRoom in
+    let R = loaded-loads c m A v f in
+    let P = loaded-past c m in (
+      x .1,
+      record {
+        sound = load-sound bytes m A (L .sizes) (L .corners) (L .coordinates) (L .differ) (L .fans);
+        vertices = R .vertices;
+        triangles = R .triangles;
+        corners = R .corners;
+        positions = R .positions;
+        generations = R .generations;
+        links = links-are c m A v f (L .differ);
+        edges = load-edges c m A v f (L .corners) (L .differ);
+        past = record {
+          cornerSlots = R .cornerRoom;
+          linkSlots = R .linkRoom;
+          generationSlots = R .generationRoom;
+          positionSlots = R .positionRoom;
+          corners = P .corners;
+          links = P .links;
+          generations = P .generations;
+          positions = loaded-positions-past c m;
+        };
+      },
+    )
+
+-- ---- refine
+
+pub refine-makes : (t : ℕ) (m : Mesh) → refineCall t m .refusal ≡ 0
+    → (refineCall t m ≡ worked (refine t (atFirst m))) × RefineMakes t m (refine t (atFirst m))
+refine-makes t m z =
+    let x = judged-carried (refine-judged t m) z in
+    let F = refine-found t m (x .0) in
+    let R = found-refined F in
+    let s = R .splits in
+    let P = R .past in (
+      x .1,
+      record {
+        sound = R .sound;
+        reports = found-refines t m F;
+        vertices = omega (arith, R .vertices);
+        edges = omega (arith, R .edges);
+        rises = R .rises;
+        needed = s;
+        flips = omega (arith, R .odd);
+        oddByOne = R .oddByOne;
+        still = R .still;
+        oldVertices = R .places .old;
+        past = record {
+          cornerSlots = R .cornerRoom;
+          linkSlots = R .linkRoom;
+          generationSlots = R .generationRoom;
+          positionSlots = R .places .size;
+          corners = P .corners;
+          links = P .links;
+          generations = P .generations;
+          positions = R .places .past (refine t (atFirst m) .mesh .topology .vertices) (omega arith);
+        };
+      },
+    )
+
+-- The chain's count is that of its odd triangles.
+pub chain-falls : (m : Mesh) → Sound m → (t : ℕ) → t < m .topology .triangles → generation (m .topology) t % 2 ≡ 1
+    → link (m .topology) (3 * t) ≢ boundary → ChainFalls (m .topology) t
+chain-falls m S t l o n =
+    let f = falls (m .topology) (sound-manifold S) (sound-bases S) t l o n in
+    record { inUse = f .0; toOdd = λ q. omega (arith, f .1); toEven = λ q. omega (arith, f .1) }
+
+pub refine-is-split : (t n : ℕ) (m : Mesh) → refineCall t m .refusal ≡ 0 → generation (m .topology) t < n
+    → refine t (atFirst m) ≡ kobbelt n t (atFirst m)
+refine-is-split t n m z i =
+    let F = refine-found t m (judged-carried (refine-judged t m) z .0) in
+    refine-is-kobbelt t n m (F .sound) (F .inUse) (F .evenEnd) (F .room) i
+
+-- ---- whole step
+
+pub whole-step-makes : (m : Mesh) → wholeStepCall m .refusal ≡ 0
+    → (wholeStepCall m ≡ worked (wholeStep m)) × StepMakes (generation (m .topology) 0) m (wholeStep m)
+whole-step-makes m z =
+    let x = judged-carried (whole-step-judged m) z in
+    let F = step-found m (x .0) in (
+      x .1,
+      subst (λ (g : ℕ). StepMakes g m (wholeStep m)) (sym (F .closed .all 0 (F .sound .someTriangle)))
+          (found-step F),
+    )
+
+-- ---- queries
+
+pub ring-reads : (v : ℕ) (buffer : List ℕ) (m : Mesh) → ringCall v buffer m .refusal ≡ 0
+    → ringCall v buffer m ≡ ringRead v buffer m
+ring-reads v buffer m z = judged-carried (ring-judged v buffer m) z .1
+
+pub position-reads : (v : ℕ) (m : Mesh) → positionCall v m .refusal ≡ 0 → positionCall v m ≡ positionRead v m
+position-reads v m z = judged-carried (position-judged v m) z .1
+
+-- ---- numbers
+
+pub half-up-nearest : (n : ℤ) {d : ℕ} → 0 < d → Nearest n d (halfUp n d)
+half-up-nearest n p = let F = half-up n p in record { low = F .low; high = F .high }
+
+pub half-up-alone : (n q : ℤ) (d : ℕ) → Nearest n d q → q ≡ halfUp n d
+half-up-alone n q d N = half-up-only n q d (record { low = N .low; high = N .high })

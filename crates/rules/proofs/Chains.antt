@@ -1,0 +1,9 @@
+-- The base chain falls and its count is exact; refine raises its triangle, and is Kobbelt's procedure.
+pub mod Runs
+pub mod Chain
+pub mod ChainEnd
+pub mod Remembered
+pub mod Raise
+pub mod Refine
+pub mod RefineLoop
+pub mod Kobbelt

@@ -1,0 +1,5 @@
+-- Sides and links: what holds of tables in which every link has its partner, and of slots past the counts.
+pub mod Sides
+pub mod Manifold
+pub mod Past
+pub mod Renaming

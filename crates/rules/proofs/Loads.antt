@@ -1,0 +1,6 @@
+-- A cage that passes its tests is loaded as sound tables, whose edges are the pairs of vertices of the cage.
+pub mod CageTests
+pub mod Load
+pub mod LoadTests
+pub mod Alike
+pub mod CageEdges

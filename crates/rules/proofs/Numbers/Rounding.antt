@@ -1,0 +1,165 @@
+-- What the rounding rules give: the only number of its kind, between the numbers that it is made of.
+use Prim.Native.Nat.{ℕ, zero, suc, _+_, _-_, _*_, _≤_, _<_, max}
+use native.Mathlib.Omega.{arith}
+use native.Mathlib.Nat.{div-mul-le-self, lt-div-mul-add, lt-of-mul-lt-mul-left, mul-le-mul-left, le-trans}
+use mathlib.Core.Path.{_≡_, _∙_, sym, ap}
+use mathlib.Core.List.{List, [], _∷_}
+use lib.Dec.{lit<, lit≤}
+use lib.IntN.{ℤ, pos, negsuc, negℤ, natAbs, _+ℤ_, _-ℤ_, _*ℤ_}
+use lib.ListN.{getD}
+use lib.Signed.{_≤ℤ_, _<ℤ_, ≤ℤ-refl}
+use Rattle.rules.specs.Numbers.{InRange, maxCoordinate, floorDiv, nearestThird, halfUp, weights, weight, moved}
+use Rattle.rules.proofs.Numbers.Differences.{above, below, its, nat, add, sub, scale, equal}
+use Rattle.rules.proofs.Numbers.Differences.{at-most, ordered, at-most-gives, less, less-gives, near, near-gives}
+
+-- q is z / m, rounded down: floorDiv z m is, and nothing else.
+pub record Floor (z : ℤ) (m : ℕ) (q : ℤ) : Type 0 where
+  pub low : (pos m *ℤ q) ≤ℤ z
+  pub high : z <ℤ (pos m *ℤ q +ℤ pos m)
+
+floor-by : (z : ℤ) (m : ℕ) → 0 < m →
+    let q = floorDiv z m in
+    (m * above q + below z ≤ above z + m * below q) × (above z + m * below q < m * above q + m + below z)
+unfolding floorDiv above below
+floor-by (pos a) m h = omega (arith, div-mul-le-self a m, lt-div-mul-add {a = a} h)
+floor-by (negsuc a) m h = omega (arith, div-mul-le-self a m, lt-div-mul-add {a = a} h)
+
+pub floor : (z : ℤ) {m : ℕ} → 0 < m → Floor z m (floorDiv z m)
+floor z {m} h =
+    let q = scale m (its (floorDiv z m)) in
+    let b = floor-by z m h in
+    record { low = at-most q (its z) (omega arith); high = less (its z) (add q (nat m)) (omega arith) }
+
+floor-mono : {y z q r : ℤ} {m : ℕ} → Floor y m q → Floor z m r → y ≤ℤ z → q ≤ℤ r
+floor-mono {y} {z} {q} {r} {m} f g h =
+    let l = at-most-gives (scale m (its q)) (its y) (f .low) in
+    let k = less-gives (its z) (add (scale m (its r)) (nat m)) (g .high) in
+    let times-m : m * (above q + below r) < m * (above r + below q + 1) = omega (arith, ordered h) in
+    at-most (its q) (its r) (omega (arith, lt-of-mul-lt-mul-left m times-m))
+
+pub floor-only : {z q : ℤ} {m : ℕ} → Floor z m q → q ≡ floorDiv z m
+floor-only {z} {q} {m} f =
+    let l = at-most-gives (scale m (its q)) (its z) (f .low) in
+    let h = less-gives (its z) (add (scale m (its q)) (nat m)) (f .high) in
+    let g = floor z {m = m} (omega arith) in
+    let below-it = ordered (floor-mono f g (≤ℤ-refl z)) in
+    let above-it = ordered (floor-mono g f (≤ℤ-refl z)) in
+    equal (its q) (its (floorDiv z m)) (omega arith)
+
+-- Three times the nearest third of s differs from s by at most 1, and no other number's triple does.
+pub nearest-third : (s : ℤ) → natAbs (pos 3 *ℤ nearestThird s -ℤ s) ≤ 1
+unfolding nearestThird
+nearest-third s =
+    let q = its (nearestThird s) in
+    let f = floor (s +ℤ pos 1) {m = 3} (lit< tt) in
+    let l = at-most-gives (scale 3 q) (add (its s) (nat 1)) (f .low) in
+    let h = less-gives (add (its s) (nat 1)) (add (scale 3 q) (nat 3)) (f .high) in
+    near (sub (scale 3 q) (its s)) (omega arith) (omega arith)
+
+pub nearest-third-only : (s q : ℤ) → natAbs (pos 3 *ℤ q -ℤ s) ≤ 1 → q ≡ nearestThird s
+unfolding nearestThird
+nearest-third-only s q h =
+    let n = near-gives (sub (scale 3 (its q)) (its s)) h in floor-only (record {
+      low = at-most (scale 3 (its q)) (add (its s) (nat 1)) (omega arith);
+      high = less (add (its s) (nat 1)) (add (scale 3 (its q)) (nat 3)) (omega arith);
+    })
+
+-- q is halfUp n d exactly where 2 d q ≤ 2 n + d < 2 d q + 2 d: n / d is at least q - 1/2 and below q + 1/2.
+pub half-up : (n : ℤ) {d : ℕ} → 0 < d → Floor (pos 2 *ℤ n +ℤ pos d) (2 * d) (halfUp n d)
+unfolding halfUp
+half-up n h = floor _ (omega arith)
+
+pub half-up-only : (n q : ℤ) (d : ℕ) → Floor (pos 2 *ℤ n +ℤ pos d) (2 * d) q → q ≡ halfUp n d
+unfolding halfUp
+half-up-only n q d f = floor-only f
+
+half-mono : {y z : ℤ} {d : ℕ} → 0 < d → y ≤ℤ z → halfUp y d ≤ℤ halfUp z d
+half-mono {y} {z} {d} h k =
+    floor-mono (half-up y h) (half-up z h)
+    (at-most (add (scale 2 (its y)) (nat d)) (add (scale 2 (its z)) (nat d)) (omega (arith, ordered k)))
+
+-- A nearest third lies between the three numbers of its sum: it grows with them, and is theirs where they are equal.
+third-mono : {x y z u v w : ℤ} → x ≤ℤ u → y ≤ℤ v → z ≤ℤ w → nearestThird (x +ℤ y +ℤ z) ≤ℤ nearestThird (u +ℤ v +ℤ w)
+unfolding nearestThird
+third-mono {x} {y} {z} {u} {v} {w} hx hy hz =
+    floor-mono (floor (x +ℤ y +ℤ z +ℤ pos 1) {m = 3} (lit< tt)) (floor (u +ℤ v +ℤ w +ℤ pos 1) (lit< tt))
+    (at-most (add (add (add (its x) (its y)) (its z)) (nat 1)) (add (add (add (its u) (its v)) (its w)) (nat 1))
+    (omega (arith, ordered hx, ordered hy, ordered hz)))
+
+third-same : (b : ℤ) → nearestThird (b +ℤ b +ℤ b) ≡ b
+third-same b =
+    let d = sub (scale 3 (its b)) (add (add (its b) (its b)) (its b)) in
+    sym (nearest-third-only _ b (near d (omega arith) (omega arith)))
+
+pub third-at-least : {lo x y z : ℤ} → lo ≤ℤ x → lo ≤ℤ y → lo ≤ℤ z → lo ≤ℤ nearestThird (x +ℤ y +ℤ z)
+third-at-least {lo} h k l = rw (third-same lo) at (third-mono h k l)
+
+pub third-at-most : {hi x y z : ℤ} → x ≤ℤ hi → y ≤ℤ hi → z ≤ℤ hi → nearestThird (x +ℤ y +ℤ z) ≤ℤ hi
+third-at-most {hi} h k l = rw (third-same hi) at (third-mono h k l)
+
+pub third-in-range : {x y z : ℤ} → InRange x → InRange y → InRange z → InRange (nearestThird (x +ℤ y +ℤ z))
+third-in-range h k l = record {
+  low = third-at-least (h .low) (k .low) (l .low);
+  high = third-at-most (h .high) (k .high) (l .high);
+}
+
+-- No weight is above 65536, by one computed test of the table.
+greatest : List ℕ → ℕ
+greatest [] = 0
+greatest (x ∷ xs) = max x (greatest xs)
+
+entry-at-most : (xs : List ℕ) (i : ℕ) → getD xs i 0 ≤ greatest xs
+unfolding greatest
+entry-at-most [] i = omega arith
+entry-at-most (x ∷ xs) zero = omega arith
+entry-at-most (x ∷ xs) (suc i) = omega (arith, entry-at-most xs i)
+
+pub weight-at-most : (n : ℕ) → weight n ≤ 65536
+unfolding weight weights greatest
+weight-at-most n = le-trans (entry-at-most weights n) (lit≤ tt)
+
+-- The move is a mean: of its 65536 n parts the vertex has n (65536 - w), and each of the n ring entries w.
+pub parts-of-mean : (n : ℕ) → n * (65536 - weight n) + weight n * n ≡ 65536 * n
+parts-of-mean n =
+    let e : 65536 - weight n + weight n ≡ 65536 = omega (arith, weight-at-most n) in
+    omega (arith, ap (λ t. n * t) e)
+
+pub moved-is : (n : ℕ) (p s : ℤ)
+    → moved n p s ≡ halfUp (pos (n * (65536 - weight n)) *ℤ p +ℤ pos (weight n) *ℤ s) (65536 * n)
+unfolding moved
+moved-is n p s =
+    let w = weight n in
+    let h = weight-at-most n in
+    let e : pos 65536 -ℤ pos w ≡ pos (65536 - w) = equal (sub (nat 65536) (nat w)) (nat _) (omega arith) in
+    rw e
+
+-- It lies between the vertex and its ring entries: it grows with them, and stays where they are all in one place.
+mean-mono : (a b : ℕ) {p q s t : ℤ} → p ≤ℤ q → s ≤ℤ t → (pos a *ℤ p +ℤ pos b *ℤ s) ≤ℤ (pos a *ℤ q +ℤ pos b *ℤ t)
+mean-mono a b {p} {q} {s} {t} h k =
+    at-most (add (scale a (its p)) (scale b (its s))) (add (scale a (its q)) (scale b (its t)))
+    (omega (arith, mul-le-mul-left a (ordered h), mul-le-mul-left b (ordered k)))
+
+moved-mono : {n : ℕ} {p q s t : ℤ} → 1 ≤ n → p ≤ℤ q → s ≤ℤ t → moved n p s ≤ℤ moved n q t
+moved-mono {n} {p} {q} {s} {t} h k l =
+    rw (moved-is n p s, moved-is n q t) (half-mono (omega arith) (mean-mono _ _ k l))
+
+moved-same : {n : ℕ} (b : ℤ) → 1 ≤ n → moved n b (pos n *ℤ b) ≡ b
+moved-same {n} b h =
+    let d = 65536 * n in
+    let m = add (scale 2 (add (scale (n * (65536 - weight n)) (its b)) (scale (weight n) (scale n (its b))))) (nat d) in
+    let e = ap (λ t. t * above b) (parts-of-mean n) in
+    let f = ap (λ t. t * below b) (parts-of-mean n) in
+    moved-is n b (pos n *ℤ b) ∙ sym (half-up-only _ b d (record {
+      low = at-most (scale (2 * d) (its b)) m (omega arith);
+      high = less m (add (scale (2 * d) (its b)) (nat (2 * d))) (omega arith);
+    }))
+
+pub moved-at-least : {n : ℕ} {lo p s : ℤ} → 1 ≤ n → lo ≤ℤ p → (pos n *ℤ lo) ≤ℤ s → lo ≤ℤ moved n p s
+moved-at-least {lo = lo} h k l = rw (moved-same lo h) at (moved-mono h k l)
+
+pub moved-at-most : {n : ℕ} {hi p s : ℤ} → 1 ≤ n → p ≤ℤ hi → s ≤ℤ (pos n *ℤ hi) → moved n p s ≤ℤ hi
+moved-at-most {hi = hi} h k l = rw (moved-same hi h) at (moved-mono h k l)
+
+pub moved-in-range : {n : ℕ} {p s : ℤ}
+    → 1 ≤ n → InRange p → negℤ (pos (n * maxCoordinate)) ≤ℤ s → s ≤ℤ pos (n * maxCoordinate) → InRange (moved n p s)
+moved-in-range h r k l = record { low = moved-at-least h (r .low) k; high = moved-at-most h (r .high) l }

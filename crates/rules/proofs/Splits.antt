@@ -1,0 +1,13 @@
+-- A split and its flips keep links, levels and fans, and what they count and leave alone.
+pub mod SplitRead
+pub mod SplitKeeps
+pub mod FlipRead
+pub mod FlipKeeps
+pub mod Bases
+pub mod Edges
+pub mod Settling
+pub mod Settled
+pub mod Cut
+pub mod Places
+pub mod Odds
+pub mod FaceSplit

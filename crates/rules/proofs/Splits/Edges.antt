@@ -1,0 +1,244 @@
+-- Edges and boundary sides, counted.
+use mathlib.Core.Path.{_≡_, refl, sym, ap, _∙_}
+use mathlib.Core.Logic.{_≢_, inl, inr}
+use mathlib.Core.Bool.{Bool, _&&_}
+use Prim.Native.Nat.{ℕ, _+_, _*_, _/_, _<_}
+use native.Mathlib.Omega.{arith}
+use native.Mathlib.Decide.{decLt}
+use lib.Dec.{eqb, ltb}
+use Rattle.rules.proofs.Splits.Bases.{Settling, kept, flipped}
+use Rattle.rules.proofs.Numbers.Decide.{Decides, is-eq, is-lt, is-iff, is-same, bit-yes, bit-no, is-and}
+use Rattle.rules.proofs.Splits.FlipKeeps.{BasesMeet, meet-back}
+use Rattle.rules.proofs.Splits.FlipRead.{Flips, flipName}
+use Rattle.rules.proofs.Links.Manifold.{Manifold, Joined, few, partnered-with, no-self}
+use Rattle.rules.proofs.Links.Sides.{renameTwo, by-rename}
+use Rattle.rules.proofs.Splits.SplitRead.{Splits, splitName}
+use Rattle.rules.proofs.Numbers.Sums.{total-same, total-change, total-zero, total-add, total-swap, total-one}
+use Rattle.rules.proofs.Numbers.Sums.{total-const, total-change₂, row, row-same, total-rows, total-two}
+use Rattle.rules.proofs.Numbers.Sums.{zero-each}
+use Rattle.rules.specs.Below.{total, bit, count}
+use Rattle.rules.specs.History.{edges}
+use Rattle.rules.specs.Tables.{Topology, sides, boundary, link}
+
+unfoldable pub boundarySides : Topology → ℕ
+boundarySides m = count (sides m) (λ h. eqb (link m h) boundary)
+
+-- ---- twice the edges
+
+module _ (m : Topology) (F : Manifold m) where
+  -- Side h leads up to its partner j.
+  upTo : ℕ → ℕ → Bool
+  upTo h j = eqb (link m h) j && ltb h j
+
+  up-to-is : (h j : ℕ) → Decides (upTo h j) ((link m h ≡ j) × (h < j))
+  unfolding upTo
+  up-to-is h j = is-and (is-eq (link m h) j) (is-lt h j)
+
+  up : ℕ → ℕ
+  up h = count (sides m) (upTo h)
+
+  down : ℕ → ℕ
+  down j = count (sides m) (λ h. upTo h j)
+
+  up-is : (h : ℕ) → h < sides m → bit (ltb h (link m h)) ≡ bit (eqb (link m h) boundary) + up h
+  unfolding up
+  up-is h l = go (F .linked h l)
+    where
+      go : Joined m h → bit (ltb h (link m h)) ≡ bit (eqb (link m h) boundary) + count (sides m) (upTo h)
+      go (inl e) =
+          let w = few m F in
+          let a = total-zero (sides m) (λ j. bit (upTo h j)) (λ j k. bit-no (up-to-is h j) (λ q. omega arith)) in
+          let b = bit-yes (is-lt h (link m h)) (omega arith) in
+          let c = bit-yes (is-eq (link m h) boundary) e in
+          omega arith
+      go (inr M) =
+          let w = few m F in
+          let i : link m h < sides m = M .inUse in
+          let a : count (sides m) (upTo h) ≡ bit (upTo h (link m h)) =
+          total-one (sides m) (link m h) (λ j. bit (upTo h j)) i
+          (λ j k n. bit-no (up-to-is h j) (λ q. n (sym (q .0)))) in
+          let b : bit (upTo h (link m h)) ≡ bit (ltb h (link m h)) =
+          ap bit (is-same (up-to-is h (link m h)) (is-iff (λ x. (refl, x)) (λ x. x .1) (is-lt h (link m h)))) in
+          let c = bit-no (is-eq (link m h) boundary) (omega arith) in
+          omega arith
+
+  down-is : (j : ℕ) → j < sides m → bit (ltb (link m j) j) ≡ down j
+  unfolding down
+  down-is j l = go (F .linked j l)
+    where
+      back : (h : ℕ) → h < sides m → link m h ≡ j → link m j ≡ h
+      back h i e = rw e at (partnered-with F i e l .back)
+
+      go : Joined m j → bit (ltb (link m j) j) ≡ count (sides m) (λ h. upTo h j)
+      go (inl e) =
+          let w = few m F in
+          bit-no (is-lt (link m j) j) (λ q. omega arith)
+          ∙ sym (total-zero (sides m) (λ h. bit (upTo h j))
+          (λ h k. bit-no (up-to-is h j) (λ q. let z = back h k (q .0) in omega arith)))
+      go (inr M) =
+          let a : count (sides m) (λ h. upTo h j) ≡ bit (upTo (link m j) j) =
+          total-one (sides m) (link m j) (λ h. bit (upTo h j)) (M .inUse)
+          (λ h k n. bit-no (up-to-is h j) (λ q. n (sym (back h k (q .0))))) in
+          sym (a ∙ ap bit (is-same (up-to-is (link m j) j)
+          (is-iff (λ x. (M .back, x)) (λ x. x .1) (is-lt (link m j) j))))
+
+  one-way : (h : ℕ) → h < sides m → bit (ltb h (link m h)) + bit (ltb (link m h) h) ≡ 1
+  one-way h l = go (decLt h (link m h))
+    where
+      differ : Joined m h → link m h ≢ h
+      differ (inl e) q = let w = few m F in omega arith
+      differ (inr M) q = no-self m h F l M (ap (λ (x : ℕ). x / 3) q)
+
+      go : Dec (h < link m h) → bit (ltb h (link m h)) + bit (ltb (link m h) h) ≡ 1
+      go (yes q) =
+          let a = bit-yes (is-lt h (link m h)) q in
+          let b = bit-no (is-lt (link m h) h) (λ r. omega arith) in
+          omega arith
+      go (no q) =
+          let n = differ (F .linked h l) in
+          let a = bit-no (is-lt h (link m h)) q in
+          let b = bit-yes (is-lt (link m h) h) (omega arith) in
+          omega arith
+
+  -- A linked pair has two sides and a boundary side one.
+  pub edges-boundary : 2 * edges m ≡ 3 * m .triangles + boundarySides m
+  unfolding edges boundarySides up down
+  edges-boundary =
+      let n : ℕ = 3 * m .triangles in
+      let e : total n (λ h. bit (ltb h (link m h))) ≡ total n (λ h. bit (eqb (link m h) boundary) + up h) =
+      total-same n _ _ up-is in
+      let a = total-add n (λ h. bit (eqb (link m h) boundary)) up in
+      let d : total n (λ h. bit (ltb (link m h) h)) ≡ total n down = total-same n _ _ down-is in
+      let s : total n up ≡ total n down = total-swap n n (λ h j. bit (upTo h j)) in
+      let o : total n (λ h. bit (ltb h (link m h)) + bit (ltb (link m h) h)) ≡ total n (λ h. 1) =
+      total-same n _ _ one-way in
+      let p = total-add n (λ h. bit (ltb h (link m h))) (λ h. bit (ltb (link m h) h)) in
+      let c = total-const n 1 in
+      omega arith
+
+-- ---- the boundary sides stay as many
+
+-- 1 for a side on the boundary.
+boundaryBit : Topology → ℕ → ℕ
+boundaryBit m h = bit (eqb (link m h) boundary)
+
+boundary-rows : (m : Topology) → boundarySides m ≡ total (m .triangles) (row (boundaryBit m))
+unfolding boundarySides boundaryBit
+boundary-rows m = total-rows (m .triangles) (boundaryBit m)
+
+boundary-bit : (m : Topology) (h k : ℕ) → link m h ≡ k → boundaryBit m h ≡ bit (eqb k boundary)
+unfolding boundaryBit
+boundary-bit m h k e = ap (λ (x : ℕ). bit (eqb x boundary)) e
+
+same-bit : (m n : Topology) (h k : ℕ) → link n h ≡ link m k → boundaryBit n h ≡ boundaryBit m k
+unfolding boundaryBit
+same-bit m n h k e = ap (λ (x : ℕ). bit (eqb x boundary)) e
+
+linked-bit : (m : Topology) (h k : ℕ) → link m h ≡ k → k ≢ boundary → boundaryBit m h ≡ 0
+linked-bit m h k e n = boundary-bit m h k e ∙ bit-no (is-eq k boundary) n
+
+rename-boundary : (a a′ b b′ k : ℕ) → a ≢ b → a ≢ boundary → a′ ≢ boundary → b ≢ boundary → b′ ≢ boundary
+    → bit (eqb (renameTwo a a′ b b′ k) boundary) ≡ bit (eqb k boundary)
+rename-boundary a a′ b b′ k ne x x′ y y′ =
+    by-rename a a′ b b′ (λ z. bit (eqb z boundary) ≡ bit (eqb k boundary)) ne k
+    (λ e. bit-no (is-eq a′ boundary) x′ ∙ sym (bit-no (is-eq k boundary) (λ q. x (sym e ∙ q))))
+    (λ e. bit-no (is-eq b′ boundary) y′ ∙ sym (bit-no (is-eq k boundary) (λ q. y (sym e ∙ q))))
+    (λ _ _. refl)
+
+pub split-boundary : (t : ℕ) (m n : Topology) → Manifold m → t < m .triangles → Splits t m n
+    → boundarySides n ≡ boundarySides m
+split-boundary t m n F b S =
+    let f : ℕ = m .triangles in
+    let e : ℕ = f + 1 in
+    let q : 3 * f < boundary = few m F in
+    let q′ : 3 * e + 2 < boundary = omega (arith, F .slots, F .generationRoom) in
+    let t₁ = linked-bit n (3 * t + 1) (3 * f + 2) (S .linksT .1) (omega arith) in
+    let t₂ = linked-bit n (3 * t + 2) (3 * e + 1) (S .linksT .2) (omega arith) in
+    let f₁ = linked-bit n (3 * f + 1) (3 * e + 2) (S .linksF .1) (omega arith) in
+    let f₂ = linked-bit n (3 * f + 2) (3 * t + 1) (S .linksF .2) (omega arith) in
+    let e₁ = linked-bit n (3 * e + 1) (3 * t + 2) (S .linksE .1) (omega arith) in
+    let e₂ = linked-bit n (3 * e + 2) (3 * f + 1) (S .linksE .2) (omega arith) in
+    let t₀ : boundaryBit n (3 * t) ≡ boundaryBit m (3 * t) = same-bit m n (3 * t) (3 * t) (S .linksT .0) in
+    let f₀ : boundaryBit n (3 * f) ≡ boundaryBit m (3 * t + 1) = same-bit m n (3 * f) (3 * t + 1) (S .linksF .0) in
+    let e₀ : boundaryBit n (3 * e) ≡ boundaryBit m (3 * t + 2) = same-bit m n (3 * e) (3 * t + 2) (S .linksE .0) in
+    let c : total f (row (boundaryBit n)) + row (boundaryBit m) t
+    ≡ total f (row (boundaryBit m)) + row (boundaryBit n) t =
+    total-change f t (row (boundaryBit m)) (row (boundaryBit n)) b (λ x l i. far x l i) in
+    let d : total (n .triangles) (row (boundaryBit n))
+    ≡ total f (row (boundaryBit n)) + row (boundaryBit n) f + row (boundaryBit n) e =
+    ap (λ (x : ℕ). total x (row (boundaryBit n))) (S .triangles) ∙ total-two f (row (boundaryBit n)) in
+    boundary-rows n ∙ omega (arith, boundary-rows m)
+  where
+    one : (h : ℕ) → h < sides m → h / 3 ≢ t → boundaryBit m h ≡ boundaryBit n h
+    one h l i =
+        let q : 3 * m .triangles < boundary = few m F in
+        let q′ : 3 * (m .triangles + 1) < boundary = omega (arith, F .slots, F .generationRoom) in
+        boundary-bit m h (link m h) refl
+        ∙ sym (boundary-bit n h (splitName t (m .triangles) (link m h))
+        (S .links h l i)
+        ∙ rename-boundary (3 * t + 1) (3 * m .triangles) (3 * t + 2) (3 * (m .triangles + 1)) (link m h)
+        (omega arith) (omega arith) (omega arith) (omega arith) (omega arith))
+
+    far : (x : ℕ) → x < m .triangles → x ≢ t → row (boundaryBit m) x ≡ row (boundaryBit n) x
+    far x l i =
+        row-same (boundaryBit m) (boundaryBit n) x (one (3 * x) (omega arith) (omega arith))
+        (one (3 * x + 1) (omega arith) (omega arith)) (one (3 * x + 2) (omega arith) (omega arith))
+
+pub flip-boundary : (s u : ℕ) (m n : Topology) → Manifold m → BasesMeet s u m → Flips s u m n
+    → boundarySides n ≡ boundarySides m
+flip-boundary s u m n F B S =
+    let f : ℕ = m .triangles in
+    let bs = B .useS in
+    let bu = B .useU in
+    let q : 3 * f < boundary = few m F in
+    let s₀ : boundaryBit n (3 * s) ≡ boundaryBit m (3 * u + 1) = same-bit m n (3 * s) (3 * u + 1) (S .linksS .0) in
+    let s₁ = linked-bit n (3 * s + 1) (3 * u + 1) (S .linksS .1) (omega arith) in
+    let s₂ : boundaryBit n (3 * s + 2) ≡ boundaryBit m (3 * s + 2) =
+    same-bit m n (3 * s + 2) (3 * s + 2) (S .linksS .2) in
+    let u₀ : boundaryBit n (3 * u) ≡ boundaryBit m (3 * s + 1) = same-bit m n (3 * u) (3 * s + 1) (S .linksU .0) in
+    let u₁ = linked-bit n (3 * u + 1) (3 * s + 1) (S .linksU .1) (omega arith) in
+    let u₂ : boundaryBit n (3 * u + 2) ≡ boundaryBit m (3 * u + 2) =
+    same-bit m n (3 * u + 2) (3 * u + 2) (S .linksU .2) in
+    let a₀ = linked-bit m (3 * s) (3 * u) (B .meet) (omega arith) in
+    let b₀ = linked-bit m (3 * u) (3 * s) (meet-back s u m n F B S) (omega arith) in
+    let c : total f (row (boundaryBit n)) + row (boundaryBit m) s + row (boundaryBit m) u
+    ≡ total f (row (boundaryBit m)) + row (boundaryBit n) s + row (boundaryBit n) u =
+    total-change₂ f s u (row (boundaryBit m)) (row (boundaryBit n)) bs bu (B .differ) (λ x l i j. far x l i j) in
+    let d : total (n .triangles) (row (boundaryBit n)) ≡ total f (row (boundaryBit n)) =
+    ap (λ (x : ℕ). total x (row (boundaryBit n))) (S .triangles) in
+    boundary-rows n ∙ omega (arith, boundary-rows m)
+  where
+    one : (h : ℕ) → h < sides m → h / 3 ≢ s → h / 3 ≢ u → boundaryBit m h ≡ boundaryBit n h
+    one h l i j =
+        let q : 3 * m .triangles < boundary = few m F in
+        let bs = B .useS in
+        let bu = B .useU in
+        let ne = B .differ in
+        boundary-bit m h (link m h) refl
+        ∙ sym (boundary-bit n h (flipName s u (link m h)) (S .links h l i j)
+        ∙ rename-boundary (3 * s + 1) (3 * u) (3 * u + 1) (3 * s) (link m h) (omega arith) (omega arith)
+        (omega arith) (omega arith) (omega arith))
+
+    far : (x : ℕ) → x < m .triangles → x ≢ s → x ≢ u → row (boundaryBit m) x ≡ row (boundaryBit n) x
+    far x l i j =
+        row-same (boundaryBit m) (boundaryBit n) x (one (3 * x) (omega arith) (omega arith) (omega arith))
+        (one (3 * x + 1) (omega arith) (omega arith) (omega arith))
+        (one (3 * x + 2) (omega arith) (omega arith) (omega arith))
+
+pub settling-boundary : (c : ℕ) (m n : Topology) → Manifold m → Settling c m n → boundarySides n ≡ boundarySides m
+settling-boundary c m n F (kept x) = refl
+settling-boundary c m n F (flipped u B S) = flip-boundary c u m n F B S
+
+-- No boundary side, and none counted.
+pub no-boundary : (m : Topology) → boundarySides m ≡ 0 → (h : ℕ) → h < sides m → link m h ≢ boundary
+unfolding boundarySides
+no-boundary m e h l q =
+    let a = zero-each (3 * m .triangles) (λ h. bit (eqb (link m h) boundary)) e h l in
+    let b = bit-yes (is-eq (link m h) boundary) q in
+    omega arith
+
+pub boundary-none : (m : Topology) → ((h : ℕ) → h < sides m → link m h ≢ boundary) → boundarySides m ≡ 0
+unfolding boundarySides
+boundary-none m n =
+    total-zero (3 * m .triangles) (λ h. bit (eqb (link m h) boundary))
+    (λ h l. bit-no (is-eq (link m h) boundary) (n h l))
