@@ -12,4 +12,4 @@ Refuses bytes r = (m : Mesh) → TablesAgree m → SizesFit bytes m → r ≡ lo
 
 -- A load of the bytes into m answers r and leaves n.
 abbrev pub Answers : List ℕ → Mesh → ℕ → Mesh → Type 0
-Answers bytes m r n = (r ≡ loadCall bytes m .refusal) × (n ≡ loadCall bytes m .mesh)
+Answers bytes m r n = (r ≡ loadCall bytes m .answer .refusal) × (n ≡ loadCall bytes m .mesh)

@@ -306,7 +306,7 @@ pub fn load(
     ensures { λ r. ⌜
         r .refusal ≡ loadCall (now (cage .entry))
         (meshOf (topologyOf vertices triangles (now (corners .entry)) (now (links .entry)) (now (generations .entry)))
-        (now (positions .entry))) .refusal ⌝ }
+        (now (positions .entry))) .answer .refusal ⌝ }
     ensures { λ r. ⌜
         meshOf
         (topologyOf (r .vertices) (r .triangles) (now (corners .exit)) (now (links .exit)) (now (generations .exit)))

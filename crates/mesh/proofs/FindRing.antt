@@ -9,7 +9,7 @@ use lib.ListN.{length, getD}
 use Rattle.rules.proofs.Numbers.Decide.{when-true}
 use Rattle.rules.proofs.Rings.Fans.{first-in-use}
 use Rattle.rules.proofs.Soundness.SoundTest.{sound-is}
-use Rattle.rules.specs.Calls.{outcomeOf, zeroPoint, ringRefusal, ringRead}
+use Rattle.rules.specs.Calls.{answerOf, ringRoom, outcomeOf, zeroPoint, ringRefusal, ringRead}
 use Rattle.rules.specs.Below.{fill}
 use Rattle.rules.specs.Ring.{firstSide, ring}
 use Rattle.rules.specs.Sound.{OneFan, Sound, isSound}
@@ -17,7 +17,7 @@ use Rattle.rules.specs.Tables.{Topology, Mesh, tablesAgree, sides}
 use Rattle.rings.proofs.Walk.{ring-from}
 use Rattle.rings.specs.Rings.{ringFrom, Walkable}
 use Rattle.soundness.specs.Walks.{startIf}
-use Rattle.mesh.specs.Answers.{Found, FoundFor}
+use Rattle.mesh.specs.Answers.{noRing, Found, FoundFor}
 use Rattle.mesh.specs.declared.FoundRing.{FoundRing}
 use Rattle.mesh.proofs.Refusing.{ring-one, ring-seven, ring-eight, ring-fourteen, ring-none}
 
@@ -25,14 +25,11 @@ module _ (v room : ℕ) (m : Mesh) where
   abbrev t : Topology
   t = m .topology
 
-  abbrev refused : ℕ → FoundRing
-  refused n = record { refusal = n; first = 0; length = 0 }
-
   refuses : (n : ℕ) → n ≢ 0 → ((buffer : List ℕ) → length buffer ≡ room → n ≡ ringRefusal v buffer m)
-      → FoundFor v room m (refused n)
+      → FoundFor v room m (noRing n)
   refuses n x f = record { refused = f; found = λ z. absurd (x z) }
 
-  pub finds-one : tablesAgree m ≡ false → FoundFor v room m (refused 1)
+  pub finds-one : tablesAgree m ≡ false → FoundFor v room m (noRing 1)
   finds-one a = refuses 1 (λ z. omega arith) (λ b _. ring-one v b m a)
 
   module _ (a : tablesAgree m ≡ true) (start : ℕ) (s : start ≡ startIf (isSound m) t v) where
@@ -40,7 +37,7 @@ module _ (v room : ℕ) (m : Mesh) where
     untold true e z = absurd (omega arith)
     untold false e z = refl
 
-    pub finds-seven : start ≡ 0 → FoundFor v room m (refused 7)
+    pub finds-seven : start ≡ 0 → FoundFor v room m (noRing 7)
     finds-seven z = refuses 7 (λ z. omega arith) (λ b _. ring-seven v b m a (untold (isSound m) s z))
 
     module _ (some : start ≢ 0) where
@@ -54,7 +51,7 @@ module _ (v room : ℕ) (m : Mesh) where
       first : start - 1 ≡ firstSide t v
       first = let e = told (isSound m) s .1 in omega arith
 
-      pub finds-eight : t .vertices ≤ v → FoundFor v room m (refused 8)
+      pub finds-eight : t .vertices ≤ v → FoundFor v room m (noRing 8)
       finds-eight l = refuses 8 (λ z. omega arith) (λ b _. ring-eight v b m a sound l)
 
       module _ (l : v < t .vertices) where
@@ -78,7 +75,7 @@ module _ (v room : ℕ) (m : Mesh) where
           entries : n ≡ length (ring t v)
           entries = e ∙ ap length (sym same)
 
-          pub finds-fourteen : room < n → FoundFor v room m (refused 14)
+          pub finds-fourteen : room < n → FoundFor v room m (noRing 14)
           finds-fourteen k =
               refuses 14 (λ z. omega arith) (λ b r. ring-fourteen v b m a sound l (omega (arith, entries)))
 
@@ -97,7 +94,7 @@ module _ (v room : ℕ) (m : Mesh) where
 -- The ring as it is written and reported, by the walk from its first side.
 pub written : (v : ℕ) (m : Mesh) (a : FoundRing) (before after : List ℕ) → Found v (length before) m a
     → after ≡ (let r = ringFrom (m .topology) (a .first) in fill (length r) (λ i. getD r i 0) before)
-    → outcomeOf 0 0 0 (a .length) zeroPoint m after ≡ ringRead v before m
+    → outcomeOf (answerOf 0 0 0 (a .length) zeroPoint m) m (ringRoom after) ≡ ringRead v before m
 written v m a before after F w =
     let e = F .same in
     rw (F .entries, w, sym e) refl

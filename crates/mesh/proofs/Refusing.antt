@@ -13,13 +13,15 @@ use Rattle.rules.proofs.Numbers.Decide.{Decides, stable}
 use Rattle.rules.proofs.Calls.FirstThatHolds.{refuses, carries, Judged, carried, refused, none-hold}
 use Rattle.rules.proofs.Soundness.SoundTest.{tables-agree-is, sound-is}
 use Rattle.rules.specs.Below.{any}
-use Rattle.rules.specs.Calls.{Test, _if_, firstOf, Outcome, outcomeOf, zeroPoint, splitsOf, roomFor, worked, loadCall}
+use Rattle.rules.specs.Calls.{Test, _if_, firstOf, Outcome, answerOf, noRoom, ringRoom, outcomeOf, zeroPoint}
+use Rattle.rules.specs.Calls.{refusedWith, splitsOf, roomFor, worked, loadCall}
 use Rattle.rules.specs.Calls.{refineRefusal, refineCall, closedEven, wholeStepRefusal, ringRefusal, ringRead, ringCall}
 use Rattle.rules.specs.Calls.{positionRefusal, positionRead, positionCall}
 use Rattle.rules.specs.Ring.{ring}
 use Rattle.rules.specs.Sound.{Sound, isSound}
 use Rattle.rules.specs.Split.{chainEnd, atFirst, refine}
 use Rattle.rules.specs.Tables.{Mesh, TablesAgree, tablesAgree, generation, odd}
+use Rattle.mesh.specs.Answers.{standing}
 
 -- Where one of the first two tests refuses, the later ones do not matter; where none does, they decide.
 two-kept : (a b : Bool) (rest : List Test) (r : ℕ) → r ≡ firstOf (1 if a ∷ 7 if b ∷ []) → r ≢ 0
@@ -33,10 +35,6 @@ two-passed : (a b : Bool) (rest : List Test) (r : ℕ) → r ≡ firstOf (1 if a
 two-passed true b rest r e z = absurd (omega arith)
 two-passed false true rest r e z = absurd (omega arith)
 two-passed false false rest r e z = refl
-
--- The tests of a mesh that come before those of the arguments.
-abbrev pub standing : Mesh → ℕ
-standing m = firstOf (1 if not (tablesAgree m) ∷ 7 if not (isSound m) ∷ [])
 
 -- Each answer to the two tests, by a call's own answers r and q.
 module _ (m : Mesh) (r : Bool) (a : r ≡ tablesAgree m) where
@@ -77,7 +75,7 @@ four-passed false false false false rest r q z = refl
 
 module _ (t : ℕ) (m : Mesh) where
   -- The tests of the triangle, with those before them.
-  abbrev triangleRefusal : ℕ
+  abbrev pub triangleRefusal : ℕ
   triangleRefusal =
       firstOf (
       1 if not (tablesAgree m)
@@ -236,41 +234,42 @@ module _ (v : ℕ) (m : Mesh) where
 
 -- A load's outcome is its refusal and its mesh; the rest is zero.
 pub load-whole : (bytes : List ℕ) (m : Mesh)
-    → outcomeOf (loadCall bytes m .refusal) 0 0 0 zeroPoint (loadCall bytes m .mesh) [] ≡ loadCall bytes m
+    → (let n = loadCall bytes m .mesh in outcomeOf (answerOf (loadCall bytes m .answer .refusal) 0 0 0 zeroPoint n) n noRoom)
+    ≡ loadCall bytes m
 load-whole bytes m = go (load-judged bytes m)
   where
-    go : {n : ℕ} {l : Mesh} {o : Outcome} → Judged n m [] (worked (atFirst l)) o
-        → outcomeOf (o .refusal) 0 0 0 zeroPoint (o .mesh) [] ≡ o
+    go : {n : ℕ} {l : Mesh} {o : Outcome} → Judged n m noRoom (worked (atFirst l)) o
+        → outcomeOf (answerOf (o .answer .refusal) 0 0 0 zeroPoint (o .mesh)) (o .mesh) noRoom ≡ o
     go (carried z) = refl
     go (refused z) = refl
 
 module _ (t : ℕ) (m : Mesh) (r : ℕ) (e : r ≡ refineRefusal t m) where
-  pub refine-refused : r ≢ 0 → outcomeOf r 0 0 0 zeroPoint m [] ≡ refineCall t m
+  pub refine-refused : r ≢ 0 → refusedWith r m noRoom ≡ refineCall t m
   unfolding refineCall
-  refine-refused = refuses m [] (worked (refine t (atFirst m))) (refineRefusal t m) r e
+  refine-refused = refuses m noRoom (worked (refine t (atFirst m))) (refineRefusal t m) r e
 
   pub refine-carried : r ≡ 0 → worked (refine t (atFirst m)) ≡ refineCall t m
   unfolding refineCall
-  refine-carried = carries m [] (worked (refine t (atFirst m))) (refineRefusal t m) r e
+  refine-carried = carries m noRoom (worked (refine t (atFirst m))) (refineRefusal t m) r e
 
 module _ (v : ℕ) (buffer : List ℕ) (m : Mesh) (r : ℕ) (e : r ≡ ringRefusal v buffer m) where
-  pub ring-refused : r ≢ 0 → outcomeOf r 0 0 0 zeroPoint m buffer ≡ ringCall v buffer m
+  pub ring-refused : r ≢ 0 → refusedWith r m (ringRoom buffer) ≡ ringCall v buffer m
   unfolding ringCall
-  ring-refused = refuses m buffer (ringRead v buffer m) (ringRefusal v buffer m) r e
+  ring-refused = refuses m (ringRoom buffer) (ringRead v buffer m) (ringRefusal v buffer m) r e
 
   pub ring-carried : r ≡ 0 → ringRead v buffer m ≡ ringCall v buffer m
   unfolding ringCall
-  ring-carried = carries m buffer (ringRead v buffer m) (ringRefusal v buffer m) r e
+  ring-carried = carries m (ringRoom buffer) (ringRead v buffer m) (ringRefusal v buffer m) r e
 
 module _ (v : ℕ) (m : Mesh) (r : ℕ) (e : r ≡ positionRefusal v m) where
-  pub position-refused : r ≢ 0 → outcomeOf r 0 0 0 zeroPoint m [] ≡ positionCall v m
+  pub position-refused : r ≢ 0 → refusedWith r m noRoom ≡ positionCall v m
   unfolding positionCall
-  position-refused = refuses m [] (positionRead v m) (positionRefusal v m) r e
+  position-refused = refuses m noRoom (positionRead v m) (positionRefusal v m) r e
 
   module _ (z : r ≡ 0) where
     pub position-carried : positionRead v m ≡ positionCall v m
     unfolding positionCall
-    position-carried = carries m [] (positionRead v m) (positionRefusal v m) r e z
+    position-carried = carries m noRoom (positionRead v m) (positionRefusal v m) r e z
 
     pub position-agrees : TablesAgree m
     position-agrees = stable (tables-agree-is m) (none-hold (position-refusal-first v m) (sym e ∙ z) tt .0)

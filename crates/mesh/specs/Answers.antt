@@ -1,29 +1,33 @@
 -- The answers of the calls, with what the lent slices hold afterwards, as outcomes of the rules.
 use Prim.Native.Nat.{ℕ, _*_, _≤_}
-use mathlib.Core.List.{List, []}
+use mathlib.Core.Bool.{not}
+use mathlib.Core.List.{List, [], _∷_}
 use mathlib.Core.Path.{_≡_}
 use lib.IntN.{ℤ}
 use lib.ListN.{length}
-use Rattle.rules.specs.Calls.{Outcome, outcomeOf, zeroPoint, ringRefusal}
+use Rattle.rules.specs.Calls.{Outcome, answerOf, noRoom, ringRoom, outcomeOf, zeroPoint, firstOf, _if_, ringRefusal}
 use Rattle.rules.specs.Ring.{ring}
-use Rattle.rules.specs.Tables.{Mesh}
+use Rattle.rules.specs.Sound.{isSound}
+use Rattle.rules.specs.Tables.{Mesh, tablesAgree}
 use Rattle.rings.specs.Rings.{ringFrom, Walkable}
 use Rattle.tables.specs.Lent.{meshNow}
-use Rattle.mesh.specs.declared.Worked.{Worked}
 use Rattle.mesh.specs.declared.FoundRing.{FoundRing}
 use Rattle.mesh.specs.declared.RingRead.{RingRead}
 use Rattle.mesh.specs.declared.PositionRead.{PositionRead}
 
--- The outcome of a call that may write the tables.
-abbrev pub workedOutcome : Worked → List ℤ → List ℕ → List ℕ → List ℕ → Outcome
-workedOutcome a positions corners links generations =
-    outcomeOf (a .refusal) (a .splits) (a .flips) 0 zeroPoint
-    (meshNow (a .counts) positions corners links generations) []
+-- The first refusal of a mesh, by every call but load.
+abbrev pub standing : Mesh → ℕ
+standing m = firstOf (1 if not (tablesAgree m) ∷ 7 if not (isSound m) ∷ [])
 
 -- The outcome of a call that reads a ring.
 abbrev pub ringOutcome : RingRead → List ℤ → List ℕ → List ℕ → List ℕ → List ℕ → Outcome
 ringOutcome a positions corners links generations buffer =
-    outcomeOf (a .refusal) 0 0 (a .length) zeroPoint (meshNow (a .counts) positions corners links generations) buffer
+    let m = meshNow (a .counts) positions corners links generations in
+    outcomeOf (answerOf (a .refusal) 0 0 (a .length) zeroPoint m) m (ringRoom buffer)
+
+-- A ring that is refused.
+abbrev pub noRing : ℕ → FoundRing
+noRing n = record { refusal = n; first = 0; length = 0 }
 
 -- A ring that can be written to a buffer with this room: the walk from its first side gives the ring of v.
 pub record Found (v room : ℕ) (m : Mesh) (a : FoundRing) : Type 0 where
@@ -41,5 +45,5 @@ pub record FoundFor (v room : ℕ) (m : Mesh) (a : FoundRing) : Type 0 where
 -- The outcome of a call that reads a position.
 abbrev pub positionOutcome : PositionRead → List ℤ → List ℕ → List ℕ → List ℕ → Outcome
 positionOutcome a positions corners links generations =
-    outcomeOf (a .refusal) 0 0 0 (a .point .x, a .point .y, a .point .z)
-    (meshNow (a .counts) positions corners links generations) []
+    let m = meshNow (a .counts) positions corners links generations in
+    outcomeOf (answerOf (a .refusal) 0 0 0 (a .point .x, a .point .y, a .point .z) m) m noRoom

@@ -2,26 +2,20 @@
 use points::Point;
 use split::Chain;
 use tables::Counts;
+use tables::Worked;
 ghost use mathlib.Core.Path.{_≡_};
 ghost use mathlib.Core.List.{List, [], _∷_};
 ghost use mathlib.Core.Bool.{not};
 ghost use Prim.Native.Nat.{ℕ, max};
 ghost use lib.Dec.{eqb, leb};
+ghost use lib.IntN.{ℤ};
 ghost use Rattle.rules.specs.Calls.{firstOf, _if_, roomFor, loadCall, refineCall, wholeStepCall};
 ghost use Rattle.rules.specs.Calls.{ringCall, positionCall, positionRefusal};
 ghost use Rattle.rules.specs.Sound.{isSound};
 ghost use Rattle.rules.specs.Tables.{tablesAgree, generation, odd};
+ghost use Rattle.tables.specs.Answers.{workedOutcome};
 ghost use Rattle.tables.specs.Lent.{meshNow};
-ghost use Rattle.mesh.specs.Answers.{workedOutcome, FoundFor, ringOutcome, positionOutcome};
-
-// The answer of load, refine and the whole step: on a refusal all but its number and the counts is 0.
-#[repr(C)]
-pub struct Worked {
-    pub refusal: u32,
-    pub splits: u32,
-    pub flips: u32,
-    pub counts: Counts,
-}
+ghost use Rattle.mesh.specs.Answers.{standing, noRing, FoundFor, ringOutcome, positionOutcome};
 
 // The answer of ring.
 #[repr(C)]
@@ -49,7 +43,7 @@ fn not_sound(
 ) -> u32
     ensures { λ r. ⌜ (let m = meshNow counts (now (positions .entry)) (now (corners .entry)) (now (links .entry))
         (now (generations .entry)) in
-        r ≡ firstOf (1 if not (tablesAgree m) ∷ 7 if not (isSound m) ∷ [])) ⌝ }
+        r ≡ standing m) ⌝ }
 {
     if !soundness::tables_agree(positions, corners, links, generations) {
         return 1;
@@ -95,21 +89,14 @@ pub fn load(
     }
 }
 
-// The refusal of a refine by the mesh and the triangle, or 0.
-fn triangle_refusal(
-    positions: &[i32],
-    corners: &[u32],
-    links: &[u32],
-    generations: &[u8],
-    counts: Counts,
-    t: u32,
-) -> u32
-    ensures { λ r. ⌜ (let m = meshNow counts (now (positions .entry)) (now (corners .entry)) (now (links .entry))
-        (now (generations .entry)) in
-        r ≡ firstOf (1 if not (tablesAgree m) ∷ 7 if not (isSound m)
+// The refusal of a refine by the mesh, whose own first refusal is `bad`, and the triangle; or 0.
+fn triangle_refusal(generations: &[u8], counts: Counts, t: u32, bad: u32) -> u32
+    ensures { λ r. ⌜ ((positions : List ℤ) (corners links : List ℕ) →
+        let m = meshNow counts positions corners links (now (generations .entry)) in
+        bad ≡ standing m
+        → r ≡ firstOf (1 if not (tablesAgree m) ∷ 7 if not (isSound m)
         ∷ 8 if leb (m .topology .triangles) t ∷ 9 if eqb (generation (m .topology) t) 20 ∷ [])) ⌝ }
 {
-    let bad = not_sound(positions, corners, links, generations, counts);
     if bad != 0 {
         return bad;
     }
@@ -138,24 +125,26 @@ fn chain_refusal(positions: &[i32], generations: &[u8], counts: Counts, chain: C
     0
 }
 
-// Refines triangle t.
-pub fn refine(
+// Refines triangle t of a mesh whose first refusal is known.
+fn refine_known(
     positions: &mut [i32],
     corners: &mut [u32],
     links: &mut [u32],
     generations: &mut [u8],
     counts: Counts,
     t: u32,
+    bad: u32,
 ) -> Worked
+    requires { ⌜ bad ≡ standing (meshNow counts (now positions) (now corners) (now links) (now generations)) ⌝ }
     ensures { λ r. ⌜
         workedOutcome r (now (positions .exit)) (now (corners .exit)) (now (links .exit)) (now (generations .exit))
         ≡ refineCall t (meshNow counts (now (positions .entry)) (now (corners .entry)) (now (links .entry))
         (now (generations .entry))) ⌝ }
 {
-    let bad = triangle_refusal(positions, corners, links, generations, counts, t);
-    if bad != 0 {
+    let refused = triangle_refusal(generations, counts, t, bad);
+    if refused != 0 {
         return Worked {
-            refusal: bad,
+            refusal: refused,
             splits: 0,
             flips: 0,
             counts,
@@ -183,6 +172,50 @@ pub fn refine(
     }
 }
 
+// Refines triangle t.
+pub fn refine(
+    positions: &mut [i32],
+    corners: &mut [u32],
+    links: &mut [u32],
+    generations: &mut [u8],
+    counts: Counts,
+    t: u32,
+) -> Worked
+    ensures { λ r. ⌜
+        workedOutcome r (now (positions .exit)) (now (corners .exit)) (now (links .exit)) (now (generations .exit))
+        ≡ refineCall t (meshNow counts (now (positions .entry)) (now (corners .entry)) (now (links .entry))
+        (now (generations .entry))) ⌝ }
+{
+    let bad = not_sound(positions, corners, links, generations, counts);
+    refine_known(positions, corners, links, generations, counts, t, bad)
+}
+
+// The whole smoothing step on a mesh whose first refusal is known.
+fn whole_step_known(
+    positions: &mut [i32],
+    corners: &mut [u32],
+    links: &mut [u32],
+    generations: &mut [u8],
+    counts: Counts,
+    bad: u32,
+) -> Worked
+    requires { ⌜ bad ≡ standing (meshNow counts (now positions) (now corners) (now links) (now generations)) ⌝ }
+    ensures { λ r. ⌜
+        workedOutcome r (now (positions .exit)) (now (corners .exit)) (now (links .exit)) (now (generations .exit))
+        ≡ wholeStepCall (meshNow counts (now (positions .entry)) (now (corners .entry)) (now (links .entry))
+        (now (generations .entry))) ⌝ }
+{
+    if bad != 0 {
+        return Worked {
+            refusal: bad,
+            splits: 0,
+            flips: 0,
+            counts,
+        };
+    }
+    step::smoothing_step(positions, corners, links, generations, counts)
+}
+
 // The whole smoothing step.
 pub fn whole_step(
     positions: &mut [i32],
@@ -197,24 +230,7 @@ pub fn whole_step(
         (now (generations .entry))) ⌝ }
 {
     let bad = not_sound(positions, corners, links, generations, counts);
-    if bad != 0 {
-        return Worked {
-            refusal: bad,
-            splits: 0,
-            flips: 0,
-            counts,
-        };
-    }
-    let answer = step::smoothing_step(positions, corners, links, generations, counts);
-    Worked {
-        refusal: answer.refusal,
-        splits: answer.splits,
-        flips: answer.flips,
-        counts: Counts {
-            vertices: answer.vertices,
-            triangles: answer.triangles,
-        },
-    }
+    whole_step_known(positions, corners, links, generations, counts, bad)
 }
 
 // What is known of a ring before it is written: its refusal, or 0 with the side where it starts and its length.
@@ -222,6 +238,17 @@ struct FoundRing {
     refusal: u32,
     first: u32,
     length: u32,
+}
+
+// A ring that is refused.
+fn no_ring(refusal: u32) -> FoundRing
+    ensures { λ r. ⌜ r ≡ noRing refusal ⌝ }
+{
+    FoundRing {
+        refusal,
+        first: 0,
+        length: 0,
+    }
 }
 
 // Finds the ring of vertex v for a buffer of so many entries.
@@ -238,11 +265,7 @@ fn find_ring(
         (now (links .entry)) (now (generations .entry))) r ⌝ }
 {
     if !soundness::tables_agree(positions, corners, links, generations) {
-        return FoundRing {
-            refusal: 1,
-            first: 0,
-            length: 0,
-        };
+        return no_ring(1);
     }
     let start = soundness::sound_start(
         positions,
@@ -254,27 +277,15 @@ fn find_ring(
         v,
     );
     if start == 0 {
-        return FoundRing {
-            refusal: 7,
-            first: 0,
-            length: 0,
-        };
+        return no_ring(7);
     }
     if counts.vertices <= v {
-        return FoundRing {
-            refusal: 8,
-            first: 0,
-            length: 0,
-        };
+        return no_ring(8);
     }
     let first = start - 1;
     let length = rings::ring_length(links, counts.triangles, first);
     if room < length as usize {
-        return FoundRing {
-            refusal: 14,
-            first: 0,
-            length: 0,
-        };
+        return no_ring(14);
     }
     FoundRing {
         refusal: 0,

@@ -2,12 +2,13 @@
 // a length.
 use mesh::PositionRead;
 use mesh::RingRead;
-use mesh::Worked;
 use tables::Counts;
+use tables::Worked;
 ghost use mathlib.Core.Path.{_≡_};
 ghost use Rattle.rules.specs.Calls.{loadCall, refineCall, wholeStepCall, ringCall, positionCall};
+ghost use Rattle.tables.specs.Answers.{workedOutcome};
 ghost use Rattle.tables.specs.Lent.{meshNow};
-ghost use Rattle.mesh.specs.Answers.{workedOutcome, ringOutcome, positionOutcome};
+ghost use Rattle.mesh.specs.Answers.{ringOutcome, positionOutcome};
 
 // Loads a cage.
 #[no_mangle]

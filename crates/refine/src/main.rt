@@ -1,7 +1,7 @@
 // The program: loads cage.bin, refines the triangles that requests.bin names, and prints a line for each call.
 use libc::STDOUT_FILENO;
-use mesh::Worked;
 use tables::Counts;
+use tables::Worked;
 ghost use mathlib.Core.Path.{_≡_};
 ghost use Prim.Native.Nat.{_/_};
 ghost use lib.ListN.{length};

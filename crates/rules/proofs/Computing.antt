@@ -1,13 +1,13 @@
 -- A store, cages as bytes, and what opens the rules for computation.
 use Prim.Native.Nat.{ℕ, _*_}
-use mathlib.Core.List.{List, [], _∷_}
+use mathlib.Core.List.{List, [], _∷_, map}
 use lib.IntN.{pos}
 use lib.ListN.{replicate}
 use Rattle.rules.specs.Below.{all, any, lowest, total, fill}
 use Rattle.rules.specs.Cage.{cageOf, partner, loaded, sizesFit, cornersFit, coordinatesFit, sidesDiffer, fansFit}
-use Rattle.rules.specs.Calls.{closedEven, loadRefusal, refineRefusal, wholeStepRefusal, ringRefusal}
+use Rattle.rules.specs.Calls.{Outcome, closedEven, loadRefusal, refineRefusal, wholeStepRefusal, ringRefusal}
 use Rattle.rules.specs.Calls.{positionRefusal, loadCall, refineCall, wholeStepCall, ringCall, positionCall}
-use Rattle.rules.specs.History.{after, outcomes, lastLoad, edges, cageEdges}
+use Rattle.rules.specs.History.{Change, changes, after, outcomes, lastLoad, edges, cageEdges}
 use Rattle.rules.specs.Numbers.{numberAt, signed, floorDiv, nearestThird, halfUp, weights, weight, moved}
 use Rattle.rules.specs.Ring.{firstSide, fanFrom, fan, neighbours, ring}
 use Rattle.rules.specs.Sound.{isLinked, soundSide, hasOneFan, isSound}
@@ -25,6 +25,13 @@ unfolding all any lowest total fill cageOf partner loaded sizesFit cornersFit co
     centre splitPlaced settle faceSplit chainEndWithin chainOddWithin raise refine sumOver movedCoordinate
     moveVertices refineFirst wholeStep tablesAgree
 computing = tt
+
+-- The mesh after these changes, and the outcome of each.
+abbrev pub made : List Change → Mesh → Mesh
+made cs m = after (map changes cs) m
+
+abbrev pub madeEach : List Change → Mesh → List Outcome
+madeEach cs m = outcomes (map changes cs) m
 
 -- A store of v vertex and f triangle slots, without content.
 unfoldable pub fresh : ℕ → ℕ → Mesh

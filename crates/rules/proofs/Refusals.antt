@@ -4,13 +4,13 @@ use mathlib.Core.List.{List, [], _∷_, _++_}
 use mathlib.Core.Path.{_≡_, refl}
 use lib.IntN.{pos}
 use lib.ListN.{replicate, take}
-use Rattle.rules.proofs.Computing.{computing, fresh, bytes, tetrahedron}
-use Rattle.rules.specs.History.{Call, loads, refines, steps, asksRing, after, outcome}
+use Rattle.rules.proofs.Computing.{computing, made, fresh, bytes, tetrahedron}
+use Rattle.rules.specs.History.{Change, loads, refines, steps, ringOf, Call, changes, asks, outcome}
 use Rattle.rules.specs.Tables.{Mesh, topologyOf, meshOf}
 
 -- The refusal of the last call, on a mesh, after the others.
-abbrev pub refusalAfter : List Call → Call → Mesh → ℕ
-refusalAfter before c m = outcome c (after before m) .refusal
+abbrev pub refusalAfter : List Change → Call → Mesh → ℕ
+refusalAfter before c m = outcome c (made before m) .answer .refusal
 
 unfoldable pub small : Mesh
 unfolding fresh
@@ -50,21 +50,21 @@ unfolding cageAtOrigin pyramids
 doublePyramid n = cageAtOrigin (n + 2) (2 * n) (pyramids n n)
 
 pub record Table : Type 0 where
-  pub n1 : refusalAfter [] (loads tetrahedron) uneven ≡ 1
-  pub n2 : refusalAfter [] (loads (take 7 tetrahedron)) small ≡ 2
-  pub n3 : refusalAfter [] (loads (cageAtOrigin 3 1 (0 ∷ 0 ∷ 1 ∷ []))) small ≡ 3
-  pub n4 : refusalAfter [] (loads tooFar) small ≡ 4
-  pub n5 : refusalAfter [] (loads (cageAtOrigin 4 2 (0 ∷ 1 ∷ 2 ∷ 0 ∷ 1 ∷ 3 ∷ []))) small ≡ 5
-  pub n6 : refusalAfter [] (loads (cageAtOrigin 4 1 (0 ∷ 1 ∷ 2 ∷ []))) small ≡ 6
-  pub n7 : refusalAfter [] (refines 0) small ≡ 7
-  pub n8 : refusalAfter (loads tetrahedron ∷ []) (refines 4) small ≡ 8
-  pub n9 : refusalAfter [] (refines 0) grown ≡ 9
-  pub n10 : refusalAfter (loads triangle ∷ refines 0 ∷ []) (refines 0) small ≡ 10
-  pub n11 : refusalAfter (loads tetrahedron ∷ []) (refines 0) (fresh 6 5) ≡ 11
-  pub n12 : refusalAfter (loads tetrahedron ∷ refines 0 ∷ []) steps small ≡ 12
-  pub n13 : refusalAfter (loads (doublePyramid 13) ∷ []) steps (fresh 15 26) ≡ 13
-  pub twelveIsAllowed : refusalAfter (loads (doublePyramid 12) ∷ []) steps (fresh 38 72) ≡ 0
-  pub n14 : refusalAfter (loads tetrahedron ∷ []) (asksRing 0 (7 ∷ 7 ∷ [])) small ≡ 14
+  pub n1 : refusalAfter [] (changes (loads tetrahedron)) uneven ≡ 1
+  pub n2 : refusalAfter [] (changes (loads (take 7 tetrahedron))) small ≡ 2
+  pub n3 : refusalAfter [] (changes (loads (cageAtOrigin 3 1 (0 ∷ 0 ∷ 1 ∷ [])))) small ≡ 3
+  pub n4 : refusalAfter [] (changes (loads tooFar)) small ≡ 4
+  pub n5 : refusalAfter [] (changes (loads (cageAtOrigin 4 2 (0 ∷ 1 ∷ 2 ∷ 0 ∷ 1 ∷ 3 ∷ [])))) small ≡ 5
+  pub n6 : refusalAfter [] (changes (loads (cageAtOrigin 4 1 (0 ∷ 1 ∷ 2 ∷ [])))) small ≡ 6
+  pub n7 : refusalAfter [] (changes (refines 0)) small ≡ 7
+  pub n8 : refusalAfter (loads tetrahedron ∷ []) (changes (refines 4)) small ≡ 8
+  pub n9 : refusalAfter [] (changes (refines 0)) grown ≡ 9
+  pub n10 : refusalAfter (loads triangle ∷ refines 0 ∷ []) (changes (refines 0)) small ≡ 10
+  pub n11 : refusalAfter (loads tetrahedron ∷ []) (changes (refines 0)) (fresh 6 5) ≡ 11
+  pub n12 : refusalAfter (loads tetrahedron ∷ refines 0 ∷ []) (changes steps) small ≡ 12
+  pub n13 : refusalAfter (loads (doublePyramid 13) ∷ []) (changes steps) (fresh 15 26) ≡ 13
+  pub twelveIsAllowed : refusalAfter (loads (doublePyramid 12) ∷ []) (changes steps) (fresh 38 72) ≡ 0
+  pub n14 : refusalAfter (loads tetrahedron ∷ []) (asks (ringOf 0 (7 ∷ 7 ∷ []))) small ≡ 14
 
 pub refusals : Table
 unfolding computing fresh small uneven tetrahedron cageAtOrigin triangle tooFar grown doublePyramid

@@ -18,11 +18,12 @@ use Rattle.rules.proofs.Numbers.Rounding.{nearest-third, nearest-third-
 use Rattle.rules.proofs.Soundness.SoundTest.{sound-is}
 use Rattle.rules.specs.Below.{fill}
 use Rattle.rules.specs.Cage.{Cage, cageOf, loaded}
-use Rattle.rules.specs.Calls.{outcomeOf, zeroPoint, loadCall, refineCall, wholeStepCall, ringCall, positionCall}
+use Rattle.rules.specs.Calls.{refusedWith, worked, loadCall, refineCall, wholeStepCall, ringRead, ringCall}
+use Rattle.rules.specs.Calls.{positionRead, positionCall}
 use Rattle.rules.specs.Conditions.{SidesDiffer, EndsAtBoundary, OddInChain, First, loadConditions}
 use Rattle.rules.specs.Conditions.{refineConditions, wholeStepConditions}
 use Rattle.rules.specs.Conditions.{ringConditions, positionConditions}
-use Rattle.rules.specs.History.{Call, outcome, lentBuffer, after, lastLoad, nothing, cage, EveryHistory}
+use Rattle.rules.specs.History.{Call, outcome, lent, after, lastLoad, nothing, cage, EveryHistory}
 use Rattle.rules.specs.Numbers.{nearestThird, halfUp}
 use Rattle.rules.specs.Promises.{Nearest, Matches, Loaded, ChainFalls, RefineMakes, StepMakes, RingMakes, kobbelt}
 use Rattle.rules.specs.Ring.{ring}
@@ -59,36 +60,36 @@ half-up-only = half-up-alone
 -- ---- refusals (Refused inputs)
 
 -- A load returns the number of the first condition, in its order, that holds, and 0 where none does.
-pub load-returns : (bytes : List ℕ) (m : Mesh) → First (loadConditions bytes m) (loadCall bytes m .refusal)
+pub load-returns : (bytes : List ℕ) (m : Mesh) → First (loadConditions bytes m) (loadCall bytes m .answer .refusal)
 load-returns = load-refusal
 
 -- So does a refine.
-pub refine-returns : (t : ℕ) (m : Mesh) → First (refineConditions t m) (refineCall t m .refusal)
+pub refine-returns : (t : ℕ) (m : Mesh) → First (refineConditions t m) (refineCall t m .answer .refusal)
 refine-returns = refine-refusal
 
 -- So does a whole step.
-pub whole-step-returns : (m : Mesh) → First (wholeStepConditions m) (wholeStepCall m .refusal)
+pub whole-step-returns : (m : Mesh) → First (wholeStepConditions m) (wholeStepCall m .answer .refusal)
 whole-step-returns = whole-step-refusal
 
 -- So does a ring query.
 pub ring-returns : (v : ℕ) (buffer : List ℕ) (m : Mesh)
-    → First (ringConditions v buffer m) (ringCall v buffer m .refusal)
+    → First (ringConditions v buffer m) (ringCall v buffer m .answer .refusal)
 ring-returns = ring-refusal
 
 -- So does a position query.
-pub position-returns : (v : ℕ) (m : Mesh) → First (positionConditions v m) (positionCall v m .refusal)
+pub position-returns : (v : ℕ) (m : Mesh) → First (positionConditions v m) (positionCall v m .answer .refusal)
 position-returns = position-refusal
 
--- A refused call returns its number with zeros, and leaves the mesh, its counts and the buffer as they stood.
-pub refusal-leaves : (c : Call) (m : Mesh) → outcome c m .refusal ≢ 0
-    → outcome c m ≡ outcomeOf (outcome c m .refusal) 0 0 0 zeroPoint m (lentBuffer c)
+-- A refused call answers its number with zeros and V and F as they stood, and leaves the mesh and its room.
+pub refusal-leaves : (c : Call) (m : Mesh) → outcome c m .answer .refusal ≢ 0
+    → outcome c m ≡ refusedWith (outcome c m .answer .refusal) m (lent c)
 refusal-leaves = refused-leaves
 
 -- ---- load (Load)
 
 -- A load that is carried out answers no splits and no flips, and leaves the cage, sound and linked.
-pub load-carried : (bytes : List ℕ) (m : Mesh) → loadCall bytes m .refusal ≡ 0
-    → (loadCall bytes m ≡ outcomeOf 0 0 0 0 zeroPoint (loaded (cageOf bytes) m) [])
+pub load-carried : (bytes : List ℕ) (m : Mesh) → loadCall bytes m .answer .refusal ≡ 0
+    → (loadCall bytes m ≡ worked (atFirst (loaded (cageOf bytes) m)))
     × Loaded (cageOf bytes) m (loaded (cageOf bytes) m)
 load-carried = load-makes
 
@@ -100,9 +101,9 @@ links-match = links-are
 -- ---- refine (Refine one triangle)
 
 -- A refine that is carried out answers and leaves what `refine` makes, and that is sound and counted.
-pub refine-carried : (t : ℕ) (m : Mesh) → refineCall t m .refusal ≡ 0
+pub refine-carried : (t : ℕ) (m : Mesh) → refineCall t m .answer .refusal ≡ 0
     → let w = refine t (atFirst m) in
-    (refineCall t m ≡ outcomeOf 0 (w .splits) (w .flips) 0 zeroPoint (w .mesh) []) × RefineMakes t m w
+    (refineCall t m ≡ worked w) × RefineMakes t m w
 refine-carried = refine-makes
 
 -- The odd triangles of a base chain that does not end at the boundary are counted, all of them.
@@ -116,17 +117,16 @@ pub chain-steps : (m : Mesh) → Sound m → (t : ℕ) → t < m .topology .tria
 chain-steps = chain-falls
 
 -- Refine is the recursive procedure of Kobbelt's section 4, with the outline's face split, at any depth that suffices.
-pub refine-recursive : (t n : ℕ) (m : Mesh) → refineCall t m .refusal ≡ 0 → generation (m .topology) t < n
+pub refine-recursive : (t n : ℕ) (m : Mesh) → refineCall t m .answer .refusal ≡ 0 → generation (m .topology) t < n
     → refine t (atFirst m) ≡ kobbelt n t (atFirst m)
 refine-recursive = refine-is-split
 
 -- ---- whole step (Whole step)
 
 -- A whole step that is carried out answers and leaves what `wholeStep` makes.
-pub whole-step-carried : (m : Mesh) → wholeStepCall m .refusal ≡ 0
+pub whole-step-carried : (m : Mesh) → wholeStepCall m .answer .refusal ≡ 0
     → let w = wholeStep m in
-    (wholeStepCall m ≡ outcomeOf 0 (w .splits) (w .flips) 0 zeroPoint (w .mesh) [])
-    × StepMakes (generation (m .topology) 0) m w
+    (wholeStepCall m ≡ worked w) × StepMakes (generation (m .topology) 0) m w
 whole-step-carried = whole-step-makes
 
 -- ---- rings and positions (Rings and positions)
@@ -136,14 +136,13 @@ pub ring-whole : {m : Mesh} → Sound m → (v : ℕ) → v < m .topology .verti
 ring-whole = ring-makes
 
 -- A ring query that is carried out writes the ring into the first entries of the buffer, and nothing else.
-pub ring-carried : (v : ℕ) (buffer : List ℕ) (m : Mesh) → ringCall v buffer m .refusal ≡ 0
-    → let r = ring (m .topology) v in
-    ringCall v buffer m ≡ outcomeOf 0 0 0 (length r) zeroPoint m (fill (length r) (λ i. getD r i 0) buffer)
+pub ring-carried : (v : ℕ) (buffer : List ℕ) (m : Mesh) → ringCall v buffer m .answer .refusal ≡ 0
+    → ringCall v buffer m ≡ ringRead v buffer m
 ring-carried = ring-reads
 
 -- A position query that is carried out answers the coordinates, and writes nothing.
-pub position-carried : (v : ℕ) (m : Mesh) → positionCall v m .refusal ≡ 0
-    → positionCall v m ≡ outcomeOf 0 0 0 0 (coordinate m v 0, coordinate m v 1, coordinate m v 2) m []
+pub position-carried : (v : ℕ) (m : Mesh) → positionCall v m .answer .refusal ≡ 0
+    → positionCall v m ≡ positionRead v m
 position-carried = position-reads
 
 -- ---- every history (the customer's third demand)

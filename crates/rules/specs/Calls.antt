@@ -14,36 +14,62 @@ use Rattle.rules.specs.Step.{wholeStep}
 use Rattle.rules.specs.Tables.{Topology, Mesh, tablesAgree, vertexSlots, triangleSlots, sides, link, boundary}
 use Rattle.rules.specs.Tables.{generation, odd, coordinate}
 
--- What a call returns, and what it leaves: the mesh with its counts V and F, and the ring buffer, empty where none is
--- lent. Only `outcomeOf` builds it.
-pub record Outcome : Type 0 where
+-- What a call answers: the number of its refusal, 0 for none, the splits and flips that it made, the length of a ring,
+-- a position, and V and F. Only `answerOf` builds it.
+pub record Answer : Type 0 where
   pub refusal : ℕ
   pub splits : ℕ
   pub flips : ℕ
   pub ringLength : ℕ
   pub point : ℤ × ℤ × ℤ
-  pub mesh : Mesh
+  pub vertices : ℕ
+  pub triangles : ℕ
+
+-- What a call is lent beside the mesh: the ring buffer. What it is not lent is empty.
+pub record Room : Type 0 where
   pub buffer : List ℕ
 
--- An outcome from its parts.
-abbrev pub outcomeOf : ℕ → ℕ → ℕ → ℕ → ℤ × ℤ × ℤ → Mesh → List ℕ → Outcome
-outcomeOf refusal splits flips n point m buffer = record {
+-- A call's answer, the mesh that it leaves and what it leaves in its room.
+pub record Outcome : Type 0 where
+  pub answer : Answer
+  pub mesh : Mesh
+  pub room : Room
+
+-- An answer from its parts, with V and F of a mesh.
+abbrev pub answerOf : ℕ → ℕ → ℕ → ℕ → ℤ × ℤ × ℤ → Mesh → Answer
+answerOf refusal splits flips n point m = record {
   refusal = refusal;
   splits = splits;
   flips = flips;
   ringLength = n;
   point = point;
-  mesh = m;
-  buffer = buffer;
+  vertices = m .topology .vertices;
+  triangles = m .topology .triangles;
 }
 
--- What is returned where no position is asked for.
+-- No room, and a ring buffer alone.
+abbrev pub noRoom : Room
+noRoom = record { buffer = [] }
+
+abbrev pub ringRoom : List ℕ → Room
+ringRoom buffer = record { buffer = buffer }
+
+-- An outcome from its parts.
+abbrev pub outcomeOf : Answer → Mesh → Room → Outcome
+outcomeOf answer m room = record { answer = answer; mesh = m; room = room }
+
+-- What is answered where no position is asked for.
 abbrev pub zeroPoint : ℤ × ℤ × ℤ
 zeroPoint = (pos 0, pos 0, pos 0)
 
+-- A refusal answers its number with zeros and V and F as they stand; the mesh is left, and this room. (Refused inputs,
+-- below the table)
+abbrev pub refusedWith : ℕ → Mesh → Room → Outcome
+refusedWith n m room = outcomeOf (answerOf n 0 0 0 zeroPoint m) m room
+
 -- A call that made splits and flips.
 abbrev pub worked : Work → Outcome
-worked w = outcomeOf 0 (w .splits) (w .flips) 0 zeroPoint (w .mesh) []
+worked w = outcomeOf (answerOf 0 (w .splits) (w .flips) 0 zeroPoint (w .mesh)) (w .mesh) noRoom
 
 -- ---- refusals in their order, which is that of the conditions (proofs/Results, the theorems ..-returns)
 
@@ -129,38 +155,37 @@ positionRefusal v m =
 
 -- ---- the calls
 
--- The outcome where nothing is refused. A refusal returns its number with zeros, and leaves all that is lent as it
--- stood. (Refused inputs, below the table)
-abbrev pub unless : ℕ → Mesh → List ℕ → Outcome → Outcome
-unless zero m buffer done = done
-unless (suc n) m buffer done = outcomeOf (suc n) 0 0 0 zeroPoint m buffer
+-- The outcome where nothing is refused, and else the refusal, with what it leaves of the room.
+abbrev pub unless : ℕ → Mesh → Room → Outcome → Outcome
+unless zero m room done = done
+unless (suc n) m room done = refusedWith (suc n) m room
 
 -- (Load)
 unfoldable pub loadCall : List ℕ → Mesh → Outcome
-loadCall bytes m = unless (loadRefusal bytes m) m [] (worked (atFirst (loaded (cageOf bytes) m)))
+loadCall bytes m = unless (loadRefusal bytes m) m noRoom (worked (atFirst (loaded (cageOf bytes) m)))
 
 -- (Refine one triangle)
 unfoldable pub refineCall : ℕ → Mesh → Outcome
-refineCall t m = unless (refineRefusal t m) m [] (worked (refine t (atFirst m)))
+refineCall t m = unless (refineRefusal t m) m noRoom (worked (refine t (atFirst m)))
 
 -- (Whole step)
 unfoldable pub wholeStepCall : Mesh → Outcome
-wholeStepCall m = unless (wholeStepRefusal m) m [] (worked (wholeStep m))
+wholeStepCall m = unless (wholeStepRefusal m) m noRoom (worked (wholeStep m))
 
 -- The ring goes into the first entries of the buffer, and later ones keep their content. (Rings and positions)
 abbrev pub ringRead : ℕ → List ℕ → Mesh → Outcome
 ringRead v buffer m =
     let r = ring (m .topology) v in
-    outcomeOf 0 0 0 (length r) zeroPoint m (fill (length r) (λ i. getD r i 0) buffer)
+    outcomeOf (answerOf 0 0 0 (length r) zeroPoint m) m (ringRoom (fill (length r) (λ i. getD r i 0) buffer))
 
 -- (Rings and positions)
 unfoldable pub ringCall : ℕ → List ℕ → Mesh → Outcome
-ringCall v buffer m = unless (ringRefusal v buffer m) m buffer (ringRead v buffer m)
+ringCall v buffer m = unless (ringRefusal v buffer m) m (ringRoom buffer) (ringRead v buffer m)
 
 -- The position of v. (Rings and positions)
 abbrev pub positionRead : ℕ → Mesh → Outcome
-positionRead v m = outcomeOf 0 0 0 0 (coordinate m v 0, coordinate m v 1, coordinate m v 2) m []
+positionRead v m = outcomeOf (answerOf 0 0 0 0 (coordinate m v 0, coordinate m v 1, coordinate m v 2) m) m noRoom
 
 -- (Rings and positions)
 unfoldable pub positionCall : ℕ → Mesh → Outcome
-positionCall v m = unless (positionRefusal v m) m [] (positionRead v m)
+positionCall v m = unless (positionRefusal v m) m noRoom (positionRead v m)

@@ -8,34 +8,47 @@ use lib.Dec.{eqb, ltb}
 use lib.IntN.{ℤ, pos, _+ℤ_, _-ℤ_}
 use Rattle.rules.specs.Below.{any, count, total}
 use Rattle.rules.specs.Cage.{Cage, cageOf}
-use Rattle.rules.specs.Calls.{Outcome, loadCall, refineCall, wholeStepCall, ringCall, positionCall}
+use Rattle.rules.specs.Calls.{Room, noRoom, ringRoom, Outcome, loadCall, refineCall, wholeStepCall, ringCall}
+use Rattle.rules.specs.Calls.{positionCall}
 use Rattle.rules.specs.Conditions.{OddInChain}
 use Rattle.rules.specs.Tables.{Topology, Mesh, sides, link, boundary, generation, next}
 
--- A call with its arguments: a cage's bytes, a triangle, none, a vertex and a ring buffer, a vertex. The buffer is a
--- list of its own, never one of the tables.
+-- A call that may change the mesh, with its arguments: a cage's bytes, a triangle, none.
+pub data Change : Type 0 where
+  loads : List ℕ → Change
+  refines : ℕ → Change
+  steps : Change
+
+-- A call that reads the mesh: a vertex and a ring buffer, a vertex. The buffer is a list of its own, never one of the
+-- tables.
+pub data Question : Type 0 where
+  ringOf : ℕ → List ℕ → Question
+  positionOf : ℕ → Question
+
+-- A call of either kind.
 pub data Call : Type 0 where
-  loads : List ℕ → Call
-  refines : ℕ → Call
-  steps : Call
-  asksRing : ℕ → List ℕ → Call
-  asksPosition : ℕ → Call
+  changes : Change → Call
+  asks : Question → Call
 
 -- What a call does to a mesh.
-abbrev pub outcome : Call → Mesh → Outcome
-outcome (loads bytes) m = loadCall bytes m
-outcome (refines t) m = refineCall t m
-outcome steps m = wholeStepCall m
-outcome (asksRing v buffer) m = ringCall v buffer m
-outcome (asksPosition v) m = positionCall v m
+abbrev pub changed : Change → Mesh → Outcome
+changed (loads bytes) m = loadCall bytes m
+changed (refines t) m = refineCall t m
+changed steps m = wholeStepCall m
 
--- The ring buffer that a call is lent.
-abbrev pub lentBuffer : Call → List ℕ
-lentBuffer (loads bytes) = []
-lentBuffer (refines t) = []
-lentBuffer steps = []
-lentBuffer (asksRing v buffer) = buffer
-lentBuffer (asksPosition v) = []
+abbrev pub asked : Question → Mesh → Outcome
+asked (ringOf v buffer) m = ringCall v buffer m
+asked (positionOf v) m = positionCall v m
+
+abbrev pub outcome : Call → Mesh → Outcome
+outcome (changes c) m = changed c m
+outcome (asks q) m = asked q m
+
+-- What a call is lent beside the mesh.
+abbrev pub lent : Call → Room
+lent (changes c) = noRoom
+lent (asks (ringOf v buffer)) = ringRoom buffer
+lent (asks (positionOf v)) = noRoom
 
 -- The mesh after a list of calls, each getting it as the one before left it.
 unfoldable pub after : List Call → Mesh → Mesh
@@ -56,11 +69,11 @@ pub data LastLoad : Type 0 where
 
 -- The last accepted load after a call, from the one before it.
 abbrev pub opens : Call → Mesh → LastLoad → LastLoad
-opens (loads bytes) m before = elim (eqb (loadCall bytes m .refusal) 0) [ true ↦ cage bytes | false ↦ before ]
-opens (refines t) m before = before
-opens steps m before = before
-opens (asksRing v buffer) m before = before
-opens (asksPosition v) m before = before
+opens (changes (loads bytes)) m before =
+    elim (eqb (loadCall bytes m .answer .refusal) 0) [ true ↦ cage bytes | false ↦ before ]
+opens (changes (refines t)) m before = before
+opens (changes steps) m before = before
+opens (asks q) m before = before
 
 -- The last accepted load after a list of calls.
 unfoldable pub lastLoad : List Call → Mesh → LastLoad → LastLoad
@@ -102,10 +115,10 @@ pub record Near (g h : ℕ) : Type 0 where
 
 -- What a refine of t that is carried out on m makes and reports.
 pub record ReportsSplits (m : Mesh) (t : ℕ) (o : Outcome) : Type 0 where
-  pub odd : generation (m .topology) t % 2 ≡ 1 → OddInChain (m .topology) t (o .splits)
-  pub bound : generation (m .topology) t % 2 ≡ 1 → o .splits ≤ (generation (m .topology) t + 1) / 2
-  pub even : generation (m .topology) t % 2 ≡ 0 → o .splits ≡ 1
-  pub made : o .mesh .topology .triangles ≡ m .topology .triangles + 2 * o .splits
+  pub odd : generation (m .topology) t % 2 ≡ 1 → OddInChain (m .topology) t (o .answer .splits)
+  pub bound : generation (m .topology) t % 2 ≡ 1 → o .answer .splits ≤ (generation (m .topology) t + 1) / 2
+  pub even : generation (m .topology) t % 2 ≡ 0 → o .answer .splits ≡ 1
+  pub made : o .mesh .topology .triangles ≡ m .topology .triangles + 2 * o .answer .splits
 
 -- What holds of a mesh whose last accepted load was of this cage.
 pub record Kept (bytes : List ℕ) (m : Mesh) : Type 0 where
@@ -115,7 +128,7 @@ pub record Kept (bytes : List ℕ) (m : Mesh) : Type 0 where
   pub euler : characteristic (m .topology) ≡ cageCharacteristic (cageOf bytes)
   pub near : (h : ℕ) → h < sides (m .topology) → link (m .topology) h ≢ boundary
       → Near (generation (m .topology) (h / 3)) (generation (m .topology) (link (m .topology) h / 3))
-  pub refines : (t : ℕ) → refineCall t m .refusal ≡ 0 → ReportsSplits m t (refineCall t m)
+  pub refines : (t : ℕ) → refineCall t m .answer .refusal ≡ 0 → ReportsSplits m t (refineCall t m)
 
 -- The customer's third demand: every list of calls, begun on any tables and counts.
 abbrev pub EveryHistory : Type 0

@@ -3,6 +3,7 @@ use points::Point;
 use split::Work;
 use tables::BOUNDARY;
 use tables::Counts;
+use tables::Worked;
 ghost use mathlib.Core.Bool.{true, not};
 ghost use mathlib.Core.List.{List};
 ghost use mathlib.Core.Path.{_≡_};
@@ -18,21 +19,12 @@ ghost use Rattle.rules.specs.Sound.{Sound};
 ghost use Rattle.rules.specs.Split.{atFirst};
 ghost use Rattle.rules.specs.Step.{moveVertices, refineFirst, wholeStep};
 ghost use Rattle.rules.specs.Tables.{Mesh, topologyOf, boundary};
+ghost use Rattle.tables.specs.Answers.{workedOutcome};
 ghost use Rattle.tables.specs.Lent.{meshNow, VerticesAgree};
 ghost use Rattle.split.specs.Made.{workNow};
-ghost use Rattle.step.specs.Answers.{answered};
 ghost use Rattle.step.specs.Moves.{Moves, Filled, Closed, Moved};
 ghost use Rattle.step.specs.RingSums.{pointIn, Summable, Summed, SideFits, SideAdded, SidesAdded};
 ghost use Rattle.step.specs.RingSums.{Movable, MovedFrom};
-
-// What a whole step answers: the number of its refusal or 0, the slots then in use, the splits and the flips.
-pub struct Answer {
-    pub refusal: u32,
-    pub vertices: u32,
-    pub triangles: u32,
-    pub splits: u32,
-    pub flips: u32,
-}
 
 // Whether none of the first n sides is on the boundary.
 fn none_on_boundary(links: &[u32], n: usize) -> bool
@@ -316,31 +308,32 @@ fn step_by(
     generations: &mut [u8],
     counts: Counts,
     moved: &mut [i32],
-) -> Answer
+) -> Worked
     requires { ⌜ Sound (meshNow counts (now positions) (now corners) (now links) (now generations))
         × Filled (pos 0) 98304 (now moved) ⌝ }
     ensures { λ r. ⌜
-        answered r (now (positions .exit)) (now (corners .exit)) (now (links .exit)) (now (generations .exit))
+        workedOutcome r (now (positions .exit)) (now (corners .exit)) (now (links .exit)) (now (generations .exit))
         ≡ wholeStepCall (meshNow counts (now (positions .entry)) (now (corners .entry)) (now (links .entry))
         (now (generations .entry))) ⌝ }
 {
     let refusal = refusal(positions, corners, links, generations, counts, moved);
     if refusal != 0 {
-        return Answer {
+        return Worked {
             refusal,
-            vertices: counts.vertices,
-            triangles: counts.triangles,
             splits: 0,
             flips: 0,
+            counts,
         };
     }
     let work = whole_step(positions, corners, links, generations, counts, moved);
-    Answer {
+    Worked {
         refusal: 0,
-        vertices: work.vertices,
-        triangles: work.triangles,
         splits: work.splits,
         flips: work.flips,
+        counts: Counts {
+            vertices: work.vertices,
+            triangles: work.triangles,
+        },
     }
 }
 
@@ -351,10 +344,10 @@ pub fn smoothing_step(
     links: &mut [u32],
     generations: &mut [u8],
     counts: Counts,
-) -> Answer
+) -> Worked
     requires { ⌜ Sound (meshNow counts (now positions) (now corners) (now links) (now generations)) ⌝ }
     ensures { λ r. ⌜
-        answered r (now (positions .exit)) (now (corners .exit)) (now (links .exit)) (now (generations .exit))
+        workedOutcome r (now (positions .exit)) (now (corners .exit)) (now (links .exit)) (now (generations .exit))
         ≡ wholeStepCall (meshNow counts (now (positions .entry)) (now (corners .entry)) (now (links .entry))
         (now (generations .entry))) ⌝ }
 {

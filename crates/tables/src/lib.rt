@@ -20,6 +20,15 @@ pub struct Counts {
     pub triangles: u32,
 }
 
+// The answer of a call that may change the mesh: on a refusal all but its number and the counts is 0.
+#[repr(C)]
+pub struct Worked {
+    pub refusal: u32,
+    pub splits: u32,
+    pub flips: u32,
+    pub counts: Counts,
+}
+
 // What a side without a partner links to.
 pub const BOUNDARY: u32 = 4294967295;
 

@@ -30,28 +30,44 @@ agreed c = sym (c .before .tables-agree .ensures _ _) ∙ not-false _ (c .if1 .l
 tables-agree-requires : tie.Need-tables-agree-requires
 tables-agree-requires c κs = search needs
 
+no-ring-requires : tie.Need-no-ring-requires
+no-ring-requires c κs = search needs
+
 returns : tie.Need-returns
 returns c =
-    let s = from-1 (c .before) in
-    finds-one (s .args .v) (s .args .room) (mesh-of s)
-    (sym (c .before .tables-agree .ensures _ _) ∙ not-true _ (c .if1 .taken))
+    let at-if1 = c .before in
+    let s = from-1 (at-if1 .before) in
+    rw (c .no-ring .ensures)
+    (finds-one (s .args .v) (s .args .room) (mesh-of s)
+    (sym (at-if1 .before .tables-agree .ensures _ _) ∙ not-true _ (at-if1 .if1 .taken)))
 
 sound-start-requires : tie.Need-sound-start-requires
 sound-start-requires c κs = search needs
 
+no-ring-requires-2 : tie.Need-no-ring-requires-2
+no-ring-requires-2 c κs = search needs
+
 returns-2 : tie.Need-returns-2
 returns-2 c =
-    let at-start = c .before in
+    let at-if2 = c .before in
+    let at-start = at-if2 .before in
     let s = from-2 at-start in
-    finds-seven (s .args .v) (s .args .room) (mesh-of s) (agreed (at-start .before)) _ (at-start .sound-start .ensures)
-    (c .if2 .taken)
+    rw (c .no-ring2 .ensures)
+    (finds-seven (s .args .v) (s .args .room) (mesh-of s) (agreed (at-start .before)) _ (at-start .sound-start .ensures)
+    (at-if2 .if2 .taken))
+
+no-ring-requires-3 : tie.Need-no-ring-requires-3
+no-ring-requires-3 c κs = search needs
 
 returns-3 : tie.Need-returns-3
 returns-3 c =
-    let at-start = c .before .before .before in
+    let at-if3 = c .before in
+    let at-if2 = at-if3 .before .before in
+    let at-start = at-if2 .before in
     let s = from-2 at-start in
-    finds-eight (s .args .v) (s .args .room) (mesh-of s) (agreed (at-start .before)) _ (at-start .sound-start .ensures)
-    (c .before .before .if2 .left) (c .if3 .taken)
+    rw (c .no-ring3 .ensures)
+    (finds-eight (s .args .v) (s .args .room) (mesh-of s) (agreed (at-start .before)) _ (at-start .sound-start .ensures)
+    (at-if2 .if2 .left) (at-if3 .if3 .taken))
 
 sub-first : tie.Need-sub-first
 sub-first c = search needs
@@ -66,14 +82,18 @@ ring-length-requires c κs =
 cast-if4 : tie.Need-cast-if4
 cast-if4 c = search needs
 
+no-ring-requires-4 : tie.Need-no-ring-requires-4
+no-ring-requires-4 c κs = search needs
+
 returns-4 : tie.Need-returns-4
 returns-4 c =
-    let at-length = c .before in
+    let at-length = c .before .before in
     let at-start = from-3 (at-length .before) in
     let s = from-2 at-start in
-    finds-fourteen (s .args .v) (s .args .room) (mesh-of s) (agreed (at-start .before)) _
+    rw (c .no-ring4 .ensures)
+    (finds-fourteen (s .args .v) (s .args .room) (mesh-of s) (agreed (at-start .before)) _
     (at-start .sound-start .ensures) (at-length .before .before .before .if2 .left) (at-length .before .if3 .left) _
-    (at-length .ring-length .ensures .1 _ _ _) (c .if4 .taken)
+    (at-length .ring-length .ensures .1 _ _ _) (c .before .if4 .taken))
 
 returns-5 : tie.Need-returns-5
 returns-5 c =
@@ -89,12 +109,16 @@ find-ring-spec =
     tie.close
     (tie.spec
     tables-agree-requires
+    no-ring-requires
     returns
     sound-start-requires
+    no-ring-requires-2
     returns-2
+    no-ring-requires-3
     returns-3
     sub-first
     ring-length-requires
     cast-if4
+    no-ring-requires-4
     returns-4
     returns-5)

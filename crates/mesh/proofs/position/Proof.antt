@@ -3,7 +3,7 @@ use borrow.Author.Needs.{needs}
 use mathlib.Core.List.{[]}
 use mathlib.Core.Path.{ap, _∙_}
 use Rattle.points.specs.declared.Point.{Point}
-use Rattle.rules.specs.Calls.{outcomeOf}
+use Rattle.rules.specs.Calls.{answerOf, noRoom, outcomeOf}
 use Rattle.rules.specs.Tables.{Mesh}
 use Rattle.tables.specs.Lent.{meshNow}
 use Rattle.mesh.proofs.Refusing.{position-refused, position-carried, position-agrees}
@@ -34,7 +34,7 @@ returns-2 c =
     let at-if1 = c .before in
     let start = at-if1 .before .before .before .before .before in
     let m = mesh-of start in
-    ap (λ (p : Point). outcomeOf 0 0 0 0 (p .x, p .y, p .z) m []) (c .point-at .ensures (m .topology))
+    ap (λ (p : Point). outcomeOf (answerOf 0 0 0 0 (p .x, p .y, p .z) m) m noRoom) (c .point-at .ensures (m .topology))
     ∙ position-carried (start .args .v) m _ (at-if1 .before .position-refusal .ensures) (at-if1 .if1 .left)
 
 pub position-spec : {M : Type 1} → statement M

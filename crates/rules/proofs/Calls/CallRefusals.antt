@@ -2,7 +2,7 @@
 use mathlib.Core.Path.{_≡_, refl, sym, ap, _∙_, subst}
 use mathlib.Core.Logic.{_≢_}
 use mathlib.Core.Bool.{not}
-use mathlib.Core.List.{List, []}
+use mathlib.Core.List.{List}
 use Prim.Native.Nat.{ℕ, suc, _+_, _*_, _≤_, _<_, _%_, max}
 use native.Mathlib.Omega.{arith}
 use lib.ListN.{length}
@@ -12,7 +12,8 @@ use Rattle.rules.proofs.Chains.ChainEnd.{ends-at-boundary-is}
 use Rattle.rules.proofs.Numbers.Decide.{Decides, is-eq, is-lt, is-le, is-not, is-iff, stable, is-and, even-is}
 use Rattle.rules.proofs.Numbers.Decide.{is-all}
 use Rattle.rules.proofs.Numbers.Decide.{is-any}
-use Rattle.rules.proofs.Calls.FirstThatHolds.{Judged, first-if, first-unless, judged, judged-refusal}
+use Rattle.rules.proofs.Calls.FirstThatHolds.{Judged, carried, refused, first-if, first-unless, judged}
+use Rattle.rules.proofs.Calls.FirstThatHolds.{judged-refusal}
 use Rattle.rules.proofs.Calls.FirstThatHolds.{judged-refused}
 use Rattle.rules.proofs.Loads.Load.{fans-fit-is}
 use Rattle.rules.proofs.Chains.Refine.{chain-counts}
@@ -20,13 +21,15 @@ use Rattle.rules.proofs.Soundness.Relaxed.{sound-manifold, sound-bases}
 use Rattle.rules.proofs.Soundness.SoundTest.{tables-agree-is, sound-is}
 use Rattle.rules.specs.Below.{any}
 use Rattle.rules.specs.Cage.{Cage, cageOf, loaded}
-use Rattle.rules.specs.Calls.{outcomeOf, zeroPoint, worked, roomFor, splitsOf, closedEven, loadRefusal}
+use Rattle.rules.specs.Calls.{Room, noRoom, ringRoom, Outcome, refusedWith, worked, roomFor, splitsOf}
+use Rattle.rules.specs.Calls.{closedEven, loadRefusal}
 use Rattle.rules.specs.Calls.{refineRefusal, wholeStepRefusal, ringRefusal, positionRefusal, loadCall, refineCall}
 use Rattle.rules.specs.Calls.{wholeStepCall, ringRead, ringCall, positionRead, positionCall}
 use Rattle.rules.specs.Conditions.{EndsAtBoundary, OddInChain, atEven, atBoundary, onward, RoomFor, TooFewSlots}
 use Rattle.rules.specs.Conditions.{ClosedEven, First, none, LongRing, loadConditions, refineConditions}
 use Rattle.rules.specs.Conditions.{wholeStepConditions, ringConditions, positionConditions}
-use Rattle.rules.specs.History.{Call, loads, refines, steps, asksRing, asksPosition, outcome, lentBuffer}
+use Rattle.rules.specs.History.{loads, refines, steps, Question, ringOf, positionOf, asked, Call, changes, asks}
+use Rattle.rules.specs.History.{outcome, lent}
 use Rattle.rules.specs.Ring.{ring}
 use Rattle.rules.specs.Sound.{Sound}
 use Rattle.rules.specs.Split.{atFirst, chainEnd, chainOdd, refine}
@@ -142,51 +145,61 @@ position-refusal-first v m =
 -- ---- each call is refused, or its outcome is the one that the rules give
 
 pub load-judged : (bytes : List ℕ) (m : Mesh)
-    → Judged (loadRefusal bytes m) m [] (worked (atFirst (loaded (cageOf bytes) m))) (loadCall bytes m)
+    → Judged (loadRefusal bytes m) m noRoom (worked (atFirst (loaded (cageOf bytes) m))) (loadCall bytes m)
 unfolding loadCall
-load-judged bytes m = judged (loadRefusal bytes m) m [] (worked (atFirst (loaded (cageOf bytes) m)))
+load-judged bytes m = judged (loadRefusal bytes m) m noRoom (worked (atFirst (loaded (cageOf bytes) m)))
 
 pub refine-judged : (t : ℕ) (m : Mesh)
-    → Judged (refineRefusal t m) m [] (worked (refine t (atFirst m))) (refineCall t m)
+    → Judged (refineRefusal t m) m noRoom (worked (refine t (atFirst m))) (refineCall t m)
 unfolding refineCall
-refine-judged t m = judged (refineRefusal t m) m [] (worked (refine t (atFirst m)))
+refine-judged t m = judged (refineRefusal t m) m noRoom (worked (refine t (atFirst m)))
 
-pub whole-step-judged : (m : Mesh) → Judged (wholeStepRefusal m) m [] (worked (wholeStep m)) (wholeStepCall m)
+pub whole-step-judged : (m : Mesh) → Judged (wholeStepRefusal m) m noRoom (worked (wholeStep m)) (wholeStepCall m)
 unfolding wholeStepCall
-whole-step-judged m = judged (wholeStepRefusal m) m [] (worked (wholeStep m))
+whole-step-judged m = judged (wholeStepRefusal m) m noRoom (worked (wholeStep m))
 
 pub ring-judged : (v : ℕ) (buffer : List ℕ) (m : Mesh)
-    → Judged (ringRefusal v buffer m) m buffer (ringRead v buffer m) (ringCall v buffer m)
+    → Judged (ringRefusal v buffer m) m (ringRoom buffer) (ringRead v buffer m) (ringCall v buffer m)
 unfolding ringCall
-ring-judged v buffer m = judged (ringRefusal v buffer m) m buffer (ringRead v buffer m)
+ring-judged v buffer m = judged (ringRefusal v buffer m) m (ringRoom buffer) (ringRead v buffer m)
 
-pub position-judged : (v : ℕ) (m : Mesh) → Judged (positionRefusal v m) m [] (positionRead v m) (positionCall v m)
+pub position-judged : (v : ℕ) (m : Mesh) → Judged (positionRefusal v m) m noRoom (positionRead v m) (positionCall v m)
 unfolding positionCall
-position-judged v m = judged (positionRefusal v m) m [] (positionRead v m)
+position-judged v m = judged (positionRefusal v m) m noRoom (positionRead v m)
 
 -- ---- the number that a call returns
 
-pub load-refusal : (bytes : List ℕ) (m : Mesh) → First (loadConditions bytes m) (loadCall bytes m .refusal)
+pub load-refusal : (bytes : List ℕ) (m : Mesh) → First (loadConditions bytes m) (loadCall bytes m .answer .refusal)
 load-refusal bytes m = rw (judged-refusal refl (load-judged bytes m)) (load-refusal-first bytes m)
 
-pub refine-refusal : (t : ℕ) (m : Mesh) → First (refineConditions t m) (refineCall t m .refusal)
+pub refine-refusal : (t : ℕ) (m : Mesh) → First (refineConditions t m) (refineCall t m .answer .refusal)
 refine-refusal t m = rw (judged-refusal refl (refine-judged t m)) (refine-refusal-first t m)
 
-pub whole-step-refusal : (m : Mesh) → First (wholeStepConditions m) (wholeStepCall m .refusal)
+pub whole-step-refusal : (m : Mesh) → First (wholeStepConditions m) (wholeStepCall m .answer .refusal)
 whole-step-refusal m = rw (judged-refusal refl (whole-step-judged m)) (whole-step-refusal-first m)
 
 pub ring-refusal : (v : ℕ) (buffer : List ℕ) (m : Mesh)
-    → First (ringConditions v buffer m) (ringCall v buffer m .refusal)
+    → First (ringConditions v buffer m) (ringCall v buffer m .answer .refusal)
 ring-refusal v buffer m = rw (judged-refusal refl (ring-judged v buffer m)) (ring-refusal-first v buffer m)
 
-pub position-refusal : (v : ℕ) (m : Mesh) → First (positionConditions v m) (positionCall v m .refusal)
+pub position-refusal : (v : ℕ) (m : Mesh) → First (positionConditions v m) (positionCall v m .answer .refusal)
 position-refusal v m = rw (judged-refusal refl (position-judged v m)) (position-refusal-first v m)
 
 -- A refused call leaves what it is lent.
-pub refused-leaves : (c : Call) (m : Mesh) → outcome c m .refusal ≢ 0
-    → outcome c m ≡ outcomeOf (outcome c m .refusal) 0 0 0 zeroPoint m (lentBuffer c)
-refused-leaves (loads bytes) m = judged-refused refl (load-judged bytes m)
-refused-leaves (refines t) m = judged-refused refl (refine-judged t m)
-refused-leaves steps m = judged-refused refl (whole-step-judged m)
-refused-leaves (asksRing v buffer) m = judged-refused refl (ring-judged v buffer m)
-refused-leaves (asksPosition v) m = judged-refused refl (position-judged v m)
+pub refused-leaves : (c : Call) (m : Mesh) → outcome c m .answer .refusal ≢ 0
+    → outcome c m ≡ refusedWith (outcome c m .answer .refusal) m (lent c)
+refused-leaves (changes (loads bytes)) m = judged-refused refl (load-judged bytes m)
+refused-leaves (changes (refines t)) m = judged-refused refl (refine-judged t m)
+refused-leaves (changes steps) m = judged-refused refl (whole-step-judged m)
+refused-leaves (asks (ringOf v buffer)) m = judged-refused refl (ring-judged v buffer m)
+refused-leaves (asks (positionOf v)) m = judged-refused refl (position-judged v m)
+
+-- A question leaves the mesh.
+judged-stands : {n : ℕ} {m : Mesh} {room : Room} {success o : Outcome} → success .mesh ≡ m
+    → Judged n m room success o → o .mesh ≡ m
+judged-stands e (carried z) = e
+judged-stands e (refused z) = refl
+
+pub question-stands : (q : Question) (m : Mesh) → asked q m .mesh ≡ m
+question-stands (ringOf v buffer) m = judged-stands refl (ring-judged v buffer m)
+question-stands (positionOf v) m = judged-stands refl (position-judged v m)

@@ -7,7 +7,7 @@ use Prim.Native.Nat.{ℕ, zero, suc, _<_}
 use native.Mathlib.Omega.{arith}
 use lib.Dec.{T, ltb}
 use Rattle.rules.proofs.Numbers.Decide.{Decides, is-self, is-lt, is-not, stable, is-and}
-use Rattle.rules.specs.Calls.{Outcome, outcomeOf, zeroPoint, unless}
+use Rattle.rules.specs.Calls.{Room, Outcome, refusedWith, unless}
 use Rattle.rules.specs.Conditions.{Condition, _when_, First, this, later, none}
 use Rattle.rules.specs.Tables.{Mesh}
 
@@ -49,40 +49,40 @@ none-hold (later {n} {rest = rest} q f) z t = (q, none-hold f z (positive-both n
 
 -- ---- what a refusal leaves
 
--- The call that m and the buffer are lent to either is refused, or its outcome is `success`.
-pub data Judged (n : ℕ) (m : Mesh) (buffer : List ℕ) (success : Outcome) : Outcome → Type 0 where
-  carried : n ≡ 0 → Judged n m buffer success success
-  refused : n ≢ 0 → Judged n m buffer success (outcomeOf n 0 0 0 zeroPoint m buffer)
+-- The call that m and this room are lent to either is refused, or its outcome is `success`.
+pub data Judged (n : ℕ) (m : Mesh) (room : Room) (success : Outcome) : Outcome → Type 0 where
+  carried : n ≡ 0 → Judged n m room success success
+  refused : n ≢ 0 → Judged n m room success (refusedWith n m room)
 
-pub judged : (n : ℕ) (m : Mesh) (buffer : List ℕ) (success : Outcome)
-    → Judged n m buffer success (unless n m buffer success)
-judged zero m buffer success = carried refl
-judged (suc n) m buffer success = refused (λ e. omega arith)
+pub judged : (n : ℕ) (m : Mesh) (room : Room) (success : Outcome)
+    → Judged n m room success (unless n m room success)
+judged zero m room success = carried refl
+judged (suc n) m room success = refused (λ e. omega arith)
 
-pub judged-refusal : {n : ℕ} {m : Mesh} {buffer : List ℕ} {success o : Outcome} → success .refusal ≡ 0
-    → Judged n m buffer success o → o .refusal ≡ n
+pub judged-refusal : {n : ℕ} {m : Mesh} {room : Room} {success o : Outcome} → success .answer .refusal ≡ 0
+    → Judged n m room success o → o .answer .refusal ≡ n
 judged-refusal z (carried e) = z ∙ sym e
 judged-refusal z (refused e) = refl
 
-pub judged-refused : {n : ℕ} {m : Mesh} {buffer : List ℕ} {success o : Outcome} → success .refusal ≡ 0
-    → Judged n m buffer success o
-    → o .refusal ≢ 0 → o ≡ outcomeOf (o .refusal) 0 0 0 zeroPoint m buffer
+pub judged-refused : {n : ℕ} {m : Mesh} {room : Room} {success o : Outcome} → success .answer .refusal ≡ 0
+    → Judged n m room success o
+    → o .answer .refusal ≢ 0 → o ≡ refusedWith (o .answer .refusal) m room
 judged-refused z (carried e) r = absurd (r z)
 judged-refused z (refused e) r = refl
 
-pub judged-carried : {n : ℕ} {m : Mesh} {buffer : List ℕ} {success o : Outcome} → Judged n m buffer success o
-    → o .refusal ≡ 0 → (n ≡ 0) × (o ≡ success)
+pub judged-carried : {n : ℕ} {m : Mesh} {room : Room} {success o : Outcome} → Judged n m room success o
+    → o .answer .refusal ≡ 0 → (n ≡ 0) × (o ≡ success)
 judged-carried (carried e) r = (e, refl)
 judged-carried (refused e) r = absurd (e r)
 
 -- The outcome of a call whose refusal n was found to be r.
-module _ (m : Mesh) (buffer : List ℕ) (success : Outcome) (n r : ℕ) (e : r ≡ n) where
-  pub refuses : r ≢ 0 → outcomeOf r 0 0 0 zeroPoint m buffer ≡ unless n m buffer success
-  refuses x = go (judged n m buffer success)
+module _ (m : Mesh) (room : Room) (success : Outcome) (n r : ℕ) (e : r ≡ n) where
+  pub refuses : r ≢ 0 → refusedWith r m room ≡ unless n m room success
+  refuses x = go (judged n m room success)
     where
-      go : {o : Outcome} → Judged n m buffer success o → outcomeOf r 0 0 0 zeroPoint m buffer ≡ o
+      go : {o : Outcome} → Judged n m room success o → refusedWith r m room ≡ o
       go (carried z) = absurd (x (e ∙ z))
-      go (refused z) = ap (λ (k : ℕ). outcomeOf k 0 0 0 zeroPoint m buffer) e
+      go (refused z) = ap (λ (k : ℕ). refusedWith k m room) e
 
-  pub carries : r ≡ 0 → success ≡ unless n m buffer success
-  carries z = ap (λ (k : ℕ). unless k m buffer success) (sym z ∙ e)
+  pub carries : r ≡ 0 → success ≡ unless n m room success
+  carries z = ap (λ (k : ℕ). unless k m room success) (sym z ∙ e)

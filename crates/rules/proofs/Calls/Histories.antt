@@ -10,8 +10,7 @@ use lib.IntN.{pos, _+ℤ_, _-ℤ_}
 use borrow.Author.Tests.{ne-eqb}
 use Rattle.rules.proofs.Splits.Bases.{reached}
 use Rattle.rules.proofs.Loads.CageEdges.{load-characteristic}
-use Rattle.rules.proofs.Calls.CallRefusals.{load-judged, refine-judged, whole-step-judged, ring-judged}
-use Rattle.rules.proofs.Calls.CallRefusals.{position-judged}
+use Rattle.rules.proofs.Calls.CallRefusals.{load-judged, refine-judged, whole-step-judged, question-stands}
 use Rattle.rules.proofs.Calls.Carried.{LoadFound, RefineFound, load-found, refine-found, found-refined}
 use Rattle.rules.proofs.Calls.Carried.{step-found}
 use Rattle.rules.proofs.Calls.Carried.{found-step}
@@ -24,9 +23,9 @@ use Rattle.rules.proofs.Soundness.Relaxed.{sound-manifold}
 use Rattle.rules.proofs.Splits.SplitRead.{mutual-links}
 use Rattle.rules.specs.Below.{all}
 use Rattle.rules.specs.Cage.{cageOf, loaded}
-use Rattle.rules.specs.Calls.{Outcome, worked, loadRefusal, refineCall}
+use Rattle.rules.specs.Calls.{Room, noRoom, Outcome, worked, loadRefusal, refineCall}
 use Rattle.rules.specs.Conditions.{OddInChain, atEven, atBoundary, onward}
-use Rattle.rules.specs.History.{Near, ReportsSplits, Kept, Call, loads, refines, steps, asksRing, asksPosition}
+use Rattle.rules.specs.History.{Near, ReportsSplits, Kept, loads, refines, steps, Call, changes, asks}
 use Rattle.rules.specs.History.{LastLoad, nothing, cage, outcome, after, opens, lastLoad, edges, characteristic}
 use Rattle.rules.specs.History.{cageCharacteristic, EveryHistory}
 use Rattle.rules.specs.Promises.{StepMakes}
@@ -83,7 +82,7 @@ holds-on nothing S h = tt
 holds-on (cage bytes) S h = record { sound = S .sound; euler = S .euler ∙ h .euler }
 
 -- A call that is refused leaves the mesh, and one that is carried out makes one that stays.
-judged-keeps : {n : ℕ} {m : Mesh} {buffer : List ℕ} {success o : Outcome} (a : LastLoad) → Judged n m buffer success o
+judged-keeps : {n : ℕ} {m : Mesh} {room : Room} {success o : Outcome} (a : LastLoad) → Judged n m room success o
     → (n ≡ 0 → Holds a m → Holds a (success .mesh)) → Holds a m → Holds a (o .mesh)
 judged-keeps a (carried z) f h = f z h
 judged-keeps a (refused z) f h = h
@@ -99,24 +98,23 @@ loaded-good bytes m L = record {
 }
 
 load-holds : (bytes : List ℕ) (m : Mesh) (a : LastLoad) {o : Outcome}
-    → Judged (loadRefusal bytes m) m [] (worked (atFirst (loaded (cageOf bytes) m))) o
-    → Holds a m → Holds (elim (eqb (o .refusal) 0) [ true ↦ cage bytes | false ↦ a ]) (o .mesh)
+    → Judged (loadRefusal bytes m) m noRoom (worked (atFirst (loaded (cageOf bytes) m))) o
+    → Holds a m → Holds (elim (eqb (o .answer .refusal) 0) [ true ↦ cage bytes | false ↦ a ]) (o .mesh)
 load-holds bytes m a (carried z) h = loaded-good bytes m (load-found bytes m z)
 load-holds bytes m a (refused z) h = rw (ne-eqb (loadRefusal bytes m) 0 z) h
 
 -- ---- the calls
 
 pub keeps : (c : Call) (m : Mesh) → Keeps c m
-keeps (loads bytes) m = record { holds = λ a. load-holds bytes m a (load-judged bytes m) }
-keeps (refines t) m = record {
+keeps (changes (loads bytes)) m = record { holds = λ a. load-holds bytes m a (load-judged bytes m) }
+keeps (changes (refines t)) m = record {
   holds = λ a.
       judged-keeps a (refine-judged t m) (λ z. holds-on a (refined-stays (found-refined (refine-found t m z))));
 }
-keeps steps m = record {
+keeps (changes steps) m = record {
   holds = λ a. judged-keeps a (whole-step-judged m) (λ z. holds-on a (step-stays (found-step (step-found m z))));
 }
-keeps (asksRing v buffer) m = record { holds = λ a. judged-keeps a (ring-judged v buffer m) (λ z h. h) }
-keeps (asksPosition v) m = record { holds = λ a. judged-keeps a (position-judged v m) (λ z h. h) }
+keeps (asks q) m = record { holds = λ a. subst (Holds a) (sym (question-stands q m)) }
 
 history-holds : (calls : List Call) (m : Mesh) (o : LastLoad) → Holds o m → Holds (lastLoad calls m o) (after calls m)
 unfolding lastLoad after
@@ -158,7 +156,7 @@ found-refines t m F =
       made = omega (arith, R .triangles, R .splits);
     }
 
-pub carried-refines : (t : ℕ) (m : Mesh) → refineCall t m .refusal ≡ 0 → ReportsSplits m t (refineCall t m)
+pub carried-refines : (t : ℕ) (m : Mesh) → refineCall t m .answer .refusal ≡ 0 → ReportsSplits m t (refineCall t m)
 carried-refines t m z =
     let x = judged-carried (refine-judged t m) z in
     subst (ReportsSplits m t) (sym (x .1)) (found-refines t m (refine-found t m (x .0)))

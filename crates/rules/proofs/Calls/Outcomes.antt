@@ -28,7 +28,7 @@ use Rattle.rules.specs.Tables.{Mesh, boundary, link, generation}
 
 -- ---- load
 
-pub load-makes : (bytes : List ℕ) (m : Mesh) → loadCall bytes m .refusal ≡ 0
+pub load-makes : (bytes : List ℕ) (m : Mesh) → loadCall bytes m .answer .refusal ≡ 0
     → (loadCall bytes m ≡ worked (atFirst (loaded (cageOf bytes) m)))
     × Loaded (cageOf bytes) m (loaded (cageOf bytes) m)
 unfolding loaded
@@ -66,7 +66,7 @@ load-makes bytes m z =
 
 -- ---- refine
 
-pub refine-makes : (t : ℕ) (m : Mesh) → refineCall t m .refusal ≡ 0
+pub refine-makes : (t : ℕ) (m : Mesh) → refineCall t m .answer .refusal ≡ 0
     → (refineCall t m ≡ worked (refine t (atFirst m))) × RefineMakes t m (refine t (atFirst m))
 refine-makes t m z =
     let x = judged-carried (refine-judged t m) z in
@@ -106,7 +106,7 @@ chain-falls m S t l o n =
     let f = falls (m .topology) (sound-manifold S) (sound-bases S) t l o n in
     record { inUse = f .0; toOdd = λ q. omega (arith, f .1); toEven = λ q. omega (arith, f .1) }
 
-pub refine-is-split : (t n : ℕ) (m : Mesh) → refineCall t m .refusal ≡ 0 → generation (m .topology) t < n
+pub refine-is-split : (t n : ℕ) (m : Mesh) → refineCall t m .answer .refusal ≡ 0 → generation (m .topology) t < n
     → refine t (atFirst m) ≡ kobbelt n t (atFirst m)
 refine-is-split t n m z i =
     let F = refine-found t m (judged-carried (refine-judged t m) z .0) in
@@ -114,7 +114,7 @@ refine-is-split t n m z i =
 
 -- ---- whole step
 
-pub whole-step-makes : (m : Mesh) → wholeStepCall m .refusal ≡ 0
+pub whole-step-makes : (m : Mesh) → wholeStepCall m .answer .refusal ≡ 0
     → (wholeStepCall m ≡ worked (wholeStep m)) × StepMakes (generation (m .topology) 0) m (wholeStep m)
 whole-step-makes m z =
     let x = judged-carried (whole-step-judged m) z in
@@ -126,11 +126,11 @@ whole-step-makes m z =
 
 -- ---- queries
 
-pub ring-reads : (v : ℕ) (buffer : List ℕ) (m : Mesh) → ringCall v buffer m .refusal ≡ 0
+pub ring-reads : (v : ℕ) (buffer : List ℕ) (m : Mesh) → ringCall v buffer m .answer .refusal ≡ 0
     → ringCall v buffer m ≡ ringRead v buffer m
 ring-reads v buffer m z = judged-carried (ring-judged v buffer m) z .1
 
-pub position-reads : (v : ℕ) (m : Mesh) → positionCall v m .refusal ≡ 0 → positionCall v m ≡ positionRead v m
+pub position-reads : (v : ℕ) (m : Mesh) → positionCall v m .answer .refusal ≡ 0 → positionCall v m ≡ positionRead v m
 position-reads v m z = judged-carried (position-judged v m) z .1
 
 -- ---- numbers

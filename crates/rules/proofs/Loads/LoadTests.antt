@@ -6,7 +6,7 @@ use mathlib.Core.List.{List, [], _∷_}
 use Prim.Native.Nat.{ℕ}
 use Rattle.rules.proofs.Calls.FirstThatHolds.{refuses, carries}
 use Rattle.rules.specs.Cage.{cageOf, loaded, sizesFit, cornersFit, coordinatesFit, sidesDiffer, fansFit}
-use Rattle.rules.specs.Calls.{Outcome, loadRefusal, loadCall, _if_, firstOf, worked}
+use Rattle.rules.specs.Calls.{noRoom, Outcome, loadRefusal, loadCall, _if_, firstOf, worked}
 use Rattle.rules.specs.Split.{atFirst}
 use Rattle.rules.specs.Tables.{Mesh, tablesAgree}
 
@@ -19,15 +19,15 @@ module _ (bytes : List ℕ) (m : Mesh) where
   load-by-tests a s k r d f = rw (loadRefusal, a, s, k, r, d, f)
 
   pub load-refused : {n : ℕ} → n ≡ loadRefusal bytes m → n ≢ 0
-      → (n ≡ loadCall bytes m .refusal) × (m ≡ loadCall bytes m .mesh)
+      → (n ≡ loadCall bytes m .answer .refusal) × (m ≡ loadCall bytes m .mesh)
   unfolding loadCall
   load-refused {n} e z =
-      let q = refuses m [] (worked (atFirst (loaded (cageOf bytes) m))) (loadRefusal bytes m) n e z in
-      (ap (λ (o : Outcome). o .refusal) q, ap (λ (o : Outcome). o .mesh) q)
+      let q = refuses m noRoom (worked (atFirst (loaded (cageOf bytes) m))) (loadRefusal bytes m) n e z in
+      (ap (λ (o : Outcome). o .answer .refusal) q, ap (λ (o : Outcome). o .mesh) q)
 
   pub load-carried : {n : Mesh} → 0 ≡ loadRefusal bytes m → n ≡ loaded (cageOf bytes) m
-      → (0 ≡ loadCall bytes m .refusal) × (n ≡ loadCall bytes m .mesh)
+      → (0 ≡ loadCall bytes m .answer .refusal) × (n ≡ loadCall bytes m .mesh)
   unfolding loadCall
   load-carried e l =
-      let q = carries m [] (worked (atFirst (loaded (cageOf bytes) m))) (loadRefusal bytes m) 0 e refl in
-      (ap (λ (o : Outcome). o .refusal) q, l ∙ ap (λ (o : Outcome). o .mesh) q)
+      let q = carries m noRoom (worked (atFirst (loaded (cageOf bytes) m))) (loadRefusal bytes m) 0 e refl in
+      (ap (λ (o : Outcome). o .answer .refusal) q, l ∙ ap (λ (o : Outcome). o .mesh) q)

@@ -10,7 +10,7 @@ use Rattle.rules.proofs.Numbers.Decide.{is-true, is-same}
 use Rattle.rules.proofs.Calls.FirstThatHolds.{refuses, carries}
 use Rattle.rules.proofs.Soundness.SoundTest.{tables-agree-is, sound-is}
 use Rattle.rules.specs.Below.{any}
-use Rattle.rules.specs.Calls.{outcomeOf, zeroPoint, worked, roomFor, closedEven, wholeStepRefusal, wholeStepCall}
+use Rattle.rules.specs.Calls.{noRoom, refusedWith, worked, roomFor, closedEven, wholeStepRefusal, wholeStepCall}
 use Rattle.rules.specs.Calls.{_if_, firstOf}
 use Rattle.rules.specs.Ring.{ring}
 use Rattle.rules.specs.Sound.{Sound, isSound}
@@ -32,10 +32,10 @@ step-by-tests {m} S c g r s =
     rw (wholeStepRefusal, agree, sound, c, g, r, s)
 
 pub step-refused : (m : Mesh) (n : ℕ) → n ≡ wholeStepRefusal m → n ≢ 0
-    → outcomeOf n 0 0 0 zeroPoint m [] ≡ wholeStepCall m
+    → refusedWith n m noRoom ≡ wholeStepCall m
 unfolding wholeStepCall
-step-refused m n e = refuses m [] (worked (wholeStep m)) (wholeStepRefusal m) n e
+step-refused m n e = refuses m noRoom (worked (wholeStep m)) (wholeStepRefusal m) n e
 
 pub step-carried : (m : Mesh) → 0 ≡ wholeStepRefusal m → worked (wholeStep m) ≡ wholeStepCall m
 unfolding wholeStepCall
-step-carried m e = carries m [] (worked (wholeStep m)) (wholeStepRefusal m) 0 e refl
+step-carried m e = carries m noRoom (worked (wholeStep m)) (wholeStepRefusal m) 0 e refl

@@ -1,19 +1,30 @@
--- `mesh::refine` meets its contract.
-use borrow.Author.Needs.{needs}
+-- `mesh::refine_known` meets its contract.
 use mathlib.Core.Path.{_≡_, sym, ap, _∙_}
 use Rattle.rules.proofs.Calls.Carried.{refine-found}
 use Rattle.rules.specs.Calls.{worked, refineRefusal}
 use Rattle.rules.specs.Tables.{Mesh}
 use Rattle.tables.specs.Lent.{meshNow}
 use Rattle.split.specs.Made.{BaseChain}
-use Rattle.mesh.proofs.Refusing.{refine-triangle, refine-chain, refine-young, refine-refused, refine-carried}
-use Rattle.mesh.proofs.refine.Statement.{statement}
-use Rattle.mesh.proofs.refine.Tie as tie
+use Rattle.mesh.proofs.Refusing.{triangleRefusal, refine-triangle, refine-chain, refine-young, refine-refused}
+use Rattle.mesh.proofs.Refusing.{refine-carried}
+use borrow.Author.Needs.{needs}
+use Rattle.mesh.proofs.refine_known.Statement.{statement}
+use Rattle.mesh.proofs.refine_known.Tie as tie
 
 abbrev mesh-of : tie.Start → Mesh
 mesh-of c =
     let args = c .args in
     meshNow (args .counts) (args .positions .now) (args .corners .now) (args .links .now) (args .generations .now)
+
+-- With the triangle tested.
+abbrev start-of : tie.Else1 → tie.Start
+start-of c = c .before .before .before .before .before .before
+
+triangle-is : (c : tie.Else1) → c .before .triangle-refusal .result ≡ triangleRefusal (start-of c .args .t) (mesh-of (start-of c))
+triangle-is c =
+    let args = start-of c .args in
+    c .before .triangle-refusal .ensures (args .positions .now) (args .corners .now) (args .links .now)
+    (start-of c .pre)
 
 -- With the base chain tested.
 module _ (c : tie.After-chain-refusal) where
@@ -24,14 +35,14 @@ module _ (c : tie.After-chain-refusal) where
   at-if1 = at-chain .before .before .before
 
   abbrev start : tie.Start
-  start = at-if1 .before .before .before .before .before .before .before .before .before
+  start = start-of at-if1
 
   chain-is : BaseChain (mesh-of start .topology) (start .args .t) (at-chain .base-chain .result)
   chain-is = at-chain .base-chain .ensures (start .args .counts) (start .args .corners .now)
 
   refusal-is : c .chain-refusal .result ≡ refineRefusal (start .args .t) (mesh-of start)
   refusal-is =
-      refine-chain (start .args .t) (mesh-of start) _ (at-if1 .before .triangle-refusal .ensures) (at-if1 .if1 .left) _
+      refine-chain (start .args .t) (mesh-of start) _ (triangle-is at-if1) (at-if1 .if1 .left) _
       (rw (← chain-is .odd, ← chain-is .end)
       (c .chain-refusal .ensures (start .args .corners .now) (start .args .links .now)))
 
@@ -40,6 +51,25 @@ triangle-refusal-requires c κs = search needs
 
 same-length : tie.Need-same-length
 same-length c = search needs
+
+returns : tie.Need-returns
+returns c =
+    let at = c .before in
+    let start = at .before .before .before .before .before in
+    refine-refused (start .args .t) (mesh-of start) _
+    (refine-triangle (start .args .t) (mesh-of start) _
+    (at .triangle-refusal .ensures (start .args .positions .now) (start .args .corners .now) (start .args .links .now)
+    (start .pre)) (c .if1 .taken))
+    (c .if1 .taken)
+
+base-chain-requires : tie.Need-base-chain-requires
+base-chain-requires c κs =
+    let at-if1 = c .before .before in
+    let start = at-if1 .before .before .before .before .before .before in
+    refine-young (start .args .t) (mesh-of start) _ (triangle-is at-if1) (at-if1 .if1 .left)
+
+chain-refusal-requires : tie.Need-chain-refusal-requires
+chain-refusal-requires c κs = search needs
 
 same-length-2 : tie.Need-same-length-2
 same-length-2 c = search needs
@@ -50,22 +80,16 @@ same-length-3 c = search needs
 same-length-4 : tie.Need-same-length-4
 same-length-4 c = search needs
 
-returns : tie.Need-returns
-returns c =
+returns-2 : tie.Need-returns-2
+returns-2 c =
     let at = c .before in
-    let start = at .before .before .before .before .before .before .before .before in
-    refine-refused (start .args .t) (mesh-of start) _
-    (refine-triangle (start .args .t) (mesh-of start) _ (at .triangle-refusal .ensures) (c .if1 .taken))
-    (c .if1 .taken)
+    refine-refused (start at .args .t) (mesh-of (start at)) _ (refusal-is at) (c .if2 .taken)
 
-base-chain-requires : tie.Need-base-chain-requires
-base-chain-requires c κs =
-    let at-if1 = c .before .before in
-    let start = at-if1 .before .before .before .before .before .before .before .before .before in
-    refine-young (start .args .t) (mesh-of start) _ (at-if1 .before .triangle-refusal .ensures) (at-if1 .if1 .left)
-
-chain-refusal-requires : tie.Need-chain-refusal-requires
-chain-refusal-requires c κs = search needs
+refine-requires : tie.Need-refine-requires
+refine-requires c κs =
+    let at-if2 = c .before .before .before .before in
+    let at = at-if2 .before in
+    (refine-found (start at .args .t) (mesh-of (start at)) (sym (refusal-is at) ∙ at-if2 .if2 .left), chain-is at)
 
 same-length-5 : tie.Need-same-length-5
 same-length-5 c = search needs
@@ -79,29 +103,6 @@ same-length-7 c = search needs
 same-length-8 : tie.Need-same-length-8
 same-length-8 c = search needs
 
-returns-2 : tie.Need-returns-2
-returns-2 c =
-    let at = c .before in
-    refine-refused (start at .args .t) (mesh-of (start at)) _ (refusal-is at) (c .if2 .taken)
-
-refine-requires : tie.Need-refine-requires
-refine-requires c κs =
-    let at-if2 = c .before .before .before .before in
-    let at = at-if2 .before in
-    (refine-found (start at .args .t) (mesh-of (start at)) (sym (refusal-is at) ∙ at-if2 .if2 .left), chain-is at)
-
-same-length-9 : tie.Need-same-length-9
-same-length-9 c = search needs
-
-same-length-10 : tie.Need-same-length-10
-same-length-10 c = search needs
-
-same-length-11 : tie.Need-same-length-11
-same-length-11 c = search needs
-
-same-length-12 : tie.Need-same-length-12
-same-length-12 c = search needs
-
 returns-3 : tie.Need-returns-3
 returns-3 c =
     let at-refine = c .before .before .before .before .before .before .before in
@@ -110,26 +111,22 @@ returns-3 c =
     ap worked (at-refine .refine .ensures)
     ∙ refine-carried (start at .args .t) (mesh-of (start at)) _ (refusal-is at) (at-if2 .if2 .left)
 
-pub refine-spec : {M : Type 1} → statement M
-refine-spec =
+pub refine-known-spec : {M : Type 1} → statement M
+refine-known-spec =
     tie.close
     (tie.spec
     triangle-refusal-requires
     same-length
-    same-length-2
-    same-length-3
-    same-length-4
     returns
     base-chain-requires
     chain-refusal-requires
+    same-length-2
+    same-length-3
+    same-length-4
+    returns-2
+    refine-requires
     same-length-5
     same-length-6
     same-length-7
     same-length-8
-    returns-2
-    refine-requires
-    same-length-9
-    same-length-10
-    same-length-11
-    same-length-12
     returns-3)
