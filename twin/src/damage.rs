@@ -1,11 +1,10 @@
-//! Damaged tables: single entries overwritten, counts and lengths off, and damage that leaves the links mutual.
+//! Damaged tables: single entries overwritten, counts and lengths off.
 
 use crate::bench::{Bench, Outcome};
 use crate::cages;
 use crate::calls;
 use crate::handmade;
 use crate::rng::Rng;
-use crate::surgery::damaged_store;
 use crate::tables::{BOUNDARY, Call, Counts, FARTHEST, Service, Store};
 use crate::twin::Twin;
 
@@ -148,17 +147,6 @@ fn compare_lengths(bench: &mut Bench, store: &Store, lengths: [usize; 4], rng: &
     let load = Call::Load { cage: cages::strip(2).bytes() };
     for call in calls::one_of_each(&changed, rng).iter().chain([&load]) {
         bench.compare_only(&changed, call)?;
-    }
-    Ok(())
-}
-
-/// Random damage to random tables that leaves most of them in order, one or two at a time.
-pub fn random_damage(bench: &mut Bench, rounds: usize, rng: &mut Rng) -> Outcome {
-    for _ in 0..rounds {
-        let store = damaged_store(rng);
-        for call in calls::one_of_each(&store, rng) {
-            bench.compare_only(&store, &call)?;
-        }
     }
     Ok(())
 }

@@ -105,6 +105,11 @@ impl Answer {
     }
 }
 
+/// Refuses with a number where its condition holds.
+pub fn refuse_unless(good: bool, number: u32) -> Result<(), u32> {
+    if good { Ok(()) } else { Err(number) }
+}
+
 /// A service that answers the five calls: the twin, a broken twin, or the library under test.
 pub trait Service {
     fn name(&self) -> String;

@@ -7,13 +7,8 @@ use crate::smooth::{LONGEST_RING, whole_step};
 use crate::sound::is_sound;
 use crate::tables::{
     Answer, Call, Counts, LAST_GENERATION, MOST_TRIANGLE_SLOTS, MOST_VERTEX_SLOTS, PositionRead, RingRead, Service,
-    Tables, Worked,
+    Tables, Worked, refuse_unless,
 };
-
-/// Refuses with a number where its condition holds.
-pub fn refuse_unless(good: bool, number: u32) -> Result<(), u32> {
-    if good { Ok(()) } else { Err(number) }
-}
 
 /// The rules of document 01, with one seeded fault or none.
 pub struct Twin {
