@@ -48,7 +48,7 @@ fn count(met: &mut [u64], index: usize) {
 impl Coverage {
     /// Notes a call on the tables as they were before it, and its answer.
     pub fn note(&mut self, before: &Store, call: &Call, answer: &Answer) {
-        let refusal = answer.refusal() as usize;
+        let refusal = answer.refusal as usize;
         count(&mut self.answers[row(call)], refusal);
         match (call, refusal) {
             (&Call::Refine { triangle }, 0) => self.note_refine(before, triangle as usize),

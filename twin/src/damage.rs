@@ -15,8 +15,7 @@ pub fn refined(cage: &cages::Cage, requests: &[u32], spare: usize, rng: &mut Rng
     let load = Call::Load { cage: cage.bytes() };
     let refines = requests.iter().map(|&triangle| Call::Refine { triangle });
     for call in std::iter::once(load).chain(refines) {
-        let answer = Twin::UNBROKEN.answer(&mut store.tables, store.counts, &call).expect("the twin stays inside");
-        store.counts = answer.counts();
+        Twin::UNBROKEN.answer(&mut store, &call).expect("the twin stays inside");
     }
     let (vertices, triangles) = (store.counts.vertices as usize, store.counts.triangles as usize);
     store.tables.positions.truncate(3 * (vertices + spare));
@@ -85,7 +84,7 @@ pub fn single_entries(bench: &mut Bench, rng: &mut Rng) -> Outcome {
 fn compare_damaged(bench: &mut Bench, store: &Store, rng: &mut Rng, damage: impl Fn(&mut Store)) -> Outcome {
     let mut damaged = store.clone();
     damage(&mut damaged);
-    for call in calls::one_of_each(&damaged, rng) {
+    for call in calls::one_of_each(&mut damaged, rng) {
         bench.compare_only(&damaged, &call)?;
     }
     Ok(())
@@ -102,8 +101,8 @@ pub fn counts(bench: &mut Bench, rng: &mut Rng) -> Outcome {
         for vertices in near(store.counts.vertices, store.vertex_slots()) {
             for triangles in near(store.counts.triangles, store.triangle_slots()) {
                 let counts = Counts { vertices, triangles };
-                let damaged = Store { counts, ..store.clone() };
-                for call in calls::one_of_each(&damaged, rng) {
+                let mut damaged = Store { counts, ..store.clone() };
+                for call in calls::one_of_each(&mut damaged, rng) {
                     bench.compare_only(&damaged, &call)?;
                 }
             }
@@ -145,7 +144,7 @@ fn compare_lengths(bench: &mut Bench, store: &Store, lengths: [usize; 4], rng: &
     changed.tables.links.resize(lengths[2], 7);
     changed.tables.generations.resize(lengths[3], 8);
     let load = Call::Load { cage: cages::strip(2).bytes() };
-    for call in calls::one_of_each(&changed, rng).iter().chain([&load]) {
+    for call in calls::one_of_each(&mut changed, rng).iter().chain([&load]) {
         bench.compare_only(&changed, call)?;
     }
     Ok(())

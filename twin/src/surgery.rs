@@ -127,8 +127,8 @@ fn turn(store: &mut Store, slot: usize) {
 /// Random damage to random tables that leaves most of them in order, one or two at a time.
 pub fn random_damage(bench: &mut Bench, rounds: usize, rng: &mut Rng) -> Outcome {
     for _ in 0..rounds {
-        let store = damaged_store(rng);
-        for call in calls::one_of_each(&store, rng) {
+        let mut store = damaged_store(rng);
+        for call in calls::one_of_each(&mut store, rng) {
             bench.compare_only(&store, &call)?;
         }
     }
