@@ -9,7 +9,7 @@ use crate::{damage, examples, handmade, histories, malformed, surgery, unsound};
 type Part = fn(&mut Bench, &mut Rng) -> Outcome;
 
 /// All parts of one run, in order; each has its own random numbers.
-const PARTS: [(&str, Part); 20] = [
+const PARTS: &[(&str, Part)] = &[
     ("examples of the papers", examples::run),
     ("cages with sets of faults", malformed::sets_of_faults),
     ("cages of all lengths", malformed::lengths_and_slots),

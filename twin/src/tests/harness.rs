@@ -102,7 +102,7 @@ fn claims_tell_broken_tables() {
 #[test]
 fn every_seeded_fault_is_caught() {
     let unbroken = Twin::UNBROKEN;
-    for (fault, meaning) in Fault::ALL {
+    for &(fault, meaning) in Fault::ALL {
         let twin = Twin { fault: Seeded(Some(fault)) };
         let outcome = parts::run_all(&mut Bench::new(&twin, &unbroken), 1, false);
         assert!(outcome.is_err(), "{meaning}");
