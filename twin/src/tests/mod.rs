@@ -4,3 +4,4 @@ mod harness;
 mod modules;
 mod plain_sound;
 mod rules;
+mod version;
