@@ -13,7 +13,7 @@ pub const FARTHEST: i32 = 16_777_216;
 /// The greatest generation.
 pub const LAST_GENERATION: u8 = 20;
 
-/// What a caller lends: three positions to a vertex slot; three corners, three links and a generation to a triangle slot.
+/// The lent tables: three positions to a vertex slot; three corners, three links and a generation to a triangle slot.
 #[derive(Clone, Debug, Default, PartialEq, Eq)]
 pub struct Tables {
     pub positions: Vec<i32>,
