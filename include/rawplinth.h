@@ -12,6 +12,9 @@
 extern "C" {
 #endif
 
+/* Raised by every change of a signature, a struct or an answer; docs/changes/README.md has a line for each. */
+#define RAWPLINTH_VERSION 1
+
 /* What a side without a partner links to. */
 #define RAWPLINTH_BOUNDARY UINT32_C(4294967295)
 

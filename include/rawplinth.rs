@@ -1,6 +1,10 @@
 //! The calls for Rust, as `rawplinth.h` declares and describes them for C. A program takes this file in by
 //! `#[path = ".."] mod rawplinth;`.
 
+/// Raised with that of the header. A program may go without it.
+#[allow(dead_code)]
+pub const RAWPLINTH_VERSION: u32 = 1;
+
 /// The vertices and triangles in use.
 #[repr(C)]
 #[derive(Clone, Copy, Debug, Default, PartialEq, Eq)]

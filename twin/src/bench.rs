@@ -41,14 +41,14 @@ impl<'a> Bench<'a> {
             let case = Case { store: before.clone(), call: call.clone() };
             fs::write(path, case.to_string()).expect("the watched case can be written");
         }
-        let mut others = before.tables.clone();
-        let by_twin = self.twin.answer(&mut store.tables, before.counts, call);
-        let by_other = self.other.answer(&mut others, before.counts, call);
+        let mut others = before.clone();
+        let by_twin = self.twin.answer(store, call);
+        let by_other = self.other.answer(&mut others, call);
         self.comparisons += 1;
         let what = match (&by_twin, &by_other) {
             (_, Err(trespass)) | (Err(trespass), _) => Some(trespass.clone()),
             (Ok(one), Ok(other)) if one != other => Some(self.told_apart("answers differ", one, other)),
-            _ => self.first_difference(&store.tables, &others),
+            _ => self.first_difference(store, &others),
         };
         if let Some(what) = what {
             return Err(difference(what, before, call));
@@ -58,7 +58,6 @@ impl<'a> Bench<'a> {
             return Err(difference(what, before, call));
         }
         self.coverage.note(&before, call, &answer);
-        store.counts = answer.counts();
         Ok(answer)
     }
 
@@ -71,8 +70,13 @@ impl<'a> Bench<'a> {
         format!("{what}\n  {}: {one:?}\n  {}: {other:?}", self.twin.name(), self.other.name())
     }
 
-    /// The first table entry in which the tables differ, slots past the counts included.
-    fn first_difference(&self, one: &Tables, other: &Tables) -> Option<String> {
+    /// The first entry in which what was lent differs, slots past the counts included.
+    fn first_difference(&self, one: &Store, other: &Store) -> Option<String> {
+        self.first_in_tables(&one.tables, &other.tables)
+            .or_else(|| self.first_entry("ring buffers", &one.room.ring, &other.room.ring))
+    }
+
+    fn first_in_tables(&self, one: &Tables, other: &Tables) -> Option<String> {
         self.first_entry("positions", &one.positions, &other.positions)
             .or_else(|| self.first_entry("corners", &one.corners, &other.corners))
             .or_else(|| self.first_entry("links", &one.links, &other.links))
@@ -92,10 +96,8 @@ pub fn difference(what: String, store: Store, call: &Call) -> Box<Difference> {
 
 /// The fourth claim of demand 3, for every refine that is carried out.
 fn claim_violated(before: &Store, call: &Call, answer: &Answer) -> Option<String> {
-    match (call, answer) {
-        (Call::Refine { triangle }, Answer::Worked(worked)) if worked.refusal == 0 => {
-            violated_by_refine(before, *triangle as usize, worked)
-        }
+    match (call, answer.refusal) {
+        (&Call::Refine { triangle }, 0) => violated_by_refine(before, triangle as usize, answer),
         _ => None,
     }
 }

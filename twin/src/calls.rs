@@ -8,8 +8,8 @@ use crate::tables::{Call, LAST_GENERATION, Store};
 /// Three times this number is 2 in 32 bits.
 pub const WRAPPING: u32 = 0x5555_5556;
 
-/// One call of any kind but load.
-pub fn random_call(store: &Store, rng: &mut Rng) -> Call {
+/// One call of any kind but load, for which the store gets room.
+pub fn random_call(store: &mut Store, rng: &mut Rng) -> Call {
     match rng.below(100) {
         0..60 => Call::Refine { triangle: some_triangle(store, rng) },
         60..68 => Call::WholeStep,
@@ -18,8 +18,8 @@ pub fn random_call(store: &Store, rng: &mut Rng) -> Call {
     }
 }
 
-/// One call of each kind but load.
-pub fn one_of_each(store: &Store, rng: &mut Rng) -> [Call; 4] {
+/// One call of each kind but load, for which the store gets room.
+pub fn one_of_each(store: &mut Store, rng: &mut Rng) -> [Call; 4] {
     [
         Call::Refine { triangle: some_triangle(store, rng) },
         Call::WholeStep,
@@ -38,10 +38,10 @@ pub fn compare_some(bench: &mut Bench, store: &mut Store, length: usize, rng: &m
 }
 
 /// A ring query with a buffer of any length and content; short ones are refused with 14 more often than not.
-fn ring(store: &Store, rng: &mut Rng) -> Call {
+fn ring(store: &mut Store, rng: &mut Rng) -> Call {
     let length = rng.pick(&[0, 1, 2, 3, 4, 5, 6, 7, 8, 12, 20, 60]);
-    let buffer = (0..length).map(|_| rng.word()).collect();
-    Call::Ring { vertex: some_number(store.counts.vertices, rng), buffer }
+    store.room.ring = (0..length).map(|_| rng.word()).collect();
+    Call::Ring { vertex: some_number(store.counts.vertices, rng) }
 }
 
 /// A number mostly below the count, else at it, past it or far off.

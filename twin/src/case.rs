@@ -1,11 +1,11 @@
-//! A case: tables, counts and one call, as text that can be replayed.
+//! A case: what is lent and one call, as text that can be replayed.
 //!
 //! Each line is a word and numbers; `7*12` stands for twelve times 7.
 
 use std::fmt::{self, Display, Write};
 use std::str::FromStr;
 
-use crate::tables::{Call, Counts, Store, Tables};
+use crate::tables::{Call, Counts, Room, Store, Tables};
 
 #[derive(Clone, Debug, PartialEq, Eq)]
 pub struct Case {
@@ -15,17 +15,18 @@ pub struct Case {
 
 impl Display for Case {
     fn fmt(&self, out: &mut fmt::Formatter<'_>) -> fmt::Result {
-        let Store { tables, counts } = &self.store;
+        let Store { tables, counts, room } = &self.store;
         writeln!(out, "positions{}", numbers(&tables.positions))?;
         writeln!(out, "corners{}", numbers(&tables.corners))?;
         writeln!(out, "links{}", numbers(&tables.links))?;
         writeln!(out, "generations{}", numbers(&tables.generations))?;
         writeln!(out, "counts {} {}", counts.vertices, counts.triangles)?;
+        writeln!(out, "ring-buffer{}", numbers(&room.ring))?;
         match &self.call {
             Call::Load { cage } => writeln!(out, "load{}", numbers(cage)),
             Call::Refine { triangle } => writeln!(out, "refine {triangle}"),
             Call::WholeStep => writeln!(out, "whole-step"),
-            Call::Ring { vertex, buffer } => writeln!(out, "ring {vertex}{}", numbers(buffer)),
+            Call::Ring { vertex } => writeln!(out, "ring {vertex}"),
             Call::Position { vertex } => writeln!(out, "position {vertex}"),
         }
     }
@@ -75,8 +76,9 @@ impl FromStr for Case {
         let [vertices, triangles] = counts[..] else {
             return Err("counts are two numbers".to_string());
         };
+        let room = Room { ring: parsed(line("ring-buffer")?)? };
         let call = parsed_call(lines.last().expect("there are lines"))?;
-        Ok(Case { store: Store { tables, counts: Counts { vertices, triangles } }, call })
+        Ok(Case { store: Store { tables, counts: Counts { vertices, triangles }, room }, call })
     }
 }
 
@@ -86,11 +88,7 @@ fn parsed_call(words: &[&str]) -> Result<Call, String> {
         "load" => Ok(Call::Load { cage: parsed(&words[1..])? }),
         "refine" => Ok(Call::Refine { triangle: first(parsed(&words[1..])?)? }),
         "whole-step" => Ok(Call::WholeStep),
-        "ring" => {
-            let list: Vec<u32> = parsed(&words[1..])?;
-            let vertex = first(list.clone())?;
-            Ok(Call::Ring { vertex, buffer: list[1..].to_vec() })
-        }
+        "ring" => Ok(Call::Ring { vertex: first(parsed(&words[1..])?)? }),
         "position" => Ok(Call::Position { vertex: first(parsed(&words[1..])?)? }),
         other => Err(format!("no call `{other}`")),
     }

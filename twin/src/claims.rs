@@ -1,6 +1,6 @@
 //! The four claims of demand 3, read from the tables themselves.
 
-use crate::tables::{BOUNDARY, Store, Tables, Worked};
+use crate::tables::{Answer, BOUNDARY, Store, Tables};
 
 /// What the tables say of a triangle's base chain.
 pub struct ChainReading {
@@ -63,15 +63,15 @@ pub fn violated(store: &Store, euler_number: i64) -> Option<String> {
 }
 
 /// What is wrong with the fourth claim, about the splits of a refine that was carried out.
-pub fn violated_by_refine(before: &Store, triangle: usize, worked: &Worked) -> Option<String> {
+pub fn violated_by_refine(before: &Store, triangle: usize, answer: &Answer) -> Option<String> {
     let generation = before.tables.generations[triangle];
     let claimed = if generation % 2 == 1 { read_chain(&before.tables, triangle).odd as u32 } else { 1 };
-    let grown = worked.counts.triangles.wrapping_sub(before.counts.triangles);
-    if worked.splits != claimed {
-        return Some(format!("{} splits reported, the chain gives {claimed}", worked.splits));
+    let grown = answer.counts.triangles.wrapping_sub(before.counts.triangles);
+    if answer.splits != claimed {
+        return Some(format!("{} splits reported, the chain gives {claimed}", answer.splits));
     }
     if generation % 2 == 1 && claimed > u32::from(generation).div_ceil(2) {
         return Some(format!("{claimed} splits at generation {generation}"));
     }
-    (grown != 2 * worked.splits).then(|| format!("{} splits reported, F has grown by {grown}", worked.splits))
+    (grown != 2 * answer.splits).then(|| format!("{} splits reported, F has grown by {grown}", answer.splits))
 }

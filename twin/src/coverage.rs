@@ -1,22 +1,26 @@
 //! What a run has met: each refusal of each call, each kind of linked pair, each chain length, each ring of a whole
 //! step.
 
+use std::collections::{BTreeMap, BTreeSet};
 use std::fmt::{self, Display};
 
 use crate::claims::read_chain;
 use crate::sound::kind;
 use crate::tables::{Answer, BOUNDARY, Call, Store};
 
-const CALLS: [&str; 5] = ["load", "refine", "whole step", "ring", "position"];
-
-/// The refusals that each call can give, with 0 for an answer.
-const REFUSALS: [&[usize]; 5] =
-    [&[0, 1, 2, 3, 4, 5, 6], &[0, 1, 7, 8, 9, 10, 11], &[0, 1, 7, 9, 11, 12, 13], &[0, 1, 7, 8, 14], &[0, 1, 7, 8]];
+/// The calls, each with the refusals that it can give and 0 for none.
+const CALLS: &[(&str, &[u32])] = &[
+    ("load", &[0, 1, 2, 3, 4, 5, 6]),
+    ("refine", &[0, 1, 7, 8, 9, 10, 11]),
+    ("whole step", &[0, 1, 7, 9, 11, 12, 13]),
+    ("ring", &[0, 1, 7, 8, 14]),
+    ("position", &[0, 1, 7, 8]),
+];
 
 #[derive(Default)]
 pub struct Coverage {
     /// By call and refusal.
-    answers: [[u64; 15]; 5],
+    answers: BTreeMap<(usize, u32), u64>,
     /// The five kinds, at the sides of triangles that were refined.
     kinds: [u64; 6],
     /// Chains of refines carried out, and of those refused with 10, by their odd triangles.
@@ -28,6 +32,7 @@ pub struct Coverage {
     rings: [u64; 13],
 }
 
+/// The place of a call in the list.
 fn row(call: &Call) -> usize {
     match call {
         Call::Load { .. } => 0,
@@ -48,9 +53,8 @@ fn count(met: &mut [u64], index: usize) {
 impl Coverage {
     /// Notes a call on the tables as they were before it, and its answer.
     pub fn note(&mut self, before: &Store, call: &Call, answer: &Answer) {
-        let refusal = answer.refusal() as usize;
-        count(&mut self.answers[row(call)], refusal);
-        match (call, refusal) {
+        *self.answers.entry((row(call), answer.refusal)).or_default() += 1;
+        match (call, answer.refusal) {
             (&Call::Refine { triangle }, 0) => self.note_refine(before, triangle as usize),
             (&Call::Refine { triangle }, 10) => {
                 count(&mut self.boundary_chains, read_chain(&before.tables, triangle as usize).odd);
@@ -83,15 +87,21 @@ impl Coverage {
         lengths.into_iter().for_each(|length| count(&mut self.rings, length));
     }
 
+    /// The refusals that can occur or were met.
+    fn refusals(&self) -> BTreeSet<u32> {
+        let possible = CALLS.iter().flat_map(|(_, possible)| possible.iter().copied());
+        possible.chain(self.answers.keys().map(|&(_, refusal)| refusal)).collect()
+    }
+
     /// What can occur and was never met, and what was met although it cannot occur.
     pub fn gaps(&self) -> Vec<String> {
         let mut gaps = Vec::new();
-        for (call, possible) in REFUSALS.iter().enumerate() {
-            for refusal in 0..15 {
-                let met = self.answers[call][refusal] > 0;
+        for (number, (call, possible)) in CALLS.iter().enumerate() {
+            for refusal in self.refusals() {
+                let met = self.answers.contains_key(&(number, refusal));
                 if met != possible.contains(&refusal) {
                     let what = if met { "met, but not in its order" } else { "never met" };
-                    gaps.push(format!("{} {refusal}: {what}", CALLS[call]));
+                    gaps.push(format!("{call} {refusal}: {what}"));
                 }
             }
         }
@@ -112,13 +122,13 @@ impl Coverage {
 impl Display for Coverage {
     fn fmt(&self, out: &mut fmt::Formatter<'_>) -> fmt::Result {
         write!(out, "{:<12}", "refusal")?;
-        CALLS.iter().try_for_each(|call| write!(out, "{call:>12}"))?;
+        CALLS.iter().try_for_each(|(call, _)| write!(out, "{call:>12}"))?;
         writeln!(out)?;
-        for refusal in 0..15 {
+        for refusal in self.refusals() {
             let name = if refusal == 0 { "none".to_string() } else { refusal.to_string() };
             write!(out, "{name:<12}")?;
-            for (call, possible) in REFUSALS.iter().enumerate() {
-                let met = self.answers[call][refusal];
+            for (number, (_, possible)) in CALLS.iter().enumerate() {
+                let met = self.answers.get(&(number, refusal)).copied().unwrap_or(0);
                 let shown = if met > 0 || possible.contains(&refusal) { met.to_string() } else { "-".to_string() };
                 write!(out, "{shown:>12}")?;
             }

@@ -1,11 +1,10 @@
-//! Damaged tables: single entries overwritten, counts and lengths off, and damage that leaves the links mutual.
+//! Damaged tables: single entries overwritten, counts and lengths off.
 
 use crate::bench::{Bench, Outcome};
 use crate::cages;
 use crate::calls;
 use crate::handmade;
 use crate::rng::Rng;
-use crate::surgery::damaged_store;
 use crate::tables::{BOUNDARY, Call, Counts, FARTHEST, Service, Store};
 use crate::twin::Twin;
 
@@ -16,8 +15,7 @@ pub fn refined(cage: &cages::Cage, requests: &[u32], spare: usize, rng: &mut Rng
     let load = Call::Load { cage: cage.bytes() };
     let refines = requests.iter().map(|&triangle| Call::Refine { triangle });
     for call in std::iter::once(load).chain(refines) {
-        let answer = Twin::UNBROKEN.answer(&mut store.tables, store.counts, &call).expect("the twin stays inside");
-        store.counts = answer.counts();
+        Twin::UNBROKEN.answer(&mut store, &call).expect("the twin stays inside");
     }
     let (vertices, triangles) = (store.counts.vertices as usize, store.counts.triangles as usize);
     store.tables.positions.truncate(3 * (vertices + spare));
@@ -86,7 +84,7 @@ pub fn single_entries(bench: &mut Bench, rng: &mut Rng) -> Outcome {
 fn compare_damaged(bench: &mut Bench, store: &Store, rng: &mut Rng, damage: impl Fn(&mut Store)) -> Outcome {
     let mut damaged = store.clone();
     damage(&mut damaged);
-    for call in calls::one_of_each(&damaged, rng) {
+    for call in calls::one_of_each(&mut damaged, rng) {
         bench.compare_only(&damaged, &call)?;
     }
     Ok(())
@@ -103,8 +101,8 @@ pub fn counts(bench: &mut Bench, rng: &mut Rng) -> Outcome {
         for vertices in near(store.counts.vertices, store.vertex_slots()) {
             for triangles in near(store.counts.triangles, store.triangle_slots()) {
                 let counts = Counts { vertices, triangles };
-                let damaged = Store { counts, ..store.clone() };
-                for call in calls::one_of_each(&damaged, rng) {
+                let mut damaged = Store { counts, ..store.clone() };
+                for call in calls::one_of_each(&mut damaged, rng) {
                     bench.compare_only(&damaged, &call)?;
                 }
             }
@@ -146,19 +144,8 @@ fn compare_lengths(bench: &mut Bench, store: &Store, lengths: [usize; 4], rng: &
     changed.tables.links.resize(lengths[2], 7);
     changed.tables.generations.resize(lengths[3], 8);
     let load = Call::Load { cage: cages::strip(2).bytes() };
-    for call in calls::one_of_each(&changed, rng).iter().chain([&load]) {
+    for call in calls::one_of_each(&mut changed, rng).iter().chain([&load]) {
         bench.compare_only(&changed, call)?;
-    }
-    Ok(())
-}
-
-/// Random damage to random tables that leaves most of them in order, one or two at a time.
-pub fn random_damage(bench: &mut Bench, rounds: usize, rng: &mut Rng) -> Outcome {
-    for _ in 0..rounds {
-        let store = damaged_store(rng);
-        for call in calls::one_of_each(&store, rng) {
-            bench.compare_only(&store, &call)?;
-        }
     }
     Ok(())
 }

@@ -26,8 +26,10 @@ fn refine(triangle: u32) -> Call {
     Call::Refine { triangle }
 }
 
-fn ring(vertex: u32, entries: u32) -> Call {
-    Call::Ring { vertex, buffer: (1000..1000 + entries).collect() }
+/// A ring query with a buffer of so many entries.
+fn ring(refusal: u32, mut store: Store, vertex: u32, entries: u32) -> Example {
+    store.room.ring = (1000..1000 + entries).collect();
+    example(refusal, store, Call::Ring { vertex })
 }
 
 /// A loaded cage whose generations are all raised to the same even one.
@@ -65,7 +67,7 @@ pub fn refusals(rng: &mut Rng) -> Vec<Example> {
         example(11, narrow, refine(0)),
         example(12, refined(&tetrahedron, &[0], 50, rng), Call::WholeStep),
         example(13, refined(&cages::double_pyramid(13), &[], 50, rng), Call::WholeStep),
-        example(14, refined(&tetrahedron, &[], 0, rng), ring(0, 2)),
+        ring(14, refined(&tetrahedron, &[], 0, rng), 0, 2),
     ]
 }
 
@@ -87,7 +89,7 @@ pub fn orders(rng: &mut Rng) -> Vec<Example> {
         example(6, Store::junk(20, 40, rng), load(&cages::bow_tie())),
         example(7, Store::fresh(20, 40), refine(u32::MAX)),
         example(7, counts_above_slots, refine(0)),
-        example(8, refined(&tetrahedron, &[], 0, rng), ring(4, 0)),
+        ring(8, refined(&tetrahedron, &[], 0, rng), 4, 0),
         example(10, refined(&cages::strip(1), &[0], 0, rng), refine(0)),
         example(0, exact, refine(0)),
         example(11, no_vertex_slot, refine(0)),
@@ -96,8 +98,8 @@ pub fn orders(rng: &mut Rng) -> Vec<Example> {
         example(13, at_generation(&pyramid, 18, 0, rng), Call::WholeStep),
         example(11, at_generation(&tetrahedron, 18, 3, rng), Call::WholeStep),
         example(0, at_generation(&tetrahedron, 18, 4, rng), Call::WholeStep),
-        example(0, refined(&tetrahedron, &[], 0, rng), ring(0, 3)),
-        example(0, refined(&cages::strip(1), &[], 0, rng), ring(0, 3)),
+        ring(0, refined(&tetrahedron, &[], 0, rng), 0, 3),
+        ring(0, refined(&cages::strip(1), &[], 0, rng), 0, 3),
         // Generation 19 may become 20.
         example(0, chain(1, true, 18, &[], rng).store(1, 2, rng), refine(1)),
         // Halves: 18204.5 goes to 18205 and −18204.5 to −18204.
@@ -128,8 +130,8 @@ pub fn run(bench: &mut Bench, rng: &mut Rng) -> Outcome {
     for Example { refusal, mut store, call } in refusals(rng).into_iter().chain(orders(rng)) {
         let before = store.clone();
         let answer = bench.compare(&mut store, &call)?;
-        if answer.refusal() != refusal {
-            let what = format!("refusal {}, the papers give {refusal}", answer.refusal());
+        if answer.refusal != refusal {
+            let what = format!("refusal {}, the papers give {refusal}", answer.refusal);
             return Err(difference(what, before, &call));
         }
     }

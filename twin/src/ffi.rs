@@ -1,7 +1,7 @@
 //! The library under test, through its C interface.
 
-use crate::rawplinth::{rawplinth_load, rawplinth_position, rawplinth_refine, rawplinth_ring, rawplinth_whole_step};
-use crate::tables::{Answer, Call, Counts, Service, Tables};
+use crate::rawplinth::*;
+use crate::tables::{Answer, Call, Room, Service, Store, Tables};
 
 /// Entries on each side of a lent buffer that the library must not write.
 const GUARD: usize = 64;
@@ -32,6 +32,11 @@ impl<T: Copy + PartialEq> Lent<T> {
             return Err(format!("memory beside the {name} was written"));
         }
         Ok(content)
+    }
+
+    /// The error where an argument that is only read, or a guard entry beside it, was written.
+    fn unwritten(&self, name: &str, content: &[T]) -> Result<(), String> {
+        if self.content(name)? == content { Ok(()) } else { Err(format!("the {name} was written")) }
     }
 }
 
@@ -80,24 +85,43 @@ impl LentTables {
         tables.generations.copy_from_slice(self.generations.content("generations")?);
         Ok(())
     }
+}
 
-    fn load(&mut self, counts: Counts, cage: &[u8]) -> Result<Answer, String> {
-        let mut lent = Lent::new(cage, 0xA5);
-        let worked = call!(rawplinth_load, self, counts, lent.pointer(), lent.length);
-        if lent.content("cage")? != cage {
-            return Err("the cage was written".to_string());
-        }
-        Ok(Answer::Worked(worked))
+/// The room beside the mesh as it is lent to the library.
+struct LentRoom {
+    ring: Lent<u32>,
+}
+
+impl LentRoom {
+    fn new(room: &Room) -> LentRoom {
+        LentRoom { ring: Lent::new(&room.ring, 0x5E5E_5E5E) }
     }
 
-    fn ring(&mut self, counts: Counts, vertex: u32, buffer: &[u32]) -> Result<Answer, String> {
-        let mut lent = Lent::new(buffer, 0x5E5E_5E5E);
-        let read = call!(rawplinth_ring, self, counts, vertex, lent.pointer(), lent.length);
-        Ok(Answer::Ring { read, buffer: lent.content("ring buffer")?.to_vec() })
+    fn give_back(&self, room: &mut Room) -> Result<(), String> {
+        room.ring.copy_from_slice(self.ring.content("ring buffer")?);
+        Ok(())
     }
 }
 
-/// The library under test. Its calls get copies of the tables with guard entries around them.
+impl From<Worked> for Answer {
+    fn from(Worked { refusal, splits, flips, counts }: Worked) -> Answer {
+        Answer { refusal, splits, flips, counts, ..Answer::default() }
+    }
+}
+
+impl From<RingRead> for Answer {
+    fn from(RingRead { refusal, length, counts }: RingRead) -> Answer {
+        Answer { refusal, length, counts, ..Answer::default() }
+    }
+}
+
+impl From<PositionRead> for Answer {
+    fn from(PositionRead { refusal, x, y, z, counts }: PositionRead) -> Answer {
+        Answer { refusal, point: [x, y, z], counts, ..Answer::default() }
+    }
+}
+
+/// The library under test. Its calls get copies of what is lent, with guard entries around them.
 pub struct Library;
 
 impl Service for Library {
@@ -105,16 +129,26 @@ impl Service for Library {
         "library".to_string()
     }
 
-    fn answer(&self, tables: &mut Tables, counts: Counts, call: &Call) -> Result<Answer, String> {
-        let mut lent = LentTables::new(tables);
-        let answer = match call {
-            Call::Load { cage } => lent.load(counts, cage)?,
-            Call::Refine { triangle } => Answer::Worked(call!(rawplinth_refine, lent, counts, *triangle)),
-            Call::WholeStep => Answer::Worked(call!(rawplinth_whole_step, lent, counts)),
-            Call::Ring { vertex, buffer } => lent.ring(counts, *vertex, buffer)?,
-            Call::Position { vertex } => Answer::Position(call!(rawplinth_position, lent, counts, *vertex)),
+    fn answer(&self, store: &mut Store, call: &Call) -> Result<Answer, String> {
+        let counts = store.counts;
+        let (mut lent, mut room) = (LentTables::new(&store.tables), LentRoom::new(&store.room));
+        let answer: Answer = match call {
+            Call::Load { cage } => {
+                let mut bytes = Lent::new(cage, 0xA5);
+                let worked = call!(rawplinth_load, lent, counts, bytes.pointer(), bytes.length);
+                bytes.unwritten("cage", cage)?;
+                worked.into()
+            }
+            Call::Refine { triangle } => call!(rawplinth_refine, lent, counts, *triangle).into(),
+            Call::WholeStep => call!(rawplinth_whole_step, lent, counts).into(),
+            Call::Ring { vertex } => {
+                call!(rawplinth_ring, lent, counts, *vertex, room.ring.pointer(), room.ring.length).into()
+            }
+            Call::Position { vertex } => call!(rawplinth_position, lent, counts, *vertex).into(),
         };
-        lent.give_back(tables)?;
+        lent.give_back(&mut store.tables)?;
+        room.give_back(&mut store.room)?;
+        store.counts = answer.counts;
         Ok(answer)
     }
 }

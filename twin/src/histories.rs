@@ -9,7 +9,7 @@ use crate::handmade;
 use crate::malformed;
 use crate::random_cages::random_cage;
 use crate::rng::Rng;
-use crate::tables::{Answer, BOUNDARY, Call, Counts, LAST_GENERATION, Store};
+use crate::tables::{BOUNDARY, Call, Counts, LAST_GENERATION, Store};
 
 /// A mesh in the course of a history, with V − E + F of the cage of the last accepted load.
 struct History {
@@ -35,14 +35,14 @@ impl History {
     fn load(&mut self, bench: &mut Bench, cage: Vec<u8>) -> Outcome {
         let call = Call::Load { cage };
         let answer = bench.compare(&mut self.store, &call)?;
-        if let (Call::Load { cage }, 0) = (&call, answer.refusal()) {
+        if let (Call::Load { cage }, 0) = (&call, answer.refusal) {
             self.euler_number = Some(Cage::of_bytes(cage).euler_number());
         }
         Ok(())
     }
 
     fn refine(&mut self, bench: &mut Bench, triangle: u32) -> Outcome<u32> {
-        Ok(bench.compare(&mut self.store, &Call::Refine { triangle })?.refusal())
+        Ok(bench.compare(&mut self.store, &Call::Refine { triangle })?.refusal)
     }
 
     /// The claims of demand 3, once a load was accepted: three on the tables, and the fourth, which every
@@ -55,7 +55,7 @@ impl History {
         if let Some(what) = claims::violated(&self.store, euler_number) {
             return Err(difference(what, self.store.clone(), &look));
         }
-        if bench.compare_only(&self.store, &look)?.refusal() != 0 {
+        if bench.compare_only(&self.store, &look)?.refusal != 0 {
             let what = "tables not sound after an accepted load".to_string();
             return Err(difference(what, self.store.clone(), &look));
         }
@@ -76,7 +76,7 @@ pub fn shapes(bench: &mut Bench, rng: &mut Rng) -> Outcome {
             let mut history = History::begun(cage.points.len() + spare, cage.triangles.len() + 2 * spare, rng);
             history.load(bench, cage.bytes())?;
             for vertex in 0..cage.points.len() as u32 {
-                read_vertex(bench, &history.store, vertex, rng)?;
+                read_vertex(bench, &mut history.store, vertex, rng)?;
             }
             bench.compare_only(&history.store, &Call::WholeStep)?;
             calls::compare_some(bench, &mut history.store, 40, rng)?;
@@ -87,14 +87,13 @@ pub fn shapes(bench: &mut Bench, rng: &mut Rng) -> Outcome {
 }
 
 /// A vertex's position, and its ring in a buffer that is long, just long enough, and one entry too short.
-fn read_vertex(bench: &mut Bench, store: &Store, vertex: u32, rng: &mut Rng) -> Outcome {
+fn read_vertex(bench: &mut Bench, store: &mut Store, vertex: u32, rng: &mut Rng) -> Outcome {
     bench.compare_only(store, &Call::Position { vertex })?;
-    let buffer = vec![rng.word(); 42];
-    if let Answer::Ring { read, .. } = bench.compare_only(store, &Call::Ring { vertex, buffer })? {
-        for length in [read.length, read.length.saturating_sub(1)] {
-            let buffer = vec![rng.word(); length as usize];
-            bench.compare_only(store, &Call::Ring { vertex, buffer })?;
-        }
+    store.room.ring = vec![rng.word(); 42];
+    let length = bench.compare_only(store, &Call::Ring { vertex })?.length;
+    for length in [length, length.saturating_sub(1)] {
+        store.room.ring = vec![rng.word(); length as usize];
+        bench.compare_only(store, &Call::Ring { vertex })?;
     }
     Ok(())
 }
@@ -198,7 +197,7 @@ pub fn small_cages(bench: &mut Bench, rng: &mut Rng) -> Outcome {
     for triangles in ones.chain(twos).chain(threes) {
         let mut store = Store::junk(8, 9, rng);
         let call = Call::Load { cage: Cage::of(triangles).bytes() };
-        if bench.compare(&mut store, &call)?.refusal() == 0 {
+        if bench.compare(&mut store, &call)?.refusal == 0 {
             calls::compare_some(bench, &mut store, 2, rng)?;
         }
     }
@@ -220,7 +219,7 @@ fn all_lists_from(bench: &mut Bench, store: &Store, length: usize) -> Outcome {
     for triangle in 0..store.counts.triangles + u32::from(length == 1) {
         let mut refined = store.clone();
         let answer = bench.compare(&mut refined, &Call::Refine { triangle })?;
-        if length > 1 && answer.refusal() == 0 {
+        if length > 1 && answer.refusal == 0 {
             all_lists_from(bench, &refined, length - 1)?;
         }
     }
@@ -237,8 +236,8 @@ pub fn largest(bench: &mut Bench, rng: &mut Rng) -> Outcome {
             bench.compare(&mut history.store, &Call::WholeStep)?;
             calls::compare_some(bench, &mut history.store, 4, rng)?;
         }
-        let ring = Call::Ring { vertex: rng.below(cage.points.len()) as u32, buffer: vec![7; 32_768] };
-        bench.compare(&mut history.store, &ring)?;
+        history.store.room.ring = vec![7; 32_768];
+        bench.compare(&mut history.store, &Call::Ring { vertex: rng.below(cage.points.len()) as u32 })?;
         history.check(bench, rng)?;
     }
     Ok(())

@@ -5,7 +5,7 @@ use std::collections::HashMap;
 use crate::fault::{Fault, Seeded};
 use crate::mesh::{Mesh, Side, Triangle};
 use crate::sound::{coordinates_are_in_range, corners_fit, has_one_fan_each};
-use crate::twin::refuse_unless;
+use crate::tables::refuse_unless;
 
 /// The mesh of a cage: generation 0 everywhere, opposite sides linked. Each condition is tested over the whole cage
 /// before the next.

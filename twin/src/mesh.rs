@@ -107,8 +107,8 @@ impl Mesh {
         leaving
     }
 
-    /// The fan round a vertex, as the sides out of it: from the boundary if it is there, else from the lowest slot; across the
-    /// side into the vertex each time; until the first triangle or the boundary.
+    /// The fan round a vertex, as the sides out of it: from the boundary if it is there, else from the lowest slot;
+    /// across the side into the vertex each time; until the first triangle or the boundary.
     pub fn fan(&self, leaving: &[Side]) -> Vec<Side> {
         let at_boundary = leaving.iter().find(|&&side| self.across(side).is_none());
         let lowest = self.fault.unless(Fault::RingFromHighestSlot, leaving.first(), leaving.last());

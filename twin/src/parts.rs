@@ -4,12 +4,12 @@ use std::time::Instant;
 
 use crate::bench::{Bench, Outcome};
 use crate::rng::Rng;
-use crate::{damage, examples, handmade, histories, malformed, unsound};
+use crate::{damage, examples, handmade, histories, malformed, surgery, unsound};
 
 type Part = fn(&mut Bench, &mut Rng) -> Outcome;
 
 /// All parts of one run, in order; each has its own random numbers.
-const PARTS: [(&str, Part); 20] = [
+const PARTS: &[(&str, Part)] = &[
     ("examples of the papers", examples::run),
     ("cages with sets of faults", malformed::sets_of_faults),
     ("cages of all lengths", malformed::lengths_and_slots),
@@ -25,7 +25,7 @@ const PARTS: [(&str, Part); 20] = [
     ("tables of other lengths", damage::lengths),
     ("counts off", damage::counts),
     ("every entry damaged", damage::single_entries),
-    ("damage that keeps order", |bench, rng| damage::random_damage(bench, 8_000, rng)),
+    ("damage that keeps order", |bench, rng| surgery::random_damage(bench, 8_000, rng)),
     ("whole steps", histories::whole_steps),
     ("deep histories", |bench, rng| histories::deep(bench, 120, rng)),
     ("random histories", |bench, rng| histories::random(bench, 4_000, rng)),
@@ -50,7 +50,7 @@ pub fn run_all(bench: &mut Bench, seed: u64, report: bool) -> Outcome {
 pub fn soak_round(bench: &mut Bench, rng: &mut Rng) -> Outcome {
     malformed::random_loads(bench, 20, rng)?;
     handmade::histories(bench, 20, rng)?;
-    damage::random_damage(bench, 30, rng)?;
+    surgery::random_damage(bench, 30, rng)?;
     histories::deep(bench, 1, rng)?;
     histories::random(bench, 20, rng)
 }

@@ -42,13 +42,9 @@ pub fn model(files: &Files) -> String {
 }
 
 fn line(store: &mut Store, call: &Call) -> String {
-    let answer = Twin::UNBROKEN.answer(&mut store.tables, store.counts, call);
-    let Ok(Answer::Worked(worked)) = answer else {
-        unreachable!("load and refine answer so");
-    };
-    store.counts = worked.counts;
-    let counts = worked.counts;
-    format!("{} {} {} {} {}\n", worked.refusal, worked.splits, worked.flips, counts.vertices, counts.triangles)
+    let Answer { refusal, splits, flips, counts, .. } =
+        Twin::UNBROKEN.answer(store, call).expect("the twin stays inside");
+    format!("{refusal} {splits} {flips} {} {}\n", counts.vertices, counts.triangles)
 }
 
 /// Runs the program on all files of the list, then on random ones, at least `runs` and for at least `seconds`.

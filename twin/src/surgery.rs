@@ -1,6 +1,8 @@
 //! Damage that leaves most of a table in order, such as links crossed in pairs or vertices merged.
 
+use crate::bench::{Bench, Outcome};
 use crate::cages;
+use crate::calls;
 use crate::damage::refined;
 use crate::handmade;
 use crate::rng::Rng;
@@ -120,4 +122,15 @@ fn turn(store: &mut Store, slot: usize) {
             tables.links[partner] = side as u32;
         }
     }
+}
+
+/// Random damage to random tables that leaves most of them in order, one or two at a time.
+pub fn random_damage(bench: &mut Bench, rounds: usize, rng: &mut Rng) -> Outcome {
+    for _ in 0..rounds {
+        let mut store = damaged_store(rng);
+        for call in calls::one_of_each(&mut store, rng) {
+            bench.compare_only(&store, &call)?;
+        }
+    }
+    Ok(())
 }

@@ -1,6 +1,6 @@
-//! The lent tables, the counts that travel with them, the five calls and their answers.
+//! What a call is lent, the five calls and their answers.
 
-pub use crate::rawplinth::{Counts, PositionRead, RingRead, Worked};
+pub use crate::rawplinth::Counts;
 use crate::rng::Rng;
 
 /// The link of a boundary side; the paper's rim.
@@ -13,7 +13,7 @@ pub const FARTHEST: i32 = 16_777_216;
 /// The greatest generation.
 pub const LAST_GENERATION: u8 = 20;
 
-/// What a caller lends: three positions to a vertex slot; three corners, three links and a generation to a triangle slot.
+/// The lent tables: three positions to a vertex slot; three corners, three links and a generation to a triangle slot.
 #[derive(Clone, Debug, Default, PartialEq, Eq)]
 pub struct Tables {
     pub positions: Vec<i32>,
@@ -22,11 +22,19 @@ pub struct Tables {
     pub generations: Vec<u8>,
 }
 
-/// Lent tables with their counts.
+/// What calls are lent beside the mesh. A call takes what it needs of it and leaves the rest.
+#[derive(Clone, Debug, Default, PartialEq, Eq)]
+pub struct Room {
+    /// The buffer of a ring query.
+    pub ring: Vec<u32>,
+}
+
+/// All that a caller lends: the mesh, which is tables and the counts that travel with them, and room beside it.
 #[derive(Clone, Debug, Default, PartialEq, Eq)]
 pub struct Store {
     pub tables: Tables,
     pub counts: Counts,
+    pub room: Room,
 }
 
 impl Store {
@@ -39,7 +47,7 @@ impl Store {
                 links: vec![0; 3 * triangle_slots],
                 generations: vec![0; triangle_slots],
             },
-            counts: Counts::default(),
+            ..Store::default()
         }
     }
 
@@ -68,47 +76,39 @@ impl Store {
     }
 }
 
-/// One call with its arguments, apart from the tables and counts.
+/// One call with its arguments, apart from what it is lent.
 #[derive(Clone, Debug, PartialEq, Eq)]
 pub enum Call {
     Load { cage: Vec<u8> },
     Refine { triangle: u32 },
     WholeStep,
-    Ring { vertex: u32, buffer: Vec<u32> },
+    Ring { vertex: u32 },
     Position { vertex: u32 },
 }
 
-/// What a call returns, with the ring buffer as the call left it.
-#[derive(Clone, Debug, PartialEq, Eq)]
-pub enum Answer {
-    Worked(Worked),
-    Ring { read: RingRead, buffer: Vec<u32> },
-    Position(PositionRead),
+/// What a call answers, with zeros for what it does not speak of.
+#[derive(Clone, Copy, Debug, Default, PartialEq, Eq)]
+pub struct Answer {
+    /// The refusal number, 0 for none.
+    pub refusal: u32,
+    pub splits: u32,
+    pub flips: u32,
+    /// The entries written to the ring buffer.
+    pub length: u32,
+    pub point: [i32; 3],
+    pub counts: Counts,
 }
 
-impl Answer {
-    /// The refusal number, 0 for none.
-    pub fn refusal(&self) -> u32 {
-        match self {
-            Answer::Worked(worked) => worked.refusal,
-            Answer::Ring { read, .. } => read.refusal,
-            Answer::Position(read) => read.refusal,
-        }
-    }
-
-    pub fn counts(&self) -> Counts {
-        match self {
-            Answer::Worked(worked) => worked.counts,
-            Answer::Ring { read, .. } => read.counts,
-            Answer::Position(read) => read.counts,
-        }
-    }
+/// Refuses with a number where its condition holds.
+pub fn refuse_unless(good: bool, number: u32) -> Result<(), u32> {
+    if good { Ok(()) } else { Err(number) }
 }
 
 /// A service that answers the five calls: the twin, a broken twin, or the library under test.
 pub trait Service {
     fn name(&self) -> String;
 
-    /// Answers one call on lent tables. The error says which memory outside the tables and buffers was written.
-    fn answer(&self, tables: &mut Tables, counts: Counts, call: &Call) -> Result<Answer, String>;
+    /// Answers one call and leaves the store as the call does, with the counts of the answer. The error says which
+    /// memory outside of what was lent was written.
+    fn answer(&self, store: &mut Store, call: &Call) -> Result<Answer, String>;
 }

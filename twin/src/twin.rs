@@ -6,14 +6,9 @@ use crate::mesh::Mesh;
 use crate::smooth::{LONGEST_RING, whole_step};
 use crate::sound::is_sound;
 use crate::tables::{
-    Answer, Call, Counts, LAST_GENERATION, MOST_TRIANGLE_SLOTS, MOST_VERTEX_SLOTS, PositionRead, RingRead, Service,
-    Tables, Worked,
+    Answer, Call, Counts, LAST_GENERATION, MOST_TRIANGLE_SLOTS, MOST_VERTEX_SLOTS, Service, Store, Tables,
+    refuse_unless,
 };
-
-/// Refuses with a number where its condition holds.
-pub fn refuse_unless(good: bool, number: u32) -> Result<(), u32> {
-    if good { Ok(()) } else { Err(number) }
-}
 
 /// The rules of document 01, with one seeded fault or none.
 pub struct Twin {
@@ -29,29 +24,18 @@ impl Service for Twin {
     }
 
     /// A refusal: its number, zeros, and the counts as they were.
-    fn answer(&self, tables: &mut Tables, counts: Counts, call: &Call) -> Result<Answer, String> {
-        let refused = |refusal| Worked { refusal, counts, ..Worked::default() };
-        Ok(match call {
-            Call::Load { cage } => Answer::Worked(self.load(tables, cage).unwrap_or_else(refused)),
-            Call::Refine { triangle } => {
-                Answer::Worked(self.refine(tables, counts, *triangle as usize).unwrap_or_else(refused))
-            }
-            Call::WholeStep => Answer::Worked(self.whole_step(tables, counts).unwrap_or_else(refused)),
-            Call::Ring { vertex, buffer } => {
-                let mut buffer = buffer.clone();
-                let read = self.ring(tables, counts, *vertex as usize, &mut buffer);
-                let read = read.unwrap_or_else(|refusal| RingRead { refusal, counts, ..RingRead::default() });
-                Answer::Ring { read, buffer }
-            }
-            Call::Position { vertex } => {
-                let read = self.position(tables, counts, *vertex as usize);
-                Answer::Position(read.unwrap_or_else(|refusal| PositionRead {
-                    refusal,
-                    counts,
-                    ..PositionRead::default()
-                }))
-            }
-        })
+    fn answer(&self, store: &mut Store, call: &Call) -> Result<Answer, String> {
+        let Store { tables, counts, room } = store;
+        let answered = match call {
+            Call::Load { cage } => self.load(tables, cage),
+            Call::Refine { triangle } => self.refine(tables, *counts, *triangle as usize),
+            Call::WholeStep => self.whole_step(tables, *counts),
+            Call::Ring { vertex } => self.ring(tables, *counts, *vertex as usize, &mut room.ring),
+            Call::Position { vertex } => self.position(tables, *counts, *vertex as usize),
+        };
+        let answer = answered.unwrap_or_else(|refusal| Answer { refusal, counts: *counts, ..Answer::default() });
+        *counts = answer.counts;
+        Ok(answer)
     }
 }
 
@@ -59,7 +43,7 @@ impl Twin {
     pub const UNBROKEN: Twin = Twin { fault: Seeded(None) };
 
     /// Load: 1 to 6, whatever the tables held.
-    fn load(&self, tables: &mut Tables, cage: &[u8]) -> Result<Worked, u32> {
+    fn load(&self, tables: &mut Tables, cage: &[u8]) -> Result<Answer, u32> {
         refuse_unless(self.tables_agree(tables), 1)?;
         let (vertex_slots, triangle_slots) = (tables.positions.len() / 3, tables.generations.len());
         let mesh = mesh_of_cage(cage, vertex_slots, triangle_slots, self.fault);
@@ -72,11 +56,11 @@ impl Twin {
         if self.fault.has(Fault::PastCountsWritten) {
             tables.generations.iter_mut().skip(counts.triangles as usize).for_each(|generation| *generation = 0);
         }
-        Ok(Worked { counts, ..Worked::default() })
+        Ok(Answer { counts, ..Answer::default() })
     }
 
     /// Refine: 1, 7, 8, 9, 10, 11.
-    fn refine(&self, tables: &mut Tables, counts: Counts, t: usize) -> Result<Worked, u32> {
+    fn refine(&self, tables: &mut Tables, counts: Counts, t: usize) -> Result<Answer, u32> {
         refuse_unless(self.tables_agree(tables), 1)?;
         if self.fault.has(Fault::UseBeforeSound) {
             refuse_unless(t < counts.triangles as usize, 8)?;
@@ -88,22 +72,22 @@ impl Twin {
         let chain = mesh.base_chain(t);
         // An even triangle takes one split, an odd one as many as its chain has odd triangles.
         let splits = chain.odd.len().max(1);
-        let triangles_needed = self.fault.unless(Fault::RoomOffByOne, 2 * splits, 2 * splits + 1);
-        if self.fault.has(Fault::RoomBeforeBoundary) {
-            refuse_unless(has_room(tables, &mesh, splits, triangles_needed), 11)?;
+        let triangles_needed = self.fault.unless(Fault::SlotsOffByOne, 2 * splits, 2 * splits + 1);
+        if self.fault.has(Fault::SlotsBeforeBoundary) {
+            refuse_unless(has_slots(tables, &mesh, splits, triangles_needed), 11)?;
         }
         refuse_unless(chain.even_end.is_some(), 10)?;
-        refuse_unless(has_room(tables, &mesh, splits, triangles_needed), 11)?;
+        refuse_unless(has_slots(tables, &mesh, splits, triangles_needed), 11)?;
         let mut work = mesh.refine(t);
         if self.fault.has(Fault::SplitsFromGeneration) && generation % 2 == 1 {
             work.splits = u32::from(generation).div_ceil(2);
         }
         mesh.write(tables);
-        Ok(Worked { refusal: 0, splits: work.splits, flips: work.flips, counts: mesh.counts() })
+        Ok(Answer { splits: work.splits, flips: work.flips, counts: mesh.counts(), ..Answer::default() })
     }
 
     /// Whole step: 1, 7, 12, 9, 13, 11.
-    fn whole_step(&self, tables: &mut Tables, counts: Counts) -> Result<Worked, u32> {
+    fn whole_step(&self, tables: &mut Tables, counts: Counts) -> Result<Answer, u32> {
         refuse_unless(self.tables_agree(tables), 1)?;
         let mut mesh = self.sound_mesh(tables, counts)?;
         let generation = mesh.triangles[0].generation;
@@ -117,14 +101,14 @@ impl Twin {
         refuse_unless(generation != LAST_GENERATION, 9)?;
         refuse_unless(rings_have_weights, 13)?;
         let splits = mesh.triangles.len();
-        refuse_unless(has_room(tables, &mesh, splits, 2 * splits), 11)?;
+        refuse_unless(has_slots(tables, &mesh, splits, 2 * splits), 11)?;
         let work = whole_step(&mut mesh);
         mesh.write(tables);
-        Ok(Worked { refusal: 0, splits: work.splits, flips: work.flips, counts: mesh.counts() })
+        Ok(Answer { splits: work.splits, flips: work.flips, counts: mesh.counts(), ..Answer::default() })
     }
 
     /// Ring: 1, 7, 8, 14. The buffer is written as far as the ring goes.
-    fn ring(&self, tables: &Tables, counts: Counts, vertex: usize, buffer: &mut [u32]) -> Result<RingRead, u32> {
+    fn ring(&self, tables: &Tables, counts: Counts, vertex: usize, buffer: &mut [u32]) -> Result<Answer, u32> {
         refuse_unless(self.tables_agree(tables), 1)?;
         let mesh = self.sound_mesh(tables, counts)?;
         refuse_unless(vertex < mesh.points.len(), 8)?;
@@ -134,16 +118,15 @@ impl Twin {
         for (entry, &neighbour) in buffer.iter_mut().zip(&ring) {
             *entry = neighbour as u32;
         }
-        Ok(RingRead { refusal: 0, length: ring.len() as u32, counts })
+        Ok(Answer { length: ring.len() as u32, counts, ..Answer::default() })
     }
 
     /// Position: 1, 7, 8.
-    fn position(&self, tables: &Tables, counts: Counts, vertex: usize) -> Result<PositionRead, u32> {
+    fn position(&self, tables: &Tables, counts: Counts, vertex: usize) -> Result<Answer, u32> {
         refuse_unless(self.tables_agree(tables), 1)?;
         let mesh = self.sound_mesh(tables, counts)?;
         refuse_unless(vertex < mesh.points.len(), 8)?;
-        let [x, y, z] = mesh.points[vertex];
-        Ok(PositionRead { refusal: 0, x, y, z, counts })
+        Ok(Answer { point: mesh.points[vertex], counts, ..Answer::default() })
     }
 
     /// Condition 1.
@@ -169,7 +152,7 @@ impl Twin {
 }
 
 /// Condition 11: a face split takes one vertex slot and two triangle slots.
-fn has_room(tables: &Tables, mesh: &Mesh, vertices_needed: usize, triangles_needed: usize) -> bool {
+fn has_slots(tables: &Tables, mesh: &Mesh, vertices_needed: usize, triangles_needed: usize) -> bool {
     mesh.points.len() + vertices_needed <= tables.positions.len() / 3
         && mesh.triangles.len() + triangles_needed <= tables.generations.len()
 }

@@ -75,9 +75,9 @@ pub fn one_way_each() -> Vec<(&'static str, Store)> {
 
 /// All of them on both services, each call but load.
 pub fn run(bench: &mut Bench, rng: &mut Rng) -> Outcome {
-    for (broken, store) in one_way_each() {
-        for call in calls::one_of_each(&store, rng) {
-            if bench.compare_only(&store, &call)?.refusal() != 7 {
+    for (broken, mut store) in one_way_each() {
+        for call in calls::one_of_each(&mut store, rng) {
+            if bench.compare_only(&store, &call)?.refusal != 7 {
                 return Err(difference(format!("not refused with 7: {broken}"), store, &call));
             }
         }
@@ -90,10 +90,10 @@ pub fn all_pairs(bench: &mut Bench, rng: &mut Rng) -> Outcome {
     let generations = || (0..=23).chain([254, 255]);
     for (g, h) in generations().flat_map(|g| generations().map(move |h| (g, h))) {
         for (i, j) in (0..9).map(|code| (code / 3, code % 3)) {
-            let store = pair((g, i), (h, j));
+            let mut store = pair((g, i), (h, j));
             bench.compare_only(&store, &Call::Refine { triangle: 0 })?;
             bench.compare_only(&store, &Call::Refine { triangle: 1 })?;
-            let call = calls::random_call(&store, rng);
+            let call = calls::random_call(&mut store, rng);
             bench.compare_only(&store, &call)?;
         }
     }

@@ -17,8 +17,8 @@ use crate::unsound;
 
 fn found_sound(store: &Store) -> bool {
     let look = Call::Position { vertex: u32::MAX };
-    let answer = Twin::UNBROKEN.answer(&mut store.tables.clone(), store.counts, &look);
-    answer.expect("the twin stays inside").refusal() == 8
+    let answer = Twin::UNBROKEN.answer(&mut store.clone(), &look);
+    answer.expect("the twin stays inside").refusal == 8
 }
 
 #[test]
@@ -68,13 +68,13 @@ fn the_five_kinds_are_those_of_the_list() {
 #[test]
 fn cases_are_read_back_as_they_were_written() {
     let rng = &mut Rng::new(13);
-    let store = handmade::random(rng);
+    let mut store = handmade::random(rng);
+    store.room.ring = vec![9, 9, 4];
     let calls = [
         Call::Load { cage: vec![1, 1, 1, 255, 0] },
         Call::Refine { triangle: 7 },
         Call::WholeStep,
-        Call::Ring { vertex: 9, buffer: vec![9, 9, 4] },
-        Call::Ring { vertex: 9, buffer: vec![] },
+        Call::Ring { vertex: 9 },
         Call::Position { vertex: u32::MAX },
     ];
     for call in calls {
@@ -102,7 +102,7 @@ fn claims_tell_broken_tables() {
 #[test]
 fn every_seeded_fault_is_caught() {
     let unbroken = Twin::UNBROKEN;
-    for (fault, meaning) in Fault::ALL {
+    for &(fault, meaning) in Fault::ALL {
         let twin = Twin { fault: Seeded(Some(fault)) };
         let outcome = parts::run_all(&mut Bench::new(&twin, &unbroken), 1, false);
         assert!(outcome.is_err(), "{meaning}");

@@ -5,19 +5,17 @@ use crate::examples::{self, Example};
 use crate::malformed::RawCage;
 use crate::program::{Files, model};
 use crate::rng::Rng;
-use crate::tables::{Answer, BOUNDARY, Call, Counts, FARTHEST, PositionRead, RingRead, Service, Store, Worked};
+use crate::tables::{Answer, BOUNDARY, Call, Counts, FARTHEST, Service, Store};
 use crate::twin::Twin;
 
 /// Runs a call on the twin; the store's counts follow.
 fn run(store: &mut Store, call: &Call) -> Answer {
-    let answer = Twin::UNBROKEN.answer(&mut store.tables, store.counts, call).expect("the twin stays inside");
-    store.counts = answer.counts();
-    answer
+    Twin::UNBROKEN.answer(store, call).expect("the twin stays inside")
 }
 
 fn loaded(cage: &Cage) -> Store {
     let mut store = Store::junk(60, 100, &mut Rng::new(5));
-    assert_eq!(run(&mut store, &Call::Load { cage: cage.bytes() }).refusal(), 0);
+    assert_eq!(run(&mut store, &Call::Load { cage: cage.bytes() }).refusal, 0);
     store
 }
 
@@ -64,8 +62,8 @@ fn tetrahedron_run_leaves_p7_to_p10() {
 fn whole_step_on_the_tetrahedron_gives_p11_and_p12() {
     let mut store = loaded(&cages::tetrahedron());
     let counts = Counts { vertices: 8, triangles: 12 };
-    let worked = Worked { refusal: 0, splits: 4, flips: 6, counts };
-    assert_eq!(run(&mut store, &Call::WholeStep), Answer::Worked(worked));
+    let answer = Answer { splits: 4, flips: 6, counts, ..Answer::default() };
+    assert_eq!(run(&mut store, &Call::WholeStep), answer);
     assert_eq!(point(&store, 0), [2, 2, 2]);
     assert_eq!(point(&store, 1), [4, 2, 2]);
 }
@@ -108,23 +106,12 @@ fn refusals_are_those_of_the_table() {
     for Example { refusal, store, call } in table.into_iter().chain(examples::orders(rng)) {
         let mut after = store.clone();
         let answer = run(&mut after, &call);
-        assert_eq!(answer.refusal(), refusal, "{call:?}");
+        assert_eq!(answer.refusal, refusal, "{call:?}");
         if refusal > 0 {
             assert_eq!(after, store, "{call:?}");
-            assert_eq!(answer, zeros(refusal, &store, &call));
+            // Zeros and the counts as they were.
+            assert_eq!(answer, Answer { refusal, counts: store.counts, ..Answer::default() });
         }
-    }
-}
-
-/// A refusal answers zeros and the counts as they were.
-fn zeros(refusal: u32, store: &Store, call: &Call) -> Answer {
-    let counts = store.counts;
-    match call {
-        Call::Ring { buffer, .. } => {
-            Answer::Ring { read: RingRead { refusal, length: 0, counts }, buffer: buffer.clone() }
-        }
-        Call::Position { .. } => Answer::Position(PositionRead { refusal, x: 0, y: 0, z: 0, counts }),
-        _ => Answer::Worked(Worked { refusal, splits: 0, flips: 0, counts }),
     }
 }
 
@@ -138,7 +125,7 @@ fn of_several_faults_in_a_cage_the_lowest_number_is_given() {
             faults.clone().rev().for_each(|refusal| raw.spoil(refusal, rng));
             let mut store = Store::fresh(cage.points.len() + 4, cage.triangles.len() + 3);
             let answer = run(&mut store, &Call::Load { cage: raw.bytes() });
-            assert_eq!(Some(answer.refusal()), faults.min());
+            assert_eq!(Some(answer.refusal), faults.min());
         }
     }
 }
@@ -179,10 +166,11 @@ fn weights_are_the_formula_to_the_nearest() {
 #[test]
 fn rings_start_and_end_where_the_papers_say() {
     let ring = |store: &mut Store, vertex: u32| {
-        let answer = run(store, &Call::Ring { vertex, buffer: vec![99; 6] });
-        let Answer::Ring { read, buffer } = answer else { panic!("a ring query answers a ring") };
-        assert!(buffer[read.length as usize..].iter().all(|&entry| entry == 99));
-        buffer[..read.length as usize].to_vec()
+        store.room.ring = vec![99; 6];
+        let length = run(store, &Call::Ring { vertex }).length as usize;
+        let (written, rest) = store.room.ring.split_at(length);
+        assert!(rest.iter().all(|&entry| entry == 99));
+        written.to_vec()
     };
     assert_eq!(ring(&mut loaded(&cages::strip(1)), 0), [1, 2]);
     assert_eq!(ring(&mut loaded(&cages::tetrahedron()), 0), [1, 2, 3]);
@@ -199,8 +187,8 @@ fn whole_step_splits_every_triangle_and_flips_every_edge() {
         let mut store = loaded(&cage.shuffled(rng).scattered(rng));
         let before = store.clone();
         let faces = before.counts.triangles;
-        let Answer::Worked(worked) = run(&mut store, &Call::WholeStep) else { panic!("a whole step answers so") };
-        assert_eq!((worked.refusal, worked.splits, worked.flips), (0, faces, 3 * faces / 2));
+        let answer = run(&mut store, &Call::WholeStep);
+        assert_eq!((answer.refusal, answer.splits, answer.flips), (0, faces, 3 * faces / 2));
         assert!(store.tables.generations[..3 * faces as usize].iter().all(|&generation| generation == 2));
         assert!(store.tables.links[..9 * faces as usize].iter().all(|&link| link != BOUNDARY));
         let valence = |store: &Store, vertex: u32| {

@@ -1,0 +1,13 @@
+//! The version of the interface is one in all places that name it.
+
+use crate::rawplinth::RAWPLINTH_VERSION;
+
+#[test]
+fn header_and_changes_have_the_version_of_the_declarations() {
+    let header = include_str!("../../../include/rawplinth.h");
+    let define = format!("#define RAWPLINTH_VERSION {RAWPLINTH_VERSION}");
+    assert!(header.lines().any(|line| line == define), "{define}");
+    let rows = include_str!("../../../docs/changes/README.md").lines().filter(|line| line.starts_with("| "));
+    let versions = rows.skip(1).map(|row| row.split('|').nth(1).unwrap_or("").trim().parse());
+    assert!(versions.eq((1..=RAWPLINTH_VERSION).map(Ok)), "a line of docs/changes/README.md for each version");
+}
