@@ -3,10 +3,10 @@ use libc::STDOUT_FILENO;
 use tables::Counts;
 use tables::Worked;
 ghost use mathlib.Core.Path.{_≡_};
-ghost use Prim.Native.Nat.{_/_};
-ghost use lib.ListN.{length};
+ghost use mathlib.Core.List.{List};
+ghost use Prim.Native.Nat.{ℕ};
 ghost use Rattle.tables.specs.Lent.{meshNow};
-ghost use Rattle.refine.specs.Requests.{afterRequests};
+ghost use Rattle.refine.specs.Requests.{afterBytes};
 
 // The counts after some requests, and whether there may be more.
 struct Answered {
@@ -62,8 +62,8 @@ fn answer(
 ) -> Counts
     ensures { λ r. ⌜
         meshNow r (now (positions .exit)) (now (corners .exit)) (now (links .exit)) (now (generations .exit))
-        ≡ afterRequests (length (now (requests .entry)) / 4) (now (requests .entry)) (meshNow counts
-        (now (positions .entry)) (now (corners .entry)) (now (links .entry)) (now (generations .entry))) ⌝ }
+        ≡ afterBytes (now (requests .entry)) (meshNow counts (now (positions .entry)) (now (corners .entry))
+        (now (links .entry)) (now (generations .entry))) ⌝ }
 {
     let mut at = counts;
     let mut i: usize = 0;
@@ -85,7 +85,12 @@ fn answer_some(
     generations: &mut [u8],
     counts: Counts,
     fd: i32,
-) -> Answered {
+) -> Answered
+    ensures { λ r. ⌜ ((read : List ℕ) ×
+        (meshNow (r .counts) (now (positions .exit)) (now (corners .exit)) (now (links .exit)) (now (generations .exit))
+        ≡ afterBytes read (meshNow counts (now (positions .entry)) (now (corners .entry))
+        (now (links .entry)) (now (generations .entry))))) ⌝ }
+{
     let mut requests = io::large_buffer();
     let n = io::read_full(fd, &mut requests);
     let after = answer(

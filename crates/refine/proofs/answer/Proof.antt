@@ -8,7 +8,7 @@ use Rattle.rules.specs.Calls.{Outcome, refineCall}
 use Rattle.rules.specs.Numbers.{numberAt}
 use Rattle.rules.specs.Tables.{Mesh}
 use Rattle.tables.specs.Lent.{meshNow}
-use Rattle.refine.specs.Requests.{afterRequests}
+use Rattle.refine.specs.Requests.{afterRequests, afterBytes}
 use Rattle.refine.proofs.answer.Statement.{statement}
 use Rattle.refine.proofs.answer.Tie as tie
 use Rattle.refine.proofs.answer.Reads as reads
@@ -27,9 +27,12 @@ unfolding afterRequests
 one-more i t bytes m before after et eb ea = let q : i + 1 ≡ suc i = omega arith in rw (q, ea, et, eb) refl
 
 -- All requests are answered where no more are left.
-all-answered : (i n : ℕ) (bytes : List ℕ) (m now : Mesh) → i ≤ n → n ≤ i → now ≡ afterRequests i bytes m
-    → now ≡ afterRequests n bytes m
-all-answered i n bytes m now a b e = let q : i ≡ n = omega arith in e ∙ ap (λ (k : ℕ). afterRequests k bytes m) q
+all-answered : (i : ℕ) (bytes : List ℕ) (m now : Mesh) → i ≤ length bytes / 4 → length bytes / 4 ≤ i
+    → now ≡ afterRequests i bytes m → now ≡ afterBytes bytes m
+unfolding afterBytes
+all-answered i bytes m now a b e =
+    let q : i ≡ length bytes / 4 = omega arith in
+    e ∙ ap (λ (k : ℕ). afterRequests k bytes m) q
 
 abbrev Inv-loop : tie.InvT-loop
 Inv-loop positions₀ corners₀ links₀ generations₀ requests at₀ i₀ positions corners links generations at i =
@@ -94,7 +97,7 @@ same-length-4 : tie.Need-same-length-4 Inv-loop μ-loop
 same-length-4 c = c .before .loop .inv .4
 
 returns : tie.Need-returns Inv-loop μ-loop
-returns c = all-answered _ _ _ _ _ (c .before .loop .inv .0) (c .loop-test .left) (c .before .loop .inv .5)
+returns c = all-answered _ _ _ _ (c .before .loop .inv .0) (c .loop-test .left) (c .before .loop .inv .5)
 
 pub answer-spec : {M : Type 1} → statement M
 answer-spec =
