@@ -231,15 +231,72 @@ fn step_by(
     }
 }
 
-// The whole step on sound tables. All is decided before anything lent is written.
-pub fn smoothing_step(
+// The same for up to 128 vertices.
+fn step_within_128(
     positions: &mut [i32],
     corners: &mut [u32],
     links: &mut [u32],
     generations: &mut [u8],
     counts: Counts,
 ) -> Answer
-    requires { ⌜ Sound (meshNow counts (now positions) (now corners) (now links) (now generations)) ⌝ }
+    requires { ⌜ Sound (meshNow counts (now positions) (now corners) (now links) (now generations))
+        × (counts .vertices ≤ 128) ⌝ }
+    ensures { λ r. ⌜
+        answered r (now (positions .exit)) (now (corners .exit)) (now (links .exit)) (now (generations .exit))
+        ≡ wholeStepCall (meshNow counts (now (positions .entry)) (now (corners .entry)) (now (links .entry))
+        (now (generations .entry))) ⌝ }
+{
+    let mut lengths = [0u8; 128];
+    let mut sums = [0i32; 384];
+    step_by(
+        positions,
+        corners,
+        links,
+        generations,
+        counts,
+        &mut lengths,
+        &mut sums,
+    )
+}
+
+// The same for up to 2048 vertices.
+fn step_within_2048(
+    positions: &mut [i32],
+    corners: &mut [u32],
+    links: &mut [u32],
+    generations: &mut [u8],
+    counts: Counts,
+) -> Answer
+    requires { ⌜ Sound (meshNow counts (now positions) (now corners) (now links) (now generations))
+        × (counts .vertices ≤ 2048) ⌝ }
+    ensures { λ r. ⌜
+        answered r (now (positions .exit)) (now (corners .exit)) (now (links .exit)) (now (generations .exit))
+        ≡ wholeStepCall (meshNow counts (now (positions .entry)) (now (corners .entry)) (now (links .entry))
+        (now (generations .entry))) ⌝ }
+{
+    let mut lengths = [0u8; 2048];
+    let mut sums = [0i32; 6144];
+    step_by(
+        positions,
+        corners,
+        links,
+        generations,
+        counts,
+        &mut lengths,
+        &mut sums,
+    )
+}
+
+// The same for up to 32768 vertices.
+fn step_within_32768(
+    positions: &mut [i32],
+    corners: &mut [u32],
+    links: &mut [u32],
+    generations: &mut [u8],
+    counts: Counts,
+) -> Answer
+    requires { ⌜ Sound (meshNow counts (now positions) (now corners) (now links) (now generations))
+        × (counts .vertices ≤ 32768) ⌝ }
     ensures { λ r. ⌜
         answered r (now (positions .exit)) (now (corners .exit)) (now (links .exit)) (now (generations .exit))
         ≡ wholeStepCall (meshNow counts (now (positions .entry)) (now (corners .entry)) (now (links .entry))
@@ -256,4 +313,27 @@ pub fn smoothing_step(
         &mut lengths,
         &mut sums,
     )
+}
+
+// The whole step on sound tables. All is decided before anything lent is written, and a small mesh has little to clear.
+pub fn smoothing_step(
+    positions: &mut [i32],
+    corners: &mut [u32],
+    links: &mut [u32],
+    generations: &mut [u8],
+    counts: Counts,
+) -> Answer
+    requires { ⌜ Sound (meshNow counts (now positions) (now corners) (now links) (now generations)) ⌝ }
+    ensures { λ r. ⌜
+        answered r (now (positions .exit)) (now (corners .exit)) (now (links .exit)) (now (generations .exit))
+        ≡ wholeStepCall (meshNow counts (now (positions .entry)) (now (corners .entry)) (now (links .entry))
+        (now (generations .entry))) ⌝ }
+{
+    if counts.vertices <= 128 {
+        return step_within_128(positions, corners, links, generations, counts);
+    }
+    if counts.vertices <= 2048 {
+        return step_within_2048(positions, corners, links, generations, counts);
+    }
+    step_within_32768(positions, corners, links, generations, counts)
 }

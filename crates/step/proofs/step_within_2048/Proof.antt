@@ -1,9 +1,8 @@
--- `step::smoothing_step` meets its contract.
+-- `step::step_within_2048` meets its contract.
 use borrow.Author.Needs.{needs}
-use native.Mathlib.Omega.{arith}
 use Rattle.rings.proofs.sums.Zeros.{cleared}
-use Rattle.step.proofs.smoothing_step.Statement.{statement}
-use Rattle.step.proofs.smoothing_step.Tie as tie
+use Rattle.step.proofs.step_within_2048.Statement.{statement}
+use Rattle.step.proofs.step_within_2048.Tie as tie
 
 slice-aggregate-step-by : tie.Need-slice-aggregate-step-by
 slice-aggregate-step-by c = search needs
@@ -13,8 +12,8 @@ slice-aggregate-step-by-2 c = search needs
 
 step-by-requires : tie.Need-step-by-requires
 step-by-requires c κs =
-    let S = c .before .before .before .before .before .before .before .before .before .pre in
-    (S, cleared _ 32768 (omega (arith, S .tables .fewVertices, S .vertexRoom)))
+    let pre = c .before .before .before .before .before .before .before .before .before .pre in
+    (pre .0, cleared _ 2048 (pre .1))
 
 same-length : tie.Need-same-length
 same-length c = search needs
@@ -31,8 +30,8 @@ same-length-4 c = search needs
 returns : tie.Need-returns
 returns c = c .before .before .before .before .before .before .before .before .before .step-by .ensures
 
-pub smoothing-step-spec : {M : Type 1} → statement M
-smoothing-step-spec =
+pub step-within-2048-spec : {M : Type 1} → statement M
+step-within-2048-spec =
     tie.close
     (tie.spec
     slice-aggregate-step-by
