@@ -1,9 +1,42 @@
 -- `step::whole_step` meets its contract.
 use borrow.Author.Needs.{needs}
+use Prim.Native.Nat.{ℕ}
 use native.Mathlib.Omega.{arith}
-use Rattle.step.proofs.Deciding.{whole-step-steps, movable}
+use mathlib.Core.List.{List}
+use mathlib.Core.Path.{_≡_, refl}
+use lib.IntN.{ℤ}
+use Rattle.rules.proofs.Calls.Carried.{StepFound}
+use Rattle.rules.proofs.Steps.StepLoop.{step-places}
+use Rattle.rules.specs.Split.{Work, atFirst}
+use Rattle.rules.specs.Step.{moveVertices, refineFirst, wholeStep}
+use Rattle.rules.specs.Tables.{Mesh, meshOf}
+use Rattle.rings.specs.Sums.{RingSums}
+use Rattle.step.specs.Moves.{Movable}
 use Rattle.step.proofs.whole_step.Statement.{statement}
 use Rattle.step.proofs.whole_step.Tie as tie
+
+-- The step is its splits and then its moves.
+whole-step-steps : (m : Mesh) (w : Work) (positions : List ℤ) → w ≡ refineFirst (m .topology .triangles) (atFirst m)
+    → positions ≡ moveVertices (m .topology .vertices) m (w .mesh .positions)
+    → _≡_ {A = Work} (record { mesh = meshOf (w .mesh .topology) positions; splits = w .splits; flips = w .flips })
+    (wholeStep m)
+unfolding wholeStep
+whole-step-steps m w positions ew ep = rw (ep, ew, wholeStep)
+
+-- After the splits the vertices still stand where they stood.
+movable : {m : Mesh} {lengths : List ℕ} {sums : List ℤ} {w : Work} → StepFound m → RingSums m lengths sums
+    → w ≡ refineFirst (m .topology .triangles) (atFirst m)
+    → Movable (m .topology .vertices) m (w .mesh .positions) lengths sums
+movable {m} F R e =
+    let P = step-places F e (omega arith) in
+    let S = F .sound in
+    record {
+      all = refl;
+      few = omega (arith, S .tables .fewVertices, S .vertexRoom);
+      room = omega (arith, S .tables .positions, S .vertexRoom, P .size);
+      old = P .old;
+      rings = R;
+    }
 
 split-all-requires : tie.Need-split-all-requires
 split-all-requires c κs = search needs

@@ -1,20 +1,20 @@
 -- `rings::sums::ring_sums` meets its contract: a pass over the sides adds up every ring.
-use borrow.Author.Tests.{not-true, not-false}
 use borrow.Author.Needs.{needs}
-use mathlib.Core.List.{List}
-use mathlib.Core.Path.{_≡_, refl, sym, _∙_, subst}
+use borrow.Author.Tests.{not-true, not-false}
 use Prim.Native.Nat.{ℕ, _+_, _-_, _*_, _≤_, _<_}
 use native.Mathlib.Omega.{arith}
+use mathlib.Core.List.{List}
+use mathlib.Core.Path.{_≡_, refl, sym, _∙_, subst}
 use lib.Dec.{T}
-use lib.IntN.{ℤ, pos}
+use lib.IntN.{ℤ}
 use lib.ListN.{length, getD}
 use Rattle.rules.proofs.Rings.RingSums.{outOf, SumOut, none-added, none-out, ring-counted, ring-added}
 use Rattle.rules.proofs.Rings.RingVertices.{ring-some}
 use Rattle.rules.specs.Conditions.{LongRing}
 use Rattle.rules.specs.Ring.{ring}
 use Rattle.rules.specs.Tables.{Topology, Mesh, sides}
-use Rattle.tables.specs.declared.Counts.{Counts}
 use Rattle.tables.specs.Lent.{meshNow}
+use Rattle.tables.specs.declared.Counts.{Counts}
 use Rattle.rings.specs.Sums.{Closed, Cleared, RingSums, Summable, Summed}
 use Rattle.rings.proofs.sums.ring_sums.Statement.{statement}
 use Rattle.rings.proofs.sums.ring_sums.Tie as tie

@@ -1,4 +1,0 @@
--- Laws of the whole step that the proofs of functions cite.
-mod ClosedEven
-mod Splitting
-mod Deciding
