@@ -1,4 +1,4 @@
-// The ring round a vertex, from the side where it starts: its length and its entries.
+// The ring round a vertex, from the side where it starts: its length and its entries; and the sums of all rings.
 ghost use mathlib.Core.Path.{_≡_};
 ghost use mathlib.Core.List.{List};
 ghost use Prim.Native.Nat.{ℕ, _+_, _*_, _≤_};
@@ -9,6 +9,8 @@ ghost use Rattle.rings.specs.Rings.{ringFrom, goesOn, Walkable};
 use tables::BOUNDARY;
 use tables::sides::next;
 use tables::sides::previous;
+
+pub mod sums;
 
 // Whether the walk from `first` goes on to side k after n sides.
 fn goes_on(triangles: u32, first: u32, n: u32, k: u32) -> bool

@@ -1,33 +1,16 @@
--- Where vertices move, as an array keeps it.
-use Prim.Native.Nat.{ℕ, _+_, _*_, _≤_, _<_}
-use mathlib.Core.Bool.{Bool, true, false}
+-- What vertices move by.
+use Prim.Native.Nat.{ℕ, _*_, _≤_, _<_}
 use mathlib.Core.List.{List}
-use mathlib.Core.Logic.{_≢_}
 use mathlib.Core.Path.{_≡_}
 use lib.IntN.{ℤ, pos}
 use lib.ListN.{length, getD}
-use Rattle.rules.specs.Conditions.{LongRing}
-use Rattle.rules.specs.Ring.{ring}
-use Rattle.rules.specs.Sound.{Sound}
-use Rattle.rules.specs.Step.{movedCoordinate}
-use Rattle.rules.specs.Tables.{Mesh, sides, link, boundary}
+use Rattle.rings.specs.Sums.{RingSums}
+use Rattle.rules.specs.Tables.{Mesh}
 
--- The array holds the places that the first n vertices of m move to, and their rings have 12 entries at most.
-pub record Moves (n : ℕ) (m : Mesh) (moved : List ℤ) : Type 0 where
-  pub short : (v : ℕ) → v < n → length (ring (m .topology) v) ≤ 12
-  pub each : (v k : ℕ) → v < n → k < 3 → getD moved (3 * v + k) (pos 0) ≡ movedCoordinate m v k
-
--- The list has n entries, each x.
-pub record Filled {A : Type 0} (x : A) (n : ℕ) (l : List A) : Type 0 where
-  pub size : length l ≡ n
-  pub each : (i : ℕ) → i < n → getD l i x ≡ x
-
--- A sound mesh without boundary.
-pub record Closed (m : Mesh) : Type 0 where
-  pub sound : Sound m
-  pub inner : (h : ℕ) → h < sides (m .topology) → link (m .topology) h ≢ boundary
-
--- By the answer: where all vertices move, or a ring that is too long.
-abbrev pub Moved : Mesh → List ℤ → Bool → Type 0
-Moved m moved true = Moves (m .topology .vertices) m moved
-Moved m moved false = LongRing (m .topology)
+-- All n vertices of m: they stand where they stand in m, and the lists have the length and the sum of each ring.
+pub record Movable (n : ℕ) (m : Mesh) (positions : List ℤ) (lengths : List ℕ) (sums : List ℤ) : Type 0 where
+  pub all : n ≡ m .topology .vertices
+  pub few : n ≤ 32768
+  pub room : 3 * n ≤ length positions
+  pub old : (i : ℕ) → i < 3 * n → getD positions i (pos 0) ≡ getD (m .positions) i (pos 0)
+  pub rings : RingSums m lengths sums

@@ -1,30 +1,26 @@
 // The whole step on sound tables: what it refuses, and its work.
-use points::Point;
 use split::Work;
 use tables::BOUNDARY;
 use tables::Counts;
 use tables::Worked;
-ghost use mathlib.Core.Bool.{true, not};
+ghost use mathlib.Core.Bool.{not};
 ghost use mathlib.Core.List.{List};
 ghost use mathlib.Core.Path.{_≡_};
-ghost use Prim.Native.Nat.{ℕ, _+_, _*_, _/_, _≤_, _<_};
-ghost use lib.Dec.{eqb, ltb};
-ghost use lib.IntN.{pos};
+ghost use Prim.Native.Nat.{ℕ, _*_, _≤_};
+ghost use lib.Dec.{eqb};
 ghost use lib.ListN.{length, getD};
 ghost use Rattle.rules.proofs.Calls.Carried.{StepFound};
-ghost use Rattle.rules.specs.Below.{all, any};
+ghost use Rattle.rules.specs.Below.{all};
 ghost use Rattle.rules.specs.Calls.{closedEven, wholeStepRefusal, wholeStepCall};
-ghost use Rattle.rules.specs.Ring.{ring};
 ghost use Rattle.rules.specs.Sound.{Sound};
 ghost use Rattle.rules.specs.Split.{atFirst};
 ghost use Rattle.rules.specs.Step.{moveVertices, refineFirst, wholeStep};
 ghost use Rattle.rules.specs.Tables.{Mesh, topologyOf, boundary};
 ghost use Rattle.tables.specs.Answers.{workedOutcome};
-ghost use Rattle.tables.specs.Lent.{meshNow, VerticesAgree};
+ghost use Rattle.tables.specs.Lent.{meshNow};
 ghost use Rattle.split.specs.Made.{workNow};
-ghost use Rattle.step.specs.Moves.{Moves, Filled, Closed, Moved};
-ghost use Rattle.step.specs.RingSums.{pointIn, Summable, Summed, SideFits, SideAdded, SidesAdded};
-ghost use Rattle.step.specs.RingSums.{Movable, MovedFrom};
+ghost use Rattle.rings.specs.Sums.{Cleared, RingSums};
+ghost use Rattle.step.specs.Moves.{Movable};
 
 // Whether none of the first n sides is on the boundary.
 fn none_on_boundary(links: &[u32], n: usize) -> bool
@@ -73,137 +69,6 @@ fn closed_even(links: &[u32], generations: &[u8], triangles: u32) -> bool
     g % 2 == 0
 }
 
-// The point in slot v of a table that has this slot.
-fn point_in(table: &[i32], v: u32) -> Point
-    requires { ⌜ v < length (now table) / 3 ⌝ }
-    ensures { λ r. ⌜ r ≡ pointIn (now (table .entry)) v ⌝ }
-{
-    let i = 3 * (v as usize);
-    Point::new(table[i], table[i + 1], table[i + 2])
-}
-
-// A side counted where it comes from, and the position that it leads to added to the sum there; false where 12 are
-// counted already.
-fn add_side(positions: &[i32], from: u32, to: u32, entries: &mut [u8], sums: &mut [i32]) -> bool
-    requires { ⌜ SideFits (now positions) from to (now entries) (now sums) ⌝ }
-    ensures { λ r. ⌜ SideAdded (now (positions .entry)) from to (now (entries .entry)) (now (sums .entry))
-        (now (entries .exit)) (now (sums .exit)) r ⌝ }
-{
-    let i = from as usize;
-    let n = entries[i];
-    if 12 <= n {
-        return false;
-    }
-    entries[i] = n + 1;
-    let sum = point_in(sums, from);
-    let p = point_in(positions, to);
-    tables::store_point(sums, from, sum.plus(p));
-    true
-}
-
-// Adds the three sides of triangle t to those of the triangles before it; false where a vertex has more than 12.
-fn add_triangle(
-    positions: &[i32],
-    corners: &[u32],
-    counts: Counts,
-    t: u32,
-    entries: &mut [u8],
-    sums: &mut [i32],
-) -> bool
-    requires { ⌜ Summable counts (now positions) (now corners) × (t < counts .triangles)
-        × Summed (3 * t) (counts .vertices) (now positions) (now corners) (now entries) (now sums) ⌝ }
-    ensures { λ r. ⌜ SidesAdded (3 * (t + 1)) counts (now (positions .entry)) (now (corners .entry))
-        (now (entries .exit)) (now (sums .exit)) r ⌝ }
-{
-    let i = 3 * (t as usize);
-    let a = corners[i];
-    let b = corners[i + 1];
-    let c = corners[i + 2];
-    if !add_side(positions, a, b, entries, sums) {
-        return false;
-    }
-    if !add_side(positions, b, c, entries, sums) {
-        return false;
-    }
-    add_side(positions, c, a, entries, sums)
-}
-
-// How many entries each ring has, and the sum of their positions: where no side is on the boundary, a ring has the
-// targets of all sides out of its vertex. It stops, with false, at a ring of more than 12 entries.
-fn ring_sums(
-    positions: &[i32],
-    corners: &[u32],
-    counts: Counts,
-    entries: &mut [u8],
-    sums: &mut [i32],
-) -> bool
-    requires { ⌜ Summable counts (now positions) (now corners)
-        × Summed 0 (counts .vertices) (now positions) (now corners) (now entries) (now sums) ⌝ }
-    ensures { λ r. ⌜ SidesAdded (3 * counts .triangles) counts (now (positions .entry)) (now (corners .entry))
-        (now (entries .exit)) (now (sums .exit)) r ⌝ }
-{
-    let f = counts.triangles;
-    let mut t: u32 = 0;
-    while t < f {
-        if !add_triangle(positions, corners, counts, t, entries, sums) {
-            return false;
-        }
-        t += 1;
-    }
-    true
-}
-
-// Where each vertex moves, in place of the sum of its ring.
-fn move_all(positions: &[i32], vertices: u32, entries: &[u8], moved: &mut [i32])
-    requires { ⌜ Movable vertices (now positions) (now entries) (now moved) ⌝ }
-    ensures { λ _. ⌜ MovedFrom vertices (now (positions .entry)) (now (entries .entry)) (now (moved .entry))
-        (now (moved .exit)) ⌝ }
-{
-    let mut v: u32 = 0;
-    while v < vertices {
-        let n = entries[v as usize] as usize;
-        let p = point_in(positions, v);
-        let sum = point_in(moved, v);
-        tables::store_point(moved, v, p.moved(n, sum));
-        v += 1;
-    }
-}
-
-// Where each vertex moves, with an array lent to count ring entries, and both arrays zero at first. It stops, with
-// false, at a ring of more than 12 entries.
-fn moves_by(
-    positions: &[i32],
-    corners: &[u32],
-    counts: Counts,
-    entries: &mut [u8],
-    moved: &mut [i32],
-) -> bool
-    requires { ⌜ ((l g : List ℕ) × Closed (meshNow counts (now positions) (now corners) l g)) ⌝ }
-    requires { ⌜ Filled 0 32768 (now entries) × Filled (pos 0) 98304 (now moved) ⌝ }
-    ensures { λ r. ⌜ ((l g : List ℕ) →
-        let m = meshNow counts (now (positions .entry)) (now (corners .entry)) l g in
-        Closed m → Moved m (now (moved .exit)) r) ⌝ }
-{
-    if !ring_sums(positions, corners, counts, entries, moved) {
-        return false;
-    }
-    move_all(positions, counts.vertices, entries, moved);
-    true
-}
-
-// Whether no ring has more than 12 entries; then `moved` has where each vertex moves.
-fn moves(positions: &[i32], corners: &[u32], counts: Counts, moved: &mut [i32]) -> bool
-    requires { ⌜ ((l g : List ℕ) × Closed (meshNow counts (now positions) (now corners) l g)) ⌝ }
-    requires { ⌜ Filled (pos 0) 98304 (now moved) ⌝ }
-    ensures { λ r. ⌜ ((l g : List ℕ) →
-        let m = meshNow counts (now (positions .entry)) (now (corners .entry)) l g in
-        Closed m → (r ≡ not (any (counts .vertices) (λ v. ltb 12 (length (ring (m .topology) v)))))
-        × (r ≡ true → Moves (counts .vertices) m (now (moved .exit)))) ⌝ }
-{
-    let mut entries = [0u8; 32768];
-    moves_by(positions, corners, counts, &mut entries, moved)
-}
-
 // The face split of each triangle, in the order of their slots.
 fn split_all(
     positions: &mut [i32],
@@ -233,34 +98,38 @@ fn split_all(
     work
 }
 
-// The vertices put where they move, the last one first.
-fn place(positions: &mut [i32], vertices: u32, moved: &[i32])
-    requires { ⌜ (vertices ≤ 32768) × (3 * vertices ≤ length (now positions)) × VerticesAgree (now moved) ⌝ }
-    ensures { λ r. ⌜ ((m : Mesh) → Moves vertices m (now (moved .entry))
+// Each vertex moved by the length and the sum of its ring.
+fn move_all(positions: &mut [i32], vertices: u32, lengths: &[u8], sums: &[i32])
+    requires { ⌜ ((m : Mesh) × Movable vertices m (now positions) (now lengths) (now sums)) ⌝ }
+    ensures { λ r. ⌜ ((m : Mesh) → Movable vertices m (now (positions .entry)) (now (lengths .entry)) (now (sums .entry))
         → now (positions .exit) ≡ moveVertices vertices m (now (positions .entry))) ⌝ }
 {
-    let mut v = vertices;
-    while 0 < v {
-        v -= 1;
-        let p = tables::point_at(moved, v);
-        tables::store_point(positions, v, p);
+    let mut v: u32 = 0;
+    while v < vertices {
+        let n = lengths[v as usize] as usize;
+        let p = tables::point_in(positions, v);
+        let sum = tables::point_in(sums, v);
+        tables::store_point(positions, v, p.moved(n, sum));
+        v += 1;
     }
 }
 
-// The number that the step is refused with; 0 where it is not, and then `moved` has where each vertex moves.
+// The number that the step is refused with; 0 where it is not, and then the two arrays, zero at first, have the length
+// of each ring and the sum of its positions.
 fn refusal(
     positions: &[i32],
     corners: &[u32],
     links: &[u32],
     generations: &[u8],
     counts: Counts,
-    moved: &mut [i32],
+    lengths: &mut [u8],
+    sums: &mut [i32],
 ) -> u32
     requires { ⌜ Sound (meshNow counts (now positions) (now corners) (now links) (now generations))
-        × Filled (pos 0) 98304 (now moved) ⌝ }
+        × Cleared (counts .vertices) (now lengths) (now sums) ⌝ }
     ensures { λ r. ⌜ (let m = meshNow counts (now (positions .entry)) (now (corners .entry)) (now (links .entry))
         (now (generations .entry)) in
-        (r ≡ wholeStepRefusal m) × (r ≡ 0 → Moves (counts .vertices) m (now (moved .exit)))) ⌝ }
+        (r ≡ wholeStepRefusal m) × (r ≡ 0 → RingSums m (now (lengths .exit)) (now (sums .exit)))) ⌝ }
 {
     let f = counts.triangles;
     if !closed_even(links, generations, f) {
@@ -269,7 +138,7 @@ fn refusal(
     if generations[0] == 20 {
         return 9;
     }
-    if !moves(positions, corners, counts, moved) {
+    if !rings::sums::ring_sums(positions, corners, counts, lengths, sums) {
         return 13;
     }
     if !tables::has_room(positions, generations, counts, f) {
@@ -278,17 +147,18 @@ fn refusal(
     0
 }
 
-// The work of the step, with where each vertex moves.
+// The work of the step, with the length of each ring and the sum of its positions.
 fn whole_step(
     positions: &mut [i32],
     corners: &mut [u32],
     links: &mut [u32],
     generations: &mut [u8],
     counts: Counts,
-    moved: &[i32],
+    lengths: &[u8],
+    sums: &[i32],
 ) -> Work
     requires { ⌜ (let m = meshNow counts (now positions) (now corners) (now links) (now generations) in
-        StepFound m × Moves (counts .vertices) m (now moved) × VerticesAgree (now moved)) ⌝ }
+        StepFound m × RingSums m (now lengths) (now sums)) ⌝ }
     ensures { λ r. ⌜
         workNow r (now (positions .exit)) (now (corners .exit)) (now (links .exit)) (now (generations .exit))
         ≡ wholeStep (meshNow counts (now (positions .entry)) (now (corners .entry)) (now (links .entry))
@@ -296,27 +166,36 @@ fn whole_step(
 {
     let v = counts.vertices;
     let work = split_all(positions, corners, links, generations, counts);
-    place(positions, v, moved);
+    move_all(positions, v, lengths, sums);
     work
 }
 
-// The whole step, with an array lent to keep where each vertex moves.
+// The whole step, with two arrays lent that are zero at first, for the length of each ring and the sum of its positions.
 fn step_by(
     positions: &mut [i32],
     corners: &mut [u32],
     links: &mut [u32],
     generations: &mut [u8],
     counts: Counts,
-    moved: &mut [i32],
+    lengths: &mut [u8],
+    sums: &mut [i32],
 ) -> Worked
     requires { ⌜ Sound (meshNow counts (now positions) (now corners) (now links) (now generations))
-        × Filled (pos 0) 98304 (now moved) ⌝ }
+        × Cleared (counts .vertices) (now lengths) (now sums) ⌝ }
     ensures { λ r. ⌜
         workedOutcome r (now (positions .exit)) (now (corners .exit)) (now (links .exit)) (now (generations .exit))
         ≡ wholeStepCall (meshNow counts (now (positions .entry)) (now (corners .entry)) (now (links .entry))
         (now (generations .entry))) ⌝ }
 {
-    let refusal = refusal(positions, corners, links, generations, counts, moved);
+    let refusal = refusal(
+        positions,
+        corners,
+        links,
+        generations,
+        counts,
+        lengths,
+        sums,
+    );
     if refusal != 0 {
         return Worked {
             refusal,
@@ -325,7 +204,15 @@ fn step_by(
             counts,
         };
     }
-    let work = whole_step(positions, corners, links, generations, counts, moved);
+    let work = whole_step(
+        positions,
+        corners,
+        links,
+        generations,
+        counts,
+        lengths,
+        sums,
+    );
     Worked {
         refusal: 0,
         splits: work.splits,
@@ -337,7 +224,91 @@ fn step_by(
     }
 }
 
-// The whole step on sound tables. All is decided before anything lent is written.
+// The same for up to 128 vertices.
+fn step_within_128(
+    positions: &mut [i32],
+    corners: &mut [u32],
+    links: &mut [u32],
+    generations: &mut [u8],
+    counts: Counts,
+) -> Worked
+    requires { ⌜ Sound (meshNow counts (now positions) (now corners) (now links) (now generations))
+        × (counts .vertices ≤ 128) ⌝ }
+    ensures { λ r. ⌜
+        workedOutcome r (now (positions .exit)) (now (corners .exit)) (now (links .exit)) (now (generations .exit))
+        ≡ wholeStepCall (meshNow counts (now (positions .entry)) (now (corners .entry)) (now (links .entry))
+        (now (generations .entry))) ⌝ }
+{
+    let mut lengths = [0u8; 128];
+    let mut sums = [0i32; 384];
+    step_by(
+        positions,
+        corners,
+        links,
+        generations,
+        counts,
+        &mut lengths,
+        &mut sums,
+    )
+}
+
+// The same for up to 2048 vertices.
+fn step_within_2048(
+    positions: &mut [i32],
+    corners: &mut [u32],
+    links: &mut [u32],
+    generations: &mut [u8],
+    counts: Counts,
+) -> Worked
+    requires { ⌜ Sound (meshNow counts (now positions) (now corners) (now links) (now generations))
+        × (counts .vertices ≤ 2048) ⌝ }
+    ensures { λ r. ⌜
+        workedOutcome r (now (positions .exit)) (now (corners .exit)) (now (links .exit)) (now (generations .exit))
+        ≡ wholeStepCall (meshNow counts (now (positions .entry)) (now (corners .entry)) (now (links .entry))
+        (now (generations .entry))) ⌝ }
+{
+    let mut lengths = [0u8; 2048];
+    let mut sums = [0i32; 6144];
+    step_by(
+        positions,
+        corners,
+        links,
+        generations,
+        counts,
+        &mut lengths,
+        &mut sums,
+    )
+}
+
+// The same for up to 32768 vertices.
+fn step_within_32768(
+    positions: &mut [i32],
+    corners: &mut [u32],
+    links: &mut [u32],
+    generations: &mut [u8],
+    counts: Counts,
+) -> Worked
+    requires { ⌜ Sound (meshNow counts (now positions) (now corners) (now links) (now generations))
+        × (counts .vertices ≤ 32768) ⌝ }
+    ensures { λ r. ⌜
+        workedOutcome r (now (positions .exit)) (now (corners .exit)) (now (links .exit)) (now (generations .exit))
+        ≡ wholeStepCall (meshNow counts (now (positions .entry)) (now (corners .entry)) (now (links .entry))
+        (now (generations .entry))) ⌝ }
+{
+    let mut lengths = [0u8; 32768];
+    let mut sums = [0i32; 98304];
+    step_by(
+        positions,
+        corners,
+        links,
+        generations,
+        counts,
+        &mut lengths,
+        &mut sums,
+    )
+}
+
+// The whole step on sound tables. All is decided before anything lent is written, and a small mesh has little to clear.
 pub fn smoothing_step(
     positions: &mut [i32],
     corners: &mut [u32],
@@ -351,6 +322,11 @@ pub fn smoothing_step(
         ≡ wholeStepCall (meshNow counts (now (positions .entry)) (now (corners .entry)) (now (links .entry))
         (now (generations .entry))) ⌝ }
 {
-    let mut moved = [0i32; 98304];
-    step_by(positions, corners, links, generations, counts, &mut moved)
+    if counts.vertices <= 128 {
+        return step_within_128(positions, corners, links, generations, counts);
+    }
+    if counts.vertices <= 2048 {
+        return step_within_2048(positions, corners, links, generations, counts);
+    }
+    step_within_32768(positions, corners, links, generations, counts)
 }

@@ -2,8 +2,9 @@
 use Prim.Native.Nat.{ℕ, _+_, _*_, _/_, _≤_}
 use mathlib.Core.List.{List, [], _∷_}
 use mathlib.Core.Path.{_≡_}
-use lib.IntN.{ℤ}
+use lib.IntN.{ℤ, pos}
 use lib.ListN.{length, getD}
+use Rattle.points.specs.Axes.{eachAxis}
 use Rattle.points.specs.declared.Point.{Point}
 use Rattle.rules.specs.Tables.{Topology, Mesh, topologyOf, meshOf, origin, link, generation, putThree, putTriangle}
 use Rattle.tables.specs.declared.Counts.{Counts}
@@ -38,6 +39,10 @@ triangleAt m t = record {
 -- The three entries of an array.
 abbrev pub entries : List ℕ → ℕ × ℕ × ℕ
 entries l = (getD l 0 0, getD l 1 0, getD l 2 0)
+
+-- The point in slot v of a table.
+abbrev pub pointIn : List ℤ → ℕ → Point
+pointIn table v = eachAxis (λ k. getD table (3 * v + k) (pos 0))
 
 -- The triangle x put into slot t, and the point p into vertex slot v.
 abbrev pub put : ℕ → Triangle → Topology → Topology

@@ -2,14 +2,14 @@
 use points::Point;
 ghost use mathlib.Core.List.{List};
 ghost use mathlib.Core.Path.{_≡_};
-ghost use Prim.Native.Nat.{ℕ, _+_, _*_, _<_};
+ghost use Prim.Native.Nat.{ℕ, _+_, _*_, _/_, _<_};
 ghost use lib.ListN.{length, getD};
 ghost use Rattle.points.specs.Axes.{eachAxis};
 ghost use Rattle.rules.specs.Calls.{roomFor};
 ghost use Rattle.rules.specs.Tables.{Topology, meshOf, coordinate, putThree, relink};
 ghost use Rattle.tables.specs.declared.Counts.{Counts};
 ghost use Rattle.tables.specs.Lent.{meshNow, topologyNow, TrianglesAgree, VerticesAgree};
-ghost use Rattle.tables.specs.Lent.{triangleAt, entries, put, putPoint};
+ghost use Rattle.tables.specs.Lent.{triangleAt, entries, put, pointIn, putPoint};
 
 pub mod sides;
 
@@ -112,6 +112,15 @@ pub fn relink(links: &mut [u32], h: u32, k: u32)
     if i < links.len() {
         links[i] = k;
     }
+}
+
+// The point in slot v of a table that has this slot.
+pub fn point_in(table: &[i32], v: u32) -> Point
+    requires { ⌜ v < length (now table) / 3 ⌝ }
+    ensures { λ r. ⌜ r ≡ pointIn (now (table .entry)) v ⌝ }
+{
+    let i = 3 * (v as usize);
+    Point::new(table[i], table[i + 1], table[i + 2])
 }
 
 // The point in vertex slot v; zero past the table.

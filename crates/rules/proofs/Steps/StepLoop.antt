@@ -6,6 +6,7 @@ use native.Mathlib.Omega.{arith}
 use Rattle.rules.proofs.Calls.Carried.{StepFound}
 use Rattle.rules.proofs.Chains.RefineLoop.{NextSplit}
 use Rattle.rules.proofs.Soundness.Relaxed.{SameSlots, agree-on}
+use Rattle.rules.proofs.Splits.Places.{Places}
 use Rattle.rules.proofs.Steps.StepTopology.{Midway}
 use Rattle.rules.proofs.Steps.WholeStep.{closed-none-odd, midway, next-split}
 use Rattle.rules.specs.Split.{Work, atFirst, faceSplit}
@@ -25,6 +26,10 @@ module _ {m : Mesh} (R : StepFound m) where
       links = M .links;
       generations = M .generations;
     }
+
+    -- The vertices stand where they stood.
+    pub step-places : Places m (w .mesh)
+    step-places = M .places
 
     pub step-splits : w .splits ≡ i
     step-splits = omega (arith, M .splits)

@@ -1,10 +1,12 @@
 -- The positions of the whole step: all old vertices moved at once, and in range.
-use mathlib.Core.Path.{_≡_, refl, _∙_}
+use mathlib.Core.Logic.{_≢_}
+use mathlib.Core.Path.{_≡_, refl, ap, _∙_}
 use mathlib.Core.List.{List, [], _∷_}
 use Prim.Native.Nat.{ℕ, zero, suc, _+_, _*_, _/_, _≤_, _<_}
 use native.Mathlib.Omega.{arith}
 use native.Mathlib.Decide.{ℕ-discrete}
-use lib.ListN.{length, getD, drop, length-set}
+use lib.ListN.{length, getD, set, drop, length-set}
+use lib.Seq.{set-comm}
 use lib.IntN.{ℤ, pos, negℤ, _+ℤ_}
 use lib.Signed.{_≤ℤ_}
 use Rattle.rules.proofs.Numbers.Differences.{its, nat, add, neg, at-most, at-most-gives}
@@ -33,6 +35,40 @@ pub move-past : (n : ℕ) (m : Mesh) (l : List ℤ) (b : ℕ) → n ≤ b → dr
 unfolding moveVertices
 move-past zero m l b k = refl
 move-past (suc v) m l b k = move-past v m _ b (omega arith) ∙ drop-put l v b _ k
+
+-- Writes to two slots change places.
+module _ {A : Type 0} (t : ℕ) (x : A × A × A) where
+  put-set : (l : List A) (i : ℕ) (a : A) → i / 3 ≢ t → putThree t x (set l i a) ≡ set (putThree t x l) i a
+  put-set l i a n =
+      let n₀ : i ≢ 3 * t = omega arith in
+      let n₁ : i ≢ 3 * t + 1 = omega arith in
+      let n₂ : i ≢ 3 * t + 2 = omega arith in
+      rw (
+        set-comm l i (3 * t) a (x .0) n₀,
+        set-comm (set l (3 * t) (x .0)) i (3 * t + 1) a (x .1) n₁,
+        set-comm (set (set l (3 * t) (x .0)) (3 * t + 1) (x .1)) i (3 * t + 2) a (x .2) n₂,
+      )
+
+  put-put : (l : List A) (v : ℕ) (a b c : A) → v ≢ t
+      → putThree t x (putThree v (a, b, c) l) ≡ putThree v (a, b, c) (putThree t x l)
+  put-put l v a b c n =
+      put-set (set (set l (3 * v) a) (3 * v + 1) b) (3 * v + 2) c (omega arith)
+      ∙ ap (λ (k : List A). set k (3 * v + 2) c) (put-set (set l (3 * v) a) (3 * v + 1) b (omega arith))
+      ∙ ap (λ (k : List A). set (set k (3 * v + 1) b) (3 * v + 2) c) (put-set l (3 * v) a (omega arith))
+
+move-put : (n : ℕ) (m : Mesh) (l : List ℤ) (v : ℕ) (a b c : ℤ) → n ≤ v
+    → moveVertices n m (putThree v (a, b, c) l) ≡ putThree v (a, b, c) (moveVertices n m l)
+unfolding moveVertices
+move-put zero m l v a b c k = refl
+move-put (suc n) m l v a b c k =
+    ap (moveVertices n m) (put-put n _ l v a b c (omega arith)) ∙ move-put n m _ v a b c (omega arith)
+
+-- Vertex v moved after those below it.
+pub move-next : (v : ℕ) (m : Mesh) (l : List ℤ)
+    → moveVertices (suc v) m l
+    ≡ putThree v (movedCoordinate m v 0, movedCoordinate m v 1, movedCoordinate m v 2) (moveVertices v m l)
+unfolding moveVertices
+move-next v m l = move-put v m l v _ _ _ (omega arith)
 
 -- The first n vertices stand where they move to.
 module _ (m : Mesh) (v k : ℕ) (three : k < 3) where

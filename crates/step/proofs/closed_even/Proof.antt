@@ -1,10 +1,32 @@
 -- `step::closed_even` meets its contract.
 use borrow.Author.Needs.{needs}
 use borrow.Author.Tests.{not-true, not-false}
-use Rattle.rules.specs.Tables.{topologyOf}
-use Rattle.step.proofs.ClosedEven.{on-boundary, of-several, of-one}
+use Prim.Native.Nat.{ℕ, _%_}
+use mathlib.Core.Bool.{Bool, true, false, not}
+use mathlib.Core.Path.{_≡_, _∙_}
+use lib.Dec.{eqb}
+use Rattle.rules.proofs.Numbers.Decide.{is-eq, is-same, even-is}
+use Rattle.rules.specs.Below.{all}
+use Rattle.rules.specs.Calls.{closedEven}
+use Rattle.rules.specs.Tables.{topologyOf, Topology, sides, link, boundary, generation}
 use Rattle.step.proofs.closed_even.Statement.{statement}
 use Rattle.step.proofs.closed_even.Tie as tie
+
+-- The answer by those of the two tests, a of the boundary and b of the generations.
+module _ (m : Topology) (a : Bool) (ea : a ≡ all (sides m) (λ h. not (eqb (link m h) boundary))) where
+  on-boundary : a ≡ false → false ≡ closedEven m
+  unfolding closedEven
+  on-boundary e = rw (closedEven, ← ea, e)
+
+  module _ (inner : a ≡ true) (g : ℕ) (eg : g ≡ generation m 0) (b : Bool)
+      (eb : b ≡ all (m .triangles) (λ t. eqb (generation m t) g)) where
+    of-several : b ≡ false → false ≡ closedEven m
+    unfolding closedEven
+    of-several e = rw (closedEven, ← ea, inner, ← eg, ← eb, e)
+
+    of-one : b ≡ true → eqb (g % 2) 0 ≡ closedEven m
+    unfolding closedEven
+    of-one e = is-same (is-eq (g % 2) 0) (even-is g) ∙ rw (closedEven, ← ea, inner, ← eg, ← eb, e)
 
 mul-none-on-boundary : tie.Need-mul-none-on-boundary
 mul-none-on-boundary c = search needs

@@ -1,19 +1,31 @@
 -- `step::refusal` meets its contract.
 use borrow.Author.Needs.{needs}
 use borrow.Author.Tests.{eq-eqb, ne-eqb, not-true, not-false}
+use Prim.Native.Nat.{ℕ}
 use native.Mathlib.Omega.{arith}
-use mathlib.Core.Bool.{true, false}
+use mathlib.Core.Bool.{true, false, not, Bool}
+use mathlib.Core.List.{List}
 use mathlib.Core.Path.{_≡_, refl, sym, _∙_}
 use lib.Dec.{eqb}
+use lib.IntN.{ℤ}
+use Rattle.rules.proofs.Calls.CallRefusals.{closed-even-is, long-ring-is}
+use Rattle.rules.proofs.Numbers.Decide.{is-true, is-false, is-same, when-true}
 use Rattle.rules.proofs.Steps.StepRefusals.{longRing, step-by-tests}
 use Rattle.rules.specs.Calls.{closedEven, roomFor}
 use Rattle.rules.specs.Sound.{Sound}
 use Rattle.rules.specs.Tables.{Mesh, generation}
 use Rattle.tables.specs.Lent.{meshNow}
-use Rattle.step.specs.Moves.{Closed}
-use Rattle.step.proofs.Deciding.{closed-of}
+use Rattle.rings.specs.Sums.{Closed, RingsAdded}
 use Rattle.step.proofs.refusal.Statement.{statement}
 use Rattle.step.proofs.refusal.Tie as tie
+
+-- The answer of the ring sums tells whether a ring is too long.
+rings-tell : {m : Mesh} {lengths : List ℕ} {sums : List ℤ} (r : Bool) → RingsAdded m lengths sums r
+    → not r ≡ longRing m
+rings-tell {m} true A =
+    let S = A .whole refl in
+    is-same (is-false (λ (v, b, l). omega (arith, S .long v b, S .few v b))) (long-ring-is (m .topology))
+rings-tell {m} false A = is-same (is-true (A .crowded refl)) (long-ring-is (m .topology))
 
 abbrev mesh : tie.Start → Mesh
 mesh c =
@@ -23,7 +35,7 @@ mesh c =
 -- The mesh is closed and of one even generation.
 module _ (c : tie.Else1) where
   abbrev start : tie.Start
-  start = c .before .before .before .before .before
+  start = c .before .before .before .before .before .before
 
   sound : Sound (mesh start)
   sound = start .pre .0
@@ -32,35 +44,45 @@ module _ (c : tie.Else1) where
   even = sym (c .before .closed-even .ensures _ _) ∙ not-false _ (c .if1 .left)
 
   closed : Closed (mesh start)
-  closed = closed-of sound even
+  closed = record {
+    sound = sound;
+    inner = when-true (closed-even-is (mesh start .topology) (sound .someTriangle)) even .closed;
+  }
 
 -- Its generation is below 20.
 young : (c : tie.Else2) → eqb (generation (mesh (start (c .before .before)) .topology) 0) 20 ≡ false
 young c = ne-eqb _ _ (c .if2 .left)
 
--- Its rings are short.
-short : (c : tie.Else3) → longRing (mesh (start (c .before .before .before .before .before .before))) ≡ false
-short c =
-    let at-moves = c .before .before in
-    let inner = at-moves .before .before .before .before in
-    not-true _ (sym (at-moves .moves .ensures _ _ (closed inner) .0) ∙ not-false _ (c .if3 .left))
+-- What is told of its rings, and of the room.
+module _ (c : tie.After-ring-sums) where
+  abbrev second : tie.Else2
+  second = c .before .before .before
 
--- What is told of the room for it.
-room-told : (c : tie.After-has-room) →
-    let m = mesh (start (c .before .before .before .before .before .before .before)) in
-    c .has-room .result ≡ roomFor (m .topology .triangles) m
-room-told c =
-    let m = mesh (start (c .before .before .before .before .before .before .before)) in
-    c .has-room .ensures (m .topology .corners) (m .topology .links)
+  abbrev inner : tie.Else1
+  inner = second .before .before
+
+  rings-told : not (c .ring-sums .result) ≡ longRing (mesh (start inner))
+  rings-told = rings-tell _ (c .ring-sums .ensures _ _ (closed inner))
+
+module _ (c : tie.After-has-room) where
+  abbrev at-sums : tie.After-ring-sums
+  at-sums = c .before .before .before .before .before
+
+  room-told :
+      let m = mesh (start (inner at-sums)) in
+      c .has-room .result ≡ roomFor (m .topology .triangles) m
+  room-told =
+      let m = mesh (start (inner at-sums)) in
+      c .has-room .ensures (m .topology .corners) (m .topology .links)
 
 closed-even-requires : tie.Need-closed-even-requires
 closed-even-requires c κs =
-    let S = c .before .before .before .pre .0 in
+    let S = c .before .before .before .before .pre .0 in
     omega (arith, S .tables .links, S .tables .fewTriangles, S .triangleRoom)
 
 returns : tie.Need-returns
 returns c = (
-  step-by-tests (c .before .before .before .before .before .pre .0)
+  step-by-tests (c .before .before .before .before .before .before .pre .0)
       (sym (c .before .closed-even .ensures _ _) ∙ not-true _ (c .if1 .taken)) refl refl refl,
   λ e. absurd (omega arith),
 )
@@ -73,52 +95,54 @@ returns-2 c =
     let inner = c .before .before in
     (step-by-tests (sound inner) (even inner) (eq-eqb _ _ (c .if2 .taken)) refl refl, λ e. absurd (omega arith))
 
-moves-requires : tie.Need-moves-requires
-moves-requires c κs =
-    let inner = c .before .before .before in
+ring-sums-requires : tie.Need-ring-sums-requires
+ring-sums-requires c κs =
+    let inner = c .before .before .before .before in
     ((_, _, closed inner), start inner .pre .1)
 
 same-length : tie.Need-same-length
 same-length c = search needs
 
+same-length-2 : tie.Need-same-length-2
+same-length-2 c = search needs
+
 returns-3 : tie.Need-returns-3
 returns-3 c =
-    let at-moves = c .before .before in
-    let second = at-moves .before .before in
-    let inner = second .before .before in (
-      step-by-tests (sound inner) (even inner) (young second)
-          (not-false _ (sym (at-moves .moves .ensures _ _ (closed inner) .0) ∙ not-true _ (c .if3 .taken))) refl,
+    let s = c .before .before .before .before in (
+      step-by-tests (sound (inner s)) (even (inner s)) (young (second s)) (sym (rings-told s) ∙ c .if3 .taken) refl,
       λ e. absurd (omega arith),
     )
 
 has-room-requires : tie.Need-has-room-requires
 has-room-requires c κs = search needs
 
-same-length-2 : tie.Need-same-length-2
-same-length-2 c = search needs
-
-returns-4 : tie.Need-returns-4
-returns-4 c =
-    let third = c .before .before in
-    let second = third .before .before .before .before in
-    let inner = second .before .before in (
-      step-by-tests (sound inner) (even inner) (young second) (short third)
-          (sym (room-told (c .before)) ∙ not-true _ (c .if4 .taken)),
-      λ e. absurd (omega arith),
-    )
-
 same-length-3 : tie.Need-same-length-3
 same-length-3 c = search needs
 
+same-length-4 : tie.Need-same-length-4
+same-length-4 c = search needs
+
+returns-4 : tie.Need-returns-4
+returns-4 c =
+    let s = at-sums (c .before) in (
+      step-by-tests (sound (inner s)) (even (inner s)) (young (second s))
+          (sym (rings-told s) ∙ c .before .before .if3 .left) (sym (room-told (c .before)) ∙ not-true _ (c .if4 .taken)),
+      λ e. absurd (omega arith),
+    )
+
+same-length-5 : tie.Need-same-length-5
+same-length-5 c = search needs
+
+same-length-6 : tie.Need-same-length-6
+same-length-6 c = search needs
+
 returns-5 : tie.Need-returns-5
 returns-5 c =
-    let third = c .before .before in
-    let at-moves = third .before .before in
-    let second = at-moves .before .before in
-    let inner = second .before .before in (
-      step-by-tests (sound inner) (even inner) (young second) (short third)
+    let s = at-sums (c .before) in
+    let third = c .before .before in (
+      step-by-tests (sound (inner s)) (even (inner s)) (young (second s)) (sym (rings-told s) ∙ third .if3 .left)
           (sym (room-told (c .before)) ∙ not-false _ (c .if4 .left)),
-      λ e. at-moves .moves .ensures _ _ (closed inner) .1 (not-false _ (third .if3 .left)),
+      λ e. s .ring-sums .ensures _ _ (closed (inner s)) .whole (not-false _ (third .if3 .left)),
     )
 
 pub refusal-spec : {M : Type 1} → statement M
@@ -129,11 +153,14 @@ refusal-spec =
     returns
     shared-slice-read-if2
     returns-2
-    moves-requires
+    ring-sums-requires
     same-length
+    same-length-2
     returns-3
     has-room-requires
-    same-length-2
-    returns-4
     same-length-3
+    same-length-4
+    returns-4
+    same-length-5
+    same-length-6
     returns-5)

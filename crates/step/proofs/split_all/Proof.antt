@@ -1,17 +1,35 @@
 -- `step::split_all` meets its contract: the loop of the whole step.
 use borrow.Author.Needs.{needs}
-use Prim.Native.Nat.{_-_, _≤_}
+use Prim.Native.Nat.{_-_, _≤_, ℕ, _<_}
 use native.Mathlib.Omega.{arith}
 use mathlib.Core.Path.{_≡_, refl, _∙_}
+use Rattle.rules.proofs.Calls.Carried.{StepFound}
 use Rattle.rules.proofs.Soundness.Relaxed.{SameSlots}
-use Rattle.rules.proofs.Steps.StepLoop.{step-slots, step-on}
-use Rattle.rules.specs.Split.{atFirst}
+use Rattle.rules.proofs.Steps.StepLoop.{step-slots, step-on, step-splits, step-flips, step-next}
+use Rattle.rules.specs.Split.{atFirst, Work}
 use Rattle.rules.specs.Step.{refineFirst}
+use Rattle.rules.specs.Tables.{Mesh}
 use Rattle.tables.specs.Lent.{meshNow}
-use Rattle.split.specs.Made.{workNow}
-use Rattle.step.proofs.Splitting.{next-may-split}
+use Rattle.split.specs.Made.{workNow, MaySplit}
 use Rattle.step.proofs.split_all.Statement.{statement}
 use Rattle.step.proofs.split_all.Tie as tie
+
+-- What the next face split asks.
+next-may-split : {m : Mesh} {i : ℕ} {w : Work} → StepFound m → w ≡ refineFirst i (atFirst m)
+    → i < m .topology .triangles → MaySplit i w
+next-may-split {m} {i} R at l =
+    let n : i ≤ m .topology .triangles = omega arith in
+    let S = step-next R at n l in
+    let few = R .sound .tables .fewTriangles in
+    let room = R .sound .triangleRoom in
+    record {
+      tables = S .tables;
+      slot = omega (arith, S .inUse, S .room .triangles);
+      room = S .room;
+      young = omega (arith, S .young);
+      splits = omega (arith, step-splits R at n);
+      flips = omega (arith, step-flips R at n);
+    }
 
 abbrev Inv-loop : tie.InvT-loop
 Inv-loop positions₀ corners₀ links₀ generations₀ f t₀ work₀ positions corners links generations t work =

@@ -1,11 +1,13 @@
--- `step::add_triangle` meets its contract.
+-- `rings::sums::add_triangle` meets its contract.
 use borrow.Author.Needs.{needs}
 use borrow.Author.Tests.{not-true, not-false}
 use mathlib.Core.Path.{sym, subst}
 use lib.Dec.{T}
-use Rattle.step.proofs.Summing.{first-fits, first-done, second-fits, second-done, third-fits, third-done}
-use Rattle.step.proofs.add_triangle.Statement.{statement}
-use Rattle.step.proofs.add_triangle.Tie as tie
+use Rattle.rings.proofs.sums.add_triangle.Proof.Sides.{first-fits, first-done, second-fits, second-done}
+use Rattle.rings.proofs.sums.add_triangle.Proof.Sides.{third-fits, third-done}
+use Rattle.rings.proofs.sums.add_triangle.Statement.{statement}
+use Rattle.rings.proofs.sums.add_triangle.Tie as tie
+mod Sides
 
 mul-i : tie.Need-mul-i
 mul-i c = search needs

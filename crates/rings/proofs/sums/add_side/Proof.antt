@@ -1,10 +1,10 @@
--- `step::add_side` meets its contract.
+-- `rings::sums::add_side` meets its contract.
 use borrow.Author.Needs.{needs}
 use native.Mathlib.Omega.{arith}
 use mathlib.Core.Path.{refl, sym, _∙_, subst}
 use lib.Dec.{T}
-use Rattle.step.proofs.add_side.Statement.{statement}
-use Rattle.step.proofs.add_side.Tie as tie
+use Rattle.rings.proofs.sums.add_side.Statement.{statement}
+use Rattle.rings.proofs.sums.add_side.Tie as tie
 
 slice-read-n : tie.Need-slice-read-n
 slice-read-n c = search needs
@@ -17,11 +17,11 @@ returns c = record {
   full = λ e. omega (arith, c .if1 .taken);
 }
 
-add-entries : tie.Need-add-entries
-add-entries c = search needs
+add-lengths : tie.Need-add-lengths
+add-lengths c = search needs
 
-slice-write-entries : tie.Need-slice-write-entries
-slice-write-entries c = search needs
+slice-write-lengths : tie.Need-slice-write-lengths
+slice-write-lengths c = search needs
 
 point-in-requires : tie.Need-point-in-requires
 point-in-requires c κs = search needs
@@ -65,8 +65,8 @@ add-side-spec =
     (tie.spec
     slice-read-n
     returns
-    add-entries
-    slice-write-entries
+    add-lengths
+    slice-write-lengths
     point-in-requires
     point-in-requires-2
     plus-requires

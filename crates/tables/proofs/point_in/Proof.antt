@@ -1,4 +1,4 @@
--- `step::point_in` meets its contract.
+-- `tables::point_in` meets its contract.
 use borrow.Author.Needs.{needs}
 use Prim.Native.Nat.{ℕ, _+_, _*_}
 use native.Mathlib.Omega.{arith}
@@ -7,8 +7,8 @@ use lib.IntN.{ℤ, pos}
 use lib.ListN.{getD}
 use mir.Syntax.{w32}
 use Rattle.points.proofs.Signed.{returned}
-use Rattle.step.proofs.point_in.Statement.{statement}
-use Rattle.step.proofs.point_in.Tie as tie
+use Rattle.tables.proofs.point_in.Statement.{statement}
+use Rattle.tables.proofs.point_in.Tie as tie
 
 mul-i : tie.Need-mul-i
 mul-i c = search needs

@@ -1,0 +1,2 @@
+-- Laws of ring sums that their callers cite.
+pub mod Zeros
