@@ -1,8 +1,9 @@
 -- Points, axis by axis: a rule on coordinates is said once, for axis k.
-use Prim.Native.Nat.{ℕ, zero, suc, _*_}
+use Prim.Native.Nat.{ℕ, zero, suc, _*_, _≤_}
 use lib.IntN.{ℤ, pos, negℤ, _+ℤ_}
 use lib.Signed.{_≤ℤ_}
-use Rattle.rules.specs.Numbers.{nearestThird, moved}
+use Rattle.rules.proofs.Numbers.Rounding.{mean}
+use Rattle.rules.specs.Numbers.{nearestThird, moved, limit}
 use Rattle.points.specs.declared.Point.{Point}
 
 -- Which of three numbers stands on axis k: axes 0, 1 and 2 are x, y and z.
@@ -25,9 +26,25 @@ eachAxis f = at (f 0) (f 1) (f 2)
 abbrev pub thirds : Point → Point → Point → Point
 thirds a b c = eachAxis (λ k. nearestThird (coordinate a k +ℤ coordinate b k +ℤ coordinate c k))
 
+-- Parts of a mean: n places have b each, and one has a.
+pub record Parts (a b n : ℕ) : Type 0 where
+  pub some : 1 ≤ n
+  pub few : n ≤ 12
+  pub own : 1 ≤ a
+  pub ownMost : a ≤ 786432
+  pub most : b ≤ 131073
+
+-- The mean of a parts at p and b parts at each of n points that add up to s.
+abbrev pub meanPoint : ℕ → ℕ → ℕ → Point → Point → Point
+meanPoint a b n p s = eachAxis (λ k. mean a b n (coordinate p k) (coordinate s k))
+
 -- Where a vertex moves: it is at p and has n ring entries that add up to s.
 abbrev pub movedPoint : ℕ → Point → Point → Point
 movedPoint n p s = eachAxis (λ k. moved n (coordinate p k) (coordinate s k))
+
+-- Its limit position.
+abbrev pub limitPoint : ℕ → Point → Point → Point
+limitPoint n p s = eachAxis (λ k. limit n (coordinate p k) (coordinate s k))
 
 -- The sum of two points.
 abbrev pub plus : Point → Point → Point

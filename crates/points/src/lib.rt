@@ -3,8 +3,9 @@ ghost use mathlib.Core.Path.{_≡_};
 ghost use Prim.Native.Nat.{_+_, _*_, _≤_, _<_};
 ghost use lib.IntN.{pos, _+ℤ_, _-ℤ_};
 ghost use lib.ListN.{length};
-ghost use Rattle.rules.specs.Numbers.{inRange, nearestThird, halfUp, weight, moved, numberAt, signed};
-ghost use Rattle.points.specs.Axes.{at, thirds, movedPoint, plus, SumOf, Fits};
+ghost use Rattle.rules.proofs.Numbers.Rounding.{mean};
+ghost use Rattle.rules.specs.Numbers.{inRange, nearestThird, halfUp, weight, numberAt, signed};
+ghost use Rattle.points.specs.Axes.{at, thirds, Parts, meanPoint, movedPoint, limitPoint, plus, SumOf, Fits};
 
 // A point, in units of 1/1024 mm.
 #[repr(C)]
@@ -49,17 +50,34 @@ impl Point {
         }
     }
 
+    // The mean of a parts at this point and b parts at each of n points that add up to sum.
+    fn mean(self, a: u64, b: u64, n: usize, sum: Point) -> Self
+        requires { ⌜ Parts a b n ⌝ }
+        ensures { λ r. ⌜ r ≡ meanPoint a b n self sum ⌝ }
+    {
+        Self {
+            x: mean_of(a, b, n, self.x, sum.x),
+            y: mean_of(a, b, n, self.y, sum.y),
+            z: mean_of(a, b, n, self.z, sum.z),
+        }
+    }
+
     // Where a vertex moves in a whole step: it has n ring entries, which add up to sum.
     pub fn moved(self, n: usize, sum: Point) -> Self
         requires { ⌜ (1 ≤ n) × (n ≤ 12) ⌝ }
         ensures { λ r. ⌜ r ≡ movedPoint n self sum ⌝ }
     {
         let w = weight_of(n);
-        Self {
-            x: moved_to(n, w, self.x, sum.x),
-            y: moved_to(n, w, self.y, sum.y),
-            z: moved_to(n, w, self.z, sum.z),
-        }
+        self.mean(n as u64 * (65536 - w), w, n, sum)
+    }
+
+    // Its limit position.
+    pub fn limit(self, n: usize, sum: Point) -> Self
+        requires { ⌜ (1 ≤ n) × (n ≤ 12) ⌝ }
+        ensures { λ r. ⌜ r ≡ limitPoint n self sum ⌝ }
+    {
+        let w = weight_of(n);
+        self.mean(65536 * n as u64, 3 * w, n, sum)
     }
 }
 
@@ -142,14 +160,14 @@ fn weight_of(n: usize) -> u64
     WEIGHTS[n]
 }
 
-// Where a vertex moves, in one coordinate: it is at p and has n ring entries of weight w that add up to s.
-fn moved_to(n: usize, w: u64, p: i32, s: i32) -> i32
-    requires { ⌜ (1 ≤ n) × (n ≤ 12) × (w ≡ weight n) ⌝ }
-    ensures { λ r. ⌜ r ≡ moved n p s ⌝ }
+// The mean of a parts at p and b parts at each of n places that add up to s, in one coordinate.
+fn mean_of(a: u64, b: u64, n: usize, p: i32, s: i32) -> i32
+    requires { ⌜ Parts a b n ⌝ }
+    ensures { λ r. ⌜ r ≡ mean a b n p s ⌝ }
 {
     let k = n as u64;
-    let m = k * (65536 - w) * raised(p) + w * raised_sum(s as i64, k);
-    lowered(half_up(m, 65536 * k))
+    let m = a * raised(p) + b * raised_sum(s as i64, k);
+    lowered(half_up(m, a + b * k))
 }
 
 // The number of four bytes, low byte first.

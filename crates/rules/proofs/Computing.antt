@@ -6,14 +6,15 @@ use lib.ListN.{replicate}
 use Rattle.rules.specs.Below.{all, any, lowest, total, fill}
 use Rattle.rules.specs.Cage.{cageOf, partner, loaded, sizesFit, cornersFit, coordinatesFit, sidesDiffer, fansFit}
 use Rattle.rules.specs.Calls.{Outcome, closedEven, loadRefusal, refineRefusal, wholeStepRefusal, ringRefusal}
-use Rattle.rules.specs.Calls.{positionRefusal, loadCall, refineCall, wholeStepCall, ringCall, positionCall}
+use Rattle.rules.specs.Calls.{positionRefusal, limitRefusal, loadCall, refineCall, wholeStepCall, ringCall, positionCall, limitCall}
 use Rattle.rules.specs.History.{Change, changes, after, outcomes, lastLoad, edges, cageEdges}
-use Rattle.rules.specs.Numbers.{numberAt, signed, floorDiv, nearestThird, halfUp, weights, weight, moved}
+use Rattle.rules.specs.Numbers.{numberAt, signed, floorDiv, nearestThird, halfUp, weights, weight, moved, limit}
 use Rattle.rules.specs.Ring.{firstSide, fanFrom, fan, neighbours, ring}
 use Rattle.rules.specs.Sound.{isLinked, soundSide, hasOneFan, isSound}
 use Rattle.rules.specs.Split.{split, flip, centre, splitPlaced, settle, faceSplit, chainEndWithin, chainOddWithin}
 use Rattle.rules.specs.Split.{raise, refine}
-use Rattle.rules.specs.Step.{sumOver, movedCoordinate, moveVertices, refineFirst, wholeStep}
+use Rattle.rules.specs.Step.{sumOver, movedCoordinate, moveVertices, refineFirst, wholeStep, limitCoordinate}
+use Rattle.rules.specs.Step.{limitPositions}
 use Rattle.rules.specs.Tables.{Mesh, topologyOf, meshOf, tablesAgree}
 
 -- A declaration that says `unfolding computing` computes with every definition of the rules.
@@ -22,7 +23,7 @@ unfolding all any lowest total fill cageOf partner loaded sizesFit cornersFit co
     closedEven loadRefusal refineRefusal wholeStepRefusal ringRefusal positionRefusal loadCall refineCall
     wholeStepCall ringCall positionCall after outcomes lastLoad edges cageEdges numberAt signed floorDiv nearestThird
     halfUp weights weight moved firstSide fanFrom fan neighbours ring isLinked soundSide hasOneFan isSound split flip
-    centre splitPlaced settle faceSplit chainEndWithin chainOddWithin raise refine sumOver movedCoordinate
+    limit limitCoordinate limitPositions limitRefusal limitCall centre splitPlaced settle faceSplit chainEndWithin chainOddWithin raise refine sumOver movedCoordinate
     moveVertices refineFirst wholeStep tablesAgree
 computing = tt
 

@@ -7,9 +7,10 @@ use lib.ListN.{replicate, drop}
 use Rattle.rules.proofs.Computing.{computing, made, madeEach, fresh, bytes, tetrahedron}
 use Rattle.rules.proofs.Examples.{lineOf, triangleOf, pointOf}
 use Rattle.rules.proofs.Refusals.{refusalAfter, cageAtOrigin, triangle}
-use Rattle.rules.specs.History.{Change, loads, refines, steps, ringOf, positionOf, asked, changes}
+use Rattle.rules.specs.History.{Change, loads, refines, steps, ringOf, positionOf, limitsOf, asked, changes}
 use Rattle.rules.specs.History.{nothing, cage, lastLoad, edges}
 use Rattle.rules.specs.Numbers.{nearestThird, halfUp}
+use Rattle.rules.specs.Step.{limitCoordinate}
 use Rattle.rules.specs.Tables.{Mesh, topologyOf, meshOf, link, generation}
 
 unfoldable pub store : Mesh
@@ -26,6 +27,14 @@ octahedron =
     loads (cageAtOrigin 6 8 (
     0 ∷ 1 ∷ 4 ∷ 1 ∷ 2 ∷ 4 ∷ 2 ∷ 3 ∷ 4 ∷ 3 ∷ 0 ∷ 4 ∷ 1 ∷ 0 ∷ 5 ∷ 2 ∷ 1 ∷ 5 ∷ 3 ∷ 2 ∷ 5 ∷ 0 ∷ 3 ∷ 5 ∷ []
     )) ∷ refines 0 ∷ refines 4 ∷ []
+
+-- The same with only vertex 2 away from the origin, at this x, whose four bytes are given.
+unfoldable pub pulled : List ℕ → List Change
+unfolding bytes
+pulled x =
+    loads (bytes (6 ∷ 8 ∷ []) ++ replicate 24 0 ++ x ++ replicate 44 0 ++ bytes (
+    0 ∷ 1 ∷ 4 ∷ 1 ∷ 2 ∷ 4 ∷ 2 ∷ 3 ∷ 4 ∷ 3 ∷ 0 ∷ 4 ∷ 1 ∷ 0 ∷ 5 ∷ 2 ∷ 1 ∷ 5 ∷ 3 ∷ 2 ∷ 5 ∷ 0 ∷ 3 ∷ 5 ∷ []
+    )) ∷ []
 
 unfoldable pub longChain : List Change
 unfolding tetrahedron
@@ -99,6 +108,11 @@ pub record Table : Type 0 where
   pub movedThree : pointOf (made (loads tetrahedron ∷ steps ∷ []) store) 3 ≡ pos 2 ∷ pos 2 ∷ pos 4 ∷ []
   -- New vertices are placed by the old positions.
   pub placedFour : pointOf (made (loads tetrahedron ∷ steps ∷ []) store) 4 ≡ pos 3 ∷ pos 3 ∷ pos 0 ∷ []
+  -- Limit positions, and a half, 43690.5, that goes up on both sides of zero: 305834 to one side, and to the other.
+  pub limits : asked (limitsOf (replicate 12 (pos 77))) (made (loads tetrahedron ∷ []) store) .room .table
+      ≡ pos 2 ∷ pos 2 ∷ pos 2 ∷ pos 3 ∷ pos 2 ∷ pos 2 ∷ pos 2 ∷ pos 3 ∷ pos 2 ∷ pos 2 ∷ pos 2 ∷ pos 3 ∷ []
+  pub limitHalf : limitCoordinate (made (pulled (170 ∷ 170 ∷ 4 ∷ 0 ∷ [])) store) 1 0 ≡ pos 43691
+  pub limitHalfBelow : limitCoordinate (made (pulled (86 ∷ 85 ∷ 251 ∷ 255 ∷ [])) store) 1 0 ≡ negsuc 43689
   -- A side alone links to 2^32 - 1.
   pub unlinked : link (made (loads triangle ∷ []) store .topology) 0 ≡ 4294967295
   -- Coordinates are signed, low byte first, and both limits are allowed.
@@ -117,7 +131,7 @@ pub record Table : Type 0 where
   pub halves : halfUp (pos 5) 2 ∷ halfUp (negsuc 4) 2 ∷ [] ≡ pos 3 ∷ negsuc 1 ∷ []
 
 pub readings : Table
-unfolding computing fresh tetrahedron triangle store sideOne octahedron longChain hinge withFirst signedBytes foil
+unfolding computing fresh tetrahedron triangle store sideOne octahedron pulled longChain hinge withFirst signedBytes foil
     atEighteen
 readings = record {
   throughSideOne = refl;
@@ -138,6 +152,9 @@ readings = record {
   movedTwo = refl;
   movedThree = refl;
   placedFour = refl;
+  limits = refl;
+  limitHalf = refl;
+  limitHalfBelow = refl;
   unlinked = refl;
   signedPoint = refl;
   greatest = refl;

@@ -5,7 +5,7 @@ use mathlib.Core.Path.{_≡_, refl}
 use lib.IntN.{pos}
 use lib.ListN.{replicate, take}
 use Rattle.rules.proofs.Computing.{computing, made, fresh, bytes, tetrahedron}
-use Rattle.rules.specs.History.{Change, loads, refines, steps, ringOf, Call, changes, asks, outcome}
+use Rattle.rules.specs.History.{Change, loads, refines, steps, ringOf, limitsOf, Call, changes, asks, outcome}
 use Rattle.rules.specs.Tables.{Mesh, topologyOf, meshOf}
 
 -- The refusal of the last call, on a mesh, after the others.
@@ -65,6 +65,10 @@ pub record Table : Type 0 where
   pub n13 : refusalAfter (loads (doublePyramid 13) ∷ []) (changes steps) (fresh 15 26) ≡ 13
   pub twelveIsAllowed : refusalAfter (loads (doublePyramid 12) ∷ []) (changes steps) (fresh 38 72) ≡ 0
   pub n14 : refusalAfter (loads tetrahedron ∷ []) (asks (ringOf 0 (7 ∷ 7 ∷ []))) small ≡ 14
+  pub n15 : refusalAfter (loads tetrahedron ∷ []) (asks (limitsOf (replicate 11 (pos 7)))) small ≡ 15
+  pub longerIsRefused : refusalAfter (loads tetrahedron ∷ []) (asks (limitsOf (replicate 13 (pos 7)))) small ≡ 15
+  pub ringBeforeTable : refusalAfter (loads (doublePyramid 13) ∷ []) (asks (limitsOf [])) (fresh 15 26) ≡ 13
+  pub twentyIsAnswered : refusalAfter [] (asks (limitsOf (replicate 9 (pos 7)))) grown ≡ 0
 
 pub refusals : Table
 unfolding computing fresh small uneven tetrahedron cageAtOrigin triangle tooFar grown doublePyramid
@@ -84,4 +88,8 @@ refusals = record {
   n13 = refl;
   twelveIsAllowed = refl;
   n14 = refl;
+  n15 = refl;
+  longerIsRefused = refl;
+  ringBeforeTable = refl;
+  twentyIsAnswered = refl;
 }

@@ -7,11 +7,11 @@ use lib.ListN.{length, getD}
 use lib.Dec.{T}
 use lib.IntN.{ℤ, pos, natAbs, _-ℤ_, _*ℤ_}
 use Rattle.rules.proofs.Calls.CallRefusals.{load-refusal, refine-refusal, whole-step-refusal, ring-refusal}
-use Rattle.rules.proofs.Calls.CallRefusals.{position-refusal, refused-leaves, chain-counted}
+use Rattle.rules.proofs.Calls.CallRefusals.{position-refusal, limit-refusal, refused-leaves, chain-counted}
 use Rattle.rules.proofs.Calls.Histories.{every-history, history-sound}
 use Rattle.rules.proofs.Loads.Load.{links-are}
 use Rattle.rules.proofs.Calls.Outcomes.{load-makes, refine-makes, chain-falls, refine-is-split}
-use Rattle.rules.proofs.Calls.Outcomes.{whole-step-makes, ring-reads, position-reads, half-up-nearest}
+use Rattle.rules.proofs.Calls.Outcomes.{whole-step-makes, limit-makes, ring-reads, position-reads, half-up-nearest}
 use Rattle.rules.proofs.Calls.Outcomes.{half-up-alone}
 use Rattle.rules.proofs.Rings.RingTheory.{ring-makes}
 use Rattle.rules.proofs.Numbers.Rounding.{nearest-third, nearest-third-only}
@@ -19,17 +19,18 @@ use Rattle.rules.proofs.Soundness.SoundTest.{sound-is}
 use Rattle.rules.specs.Below.{fill}
 use Rattle.rules.specs.Cage.{Cage, cageOf, loaded}
 use Rattle.rules.specs.Calls.{refusedWith, worked, loadCall, refineCall, wholeStepCall, ringRead, ringCall}
-use Rattle.rules.specs.Calls.{positionRead, positionCall}
+use Rattle.rules.specs.Calls.{positionRead, positionCall, limitRead, limitCall}
 use Rattle.rules.specs.Conditions.{SidesDiffer, EndsAtBoundary, OddInChain, First, loadConditions}
 use Rattle.rules.specs.Conditions.{refineConditions, wholeStepConditions}
-use Rattle.rules.specs.Conditions.{ringConditions, positionConditions}
+use Rattle.rules.specs.Conditions.{limitConditions, ringConditions, positionConditions}
 use Rattle.rules.specs.History.{Call, outcome, lent, after, lastLoad, nothing, cage, EveryHistory}
 use Rattle.rules.specs.Numbers.{nearestThird, halfUp}
-use Rattle.rules.specs.Promises.{Nearest, Matches, Loaded, ChainFalls, RefineMakes, StepMakes, RingMakes, kobbelt}
+use Rattle.rules.specs.Promises.{Nearest, Matches, Loaded, ChainFalls, RefineMakes, StepMakes, LimitMakes, RingMakes}
+use Rattle.rules.specs.Promises.{kobbelt}
 use Rattle.rules.specs.Ring.{ring}
 use Rattle.rules.specs.Sound.{Sound, isSound}
 use Rattle.rules.specs.Split.{atFirst, chainOdd, refine}
-use Rattle.rules.specs.Step.{wholeStep}
+use Rattle.rules.specs.Step.{wholeStep, limitPositions}
 use Rattle.rules.specs.Tables.{Mesh, TablesAgree, vertexSlots, triangleSlots, boundary, link, generation}
 use Rattle.rules.specs.Tables.{coordinate}
 
@@ -128,6 +129,19 @@ pub whole-step-carried : (m : Mesh) → wholeStepCall m .answer .refusal ≡ 0
     → let w = wholeStep m in
     (wholeStepCall m ≡ worked w) × StepMakes (generation (m .topology) 0) m w
 whole-step-carried = whole-step-makes
+
+-- ---- limit positions (Request a)
+
+-- A limit query returns the number of the first condition, in its order, that holds, and 0 where none does.
+pub limit-returns : (table : List ℤ) (m : Mesh) → First (limitConditions table m) (limitCall table m .answer .refusal)
+limit-returns = limit-refusal
+
+-- One that is carried out fills the table, and the mesh stands. Each entry is the nearest whole number to its fraction,
+-- half going up, and in range; and the fraction is the limit: a whole step without rounding leaves it, and brings the
+-- vertex nearer to its ring.
+pub limit-carried : (table : List ℤ) (m : Mesh) → limitCall table m .answer .refusal ≡ 0
+    → (limitCall table m ≡ limitRead table m) × LimitMakes m (limitPositions m table)
+limit-carried = limit-makes
 
 -- ---- rings and positions (Rings and positions)
 

@@ -3,4 +3,5 @@ pub mod StepTopology
 pub mod StepPositions
 pub mod WholeStep
 pub mod StepLoop
+pub mod Limits
 pub mod StepRefusals

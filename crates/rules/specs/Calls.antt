@@ -1,4 +1,4 @@
--- The five calls: what each refuses, answers and writes. (Refused inputs)
+-- The calls: what each refuses, answers and writes. (Refused inputs)
 use Prim.Native.Nat.{ℕ, zero, suc, _+_, _*_, max}
 use mathlib.Core.Bool.{Bool, true, false, not, _&&_}
 use mathlib.Core.List.{List, [], _∷_}
@@ -10,7 +10,7 @@ use Rattle.rules.specs.Cage.{cageOf, loaded, sizesFit, cornersFit, coord
 use Rattle.rules.specs.Ring.{ring}
 use Rattle.rules.specs.Sound.{isSound}
 use Rattle.rules.specs.Split.{Work, atFirst, chainEnd, chainOdd, refine}
-use Rattle.rules.specs.Step.{wholeStep}
+use Rattle.rules.specs.Step.{wholeStep, limitPositions}
 use Rattle.rules.specs.Tables.{Topology, Mesh, tablesAgree, vertexSlots, triangleSlots, sides, link, boundary}
 use Rattle.rules.specs.Tables.{generation, odd, coordinate}
 
@@ -25,9 +25,10 @@ pub record Answer : Type 0 where
   pub vertices : ℕ
   pub triangles : ℕ
 
--- What a call is lent beside the mesh: the ring buffer. What it is not lent is empty.
+-- What a call is lent beside the mesh: a ring buffer, a table of points. What it is not lent is empty.
 pub record Room : Type 0 where
   pub buffer : List ℕ
+  pub table : List ℤ
 
 -- A call's answer, the mesh that it leaves and what it leaves in its room.
 pub record Outcome : Type 0 where
@@ -47,12 +48,15 @@ answerOf refusal splits flips n point m = record {
   triangles = m .topology .triangles;
 }
 
--- No room, and a ring buffer alone.
+-- No room, a ring buffer alone, a table alone.
 abbrev pub noRoom : Room
-noRoom = record { buffer = [] }
+noRoom = record { buffer = []; table = [] }
 
 abbrev pub ringRoom : List ℕ → Room
-ringRoom buffer = record { buffer = buffer }
+ringRoom buffer = record { buffer = buffer; table = [] }
+
+abbrev pub tableRoom : List ℤ → Room
+tableRoom table = record { buffer = []; table = table }
 
 -- An outcome from its parts.
 abbrev pub outcomeOf : Answer → Mesh → Room → Outcome
@@ -139,6 +143,18 @@ wholeStepRefusal m =
     ∷ []
     )
 
+unfoldable pub limitRefusal : List ℤ → Mesh → ℕ
+limitRefusal table m =
+    let tri = m .topology in
+    firstOf (
+    1 if not (tablesAgree m)
+    ∷ 7 if not (isSound m)
+    ∷ 12 if not (closedEven tri)
+    ∷ 13 if any (tri .vertices) (λ v. ltb 12 (length (ring tri v)))
+    ∷ 15 if not (eqb (length table) (3 * tri .vertices))
+    ∷ []
+    )
+
 unfoldable pub ringRefusal : ℕ → List ℕ → Mesh → ℕ
 ringRefusal v buffer m =
     firstOf (
@@ -171,6 +187,14 @@ refineCall t m = unless (refineRefusal t m) m noRoom (worked (refine t (atFirst 
 -- (Whole step)
 unfoldable pub wholeStepCall : Mesh → Outcome
 wholeStepCall m = unless (wholeStepRefusal m) m noRoom (worked (wholeStep m))
+
+-- The limit positions fill the table, and the mesh is only read. (Request a)
+abbrev pub limitRead : List ℤ → Mesh → Outcome
+limitRead table m = outcomeOf (answerOf 0 0 0 0 zeroPoint m) m (tableRoom (limitPositions m table))
+
+-- (Request a)
+unfoldable pub limitCall : List ℤ → Mesh → Outcome
+limitCall table m = unless (limitRefusal table m) m (tableRoom table) (limitRead table m)
 
 -- The ring goes into the first entries of the buffer, and later ones keep their content. (Rings and positions)
 abbrev pub ringRead : ℕ → List ℕ → Mesh → Outcome

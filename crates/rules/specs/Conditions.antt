@@ -3,6 +3,7 @@ use Prim.Native.Nat.{ℕ, suc, _+_, _*_, _/_, _%_, _≤_, _<_, max}
 use mathlib.Core.List.{List, [], _∷_}
 use mathlib.Core.Logic.{_≢_}
 use mathlib.Core.Path.{_≡_}
+use lib.IntN.{ℤ}
 use lib.ListN.{length}
 use Rattle.rules.specs.Cage.{Cage, cageOf, loaded}
 use Rattle.rules.specs.Numbers.{InRange}
@@ -122,6 +123,15 @@ wholeStepConditions m =
     ∷ 9 when (generation (m .topology) 0 ≡ 20)
     ∷ 13 when LongRing (m .topology)
     ∷ 11 when (¬ RoomFor (m .topology .triangles) m)
+    ∷ []
+
+abbrev pub limitConditions : List ℤ → Mesh → List Condition
+limitConditions table m =
+    1 when (¬ TablesAgree m)
+    ∷ 7 when (¬ Sound m)
+    ∷ 12 when (¬ ClosedEven (m .topology))
+    ∷ 13 when LongRing (m .topology)
+    ∷ 15 when (length table ≢ 3 * m .topology .vertices)
     ∷ []
 
 abbrev pub ringConditions : ℕ → List ℕ → Mesh → List Condition

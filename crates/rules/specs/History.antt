@@ -8,8 +8,8 @@ use lib.Dec.{eqb, ltb}
 use lib.IntN.{ℤ, pos, _+ℤ_, _-ℤ_}
 use Rattle.rules.specs.Below.{any, count, total}
 use Rattle.rules.specs.Cage.{Cage, cageOf}
-use Rattle.rules.specs.Calls.{Room, noRoom, ringRoom, Outcome, loadCall, refineCall, wholeStepCall, ringCall}
-use Rattle.rules.specs.Calls.{positionCall}
+use Rattle.rules.specs.Calls.{Room, noRoom, ringRoom, tableRoom, Outcome, loadCall, refineCall}
+use Rattle.rules.specs.Calls.{wholeStepCall, ringCall, positionCall, limitCall}
 use Rattle.rules.specs.Conditions.{OddInChain}
 use Rattle.rules.specs.Tables.{Topology, Mesh, sides, link, boundary, generation, next}
 
@@ -19,11 +19,12 @@ pub data Change : Type 0 where
   refines : ℕ → Change
   steps : Change
 
--- A call that reads the mesh: a vertex and a ring buffer, a vertex. The buffer is a list of its own, never one of the
--- tables.
+-- A call that reads the mesh: a vertex and a ring buffer, a vertex, a table for limit positions. Buffer and table are
+-- lists of their own, never one of the mesh's tables.
 pub data Question : Type 0 where
   ringOf : ℕ → List ℕ → Question
   positionOf : ℕ → Question
+  limitsOf : List ℤ → Question
 
 -- A call of either kind.
 pub data Call : Type 0 where
@@ -39,6 +40,7 @@ changed steps m = wholeStepCall m
 abbrev pub asked : Question → Mesh → Outcome
 asked (ringOf v buffer) m = ringCall v buffer m
 asked (positionOf v) m = positionCall v m
+asked (limitsOf table) m = limitCall table m
 
 abbrev pub outcome : Call → Mesh → Outcome
 outcome (changes c) m = changed c m
@@ -49,6 +51,7 @@ abbrev pub lent : Call → Room
 lent (changes c) = noRoom
 lent (asks (ringOf v buffer)) = ringRoom buffer
 lent (asks (positionOf v)) = noRoom
+lent (asks (limitsOf table)) = tableRoom table
 
 -- The mesh after a list of calls, each getting it as the one before left it.
 unfoldable pub after : List Call → Mesh → Mesh

@@ -55,3 +55,8 @@ weight n = getD weights n 0
 -- 65536 n over the same. (Whole step, N/D)
 unfoldable pub moved : ℕ → ℤ → ℤ → ℤ
 moved n p s = halfUp (pos n *ℤ (pos 65536 -ℤ pos (weight n)) *ℤ p +ℤ pos (weight n) *ℤ s) (65536 * n)
+
+-- Where ever more whole steps take a vertex, in one coordinate: it is at p and has n ring entries that add up to s.
+-- Kobbelt's (8), with (7) at infinity. (Request a)
+unfoldable pub limit : ℕ → ℤ → ℤ → ℤ
+limit n p s = halfUp (pos (65536 * n) *ℤ p +ℤ pos (3 * weight n) *ℤ s) (n * (65536 + 3 * weight n))

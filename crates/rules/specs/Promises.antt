@@ -1,20 +1,22 @@
 -- What holds of each call that is carried out, as statements; proofs/Results proves every one of them.
 use Prim.Native.Nat.{ℕ, zero, suc, _+_, _*_, _/_, _%_, _≤_, _<_}
 use mathlib.Core.Bool.{true, false}
+use mathlib.Core.List.{List, [], _∷_}
 use mathlib.Core.Logic.{_≢_, _⊎_, _↔_}
 use mathlib.Core.Path.{_≡_}
 use lib.Dec.{eqb}
-use lib.IntN.{ℤ, pos, _+ℤ_, _*ℤ_}
+use lib.IntN.{ℤ, pos, natAbs, _+ℤ_, _-ℤ_, _*ℤ_}
 use lib.ListN.{length, getD, drop}
 use lib.Signed.{_≤ℤ_, _<ℤ_}
 use Rattle.rules.specs.Below.{count, total}
 use Rattle.rules.specs.Calls.{splitsOf, worked}
 use Rattle.rules.specs.Cage.{Cage}
 use Rattle.rules.specs.History.{ReportsSplits, edges, cageEdges}
+use Rattle.rules.specs.Numbers.{InRange, weight}
 use Rattle.rules.specs.Ring.{firstSide, fan, ring}
 use Rattle.rules.specs.Sound.{Sound}
 use Rattle.rules.specs.Split.{Work, centre, faceSplit}
-use Rattle.rules.specs.Step.{movedCoordinate}
+use Rattle.rules.specs.Step.{sumOver, movedCoordinate}
 use Rattle.rules.specs.Tables.{Topology, Mesh, sides, next, previous, origin, target, boundary, link, rotate}
 use Rattle.rules.specs.Tables.{generation, odd, coordinate}
 
@@ -143,6 +145,46 @@ pub record StepMakes (g : ℕ) (m : Mesh) (w : Work) : Type 0 where
   pub placed : (t k : ℕ) → t < m .topology .triangles → k < 3
       → coordinate (w .mesh) (m .topology .vertices + t) k ≡ centre m t k
   pub past : SamePast m (w .mesh)
+
+-- ---- limit positions (Request a)
+
+-- The corners of these triangles, each named by a side of it, added up in coordinate k: three times their centres.
+unfoldable pub cornersOver : Mesh → ℕ → List ℕ → ℤ
+cornersOver m k [] = pos 0
+cornersOver m k (h ∷ hs) =
+    let at : ℕ → ℤ = λ j. coordinate m (origin (m .topology) j) k in
+    at h +ℤ at (next h) +ℤ at (previous h) +ℤ cornersOver m k hs
+
+-- What a whole step and the limit divide by 65536 n and by n (65536 + 3 w).
+abbrev pub moveNumerator : ℕ → ℤ → ℤ → ℤ
+moveNumerator n p s = pos n *ℤ (pos 65536 -ℤ pos (weight n)) *ℤ p +ℤ pos (weight n) *ℤ s
+
+abbrev pub limitNumerator : ℕ → ℤ → ℤ → ℤ
+limitNumerator n p s = pos (65536 * n) *ℤ p +ℤ pos (3 * weight n) *ℤ s
+
+-- In one coordinate q is the limit of a vertex at p, with n ring entries that add up to s, and with the sum c of the
+-- corners of its triangles. Without rounding a whole step moves the vertex to p′ = moveNumerator / (65536 n), and then
+-- its ring, the centres of its triangles, adds up to c / 3.
+pub record IsLimit (n : ℕ) (p s c q : ℤ) : Type 0 where
+  pub nearest : Nearest (limitNumerator n p s) (n * (65536 + 3 * weight n)) q
+  pub range : InRange q
+  -- The triangles have the vertex once and each ring entry twice for a corner.
+  pub corners : c ≡ pos n *ℤ p +ℤ pos 2 *ℤ s
+  -- The step leaves the fraction: 65536 n p′ + 3 w c / 3, over the same, is limitNumerator.
+  pub stays : moveNumerator n p s +ℤ pos (weight n) *ℤ c ≡ limitNumerator n p s
+  -- It brings the vertex nearer to its ring's mean: p′ - c / (3 n) is 2/3 - w/65536 times p - s / n (here both times
+  -- 196608 n), and this factor is below 0.42 either way. So ever more steps lead to the fraction.
+  pub nearer : pos 3 *ℤ moveNumerator n p s -ℤ pos 65536 *ℤ c
+      ≡ (pos 131072 -ℤ pos (3 * weight n)) *ℤ (pos n *ℤ p -ℤ s)
+  pub factor : 100 * natAbs (pos 131072 -ℤ pos (3 * weight n)) < 42 * 196608
+
+-- The table that a limit query leaves has the limit of every vertex.
+pub record LimitMakes (m : Mesh) (table : List ℤ) : Type 0 where
+  pub size : length table ≡ 3 * m .topology .vertices
+  pub each : (v k : ℕ) → v < m .topology .vertices → k < 3 →
+      let r = ring (m .topology) v in
+      IsLimit (length r) (coordinate m v k) (sumOver m k r) (cornersOver m k (fan (m .topology) v))
+      (getD table (3 * v + k) (pos 0))
 
 -- ---- rings (Rings and positions)
 

@@ -1,9 +1,10 @@
--- The whole smoothing step. (Whole step)
-use Prim.Native.Nat.{ℕ, zero, suc}
+-- The whole smoothing step, and where ever more of them lead. (Whole step; request a)
+use Prim.Native.Nat.{ℕ, zero, suc, _*_, _/_, _%_}
 use mathlib.Core.List.{List, [], _∷_}
 use lib.IntN.{ℤ, pos, _+ℤ_}
 use lib.ListN.{length}
-use Rattle.rules.specs.Numbers.{moved}
+use Rattle.rules.specs.Below.{fill}
+use Rattle.rules.specs.Numbers.{moved, limit}
 use Rattle.rules.specs.Ring.{ring}
 use Rattle.rules.specs.Split.{Work, atFirst, withMesh, refine}
 use Rattle.rules.specs.Tables.{Mesh, withPositions, coordinate, putThree}
@@ -34,3 +35,11 @@ unfoldable pub wholeStep : Mesh → Work
 wholeStep m =
     let w = refineFirst (m .topology .triangles) (atFirst m) in
     withMesh (withPositions (moveVertices (m .topology .vertices) m (w .mesh .positions)) (w .mesh)) w
+
+-- Coordinate k of the limit position of vertex v. (Request a)
+unfoldable pub limitCoordinate : Mesh → ℕ → ℕ → ℤ
+limitCoordinate m v k = let r = ring (m .topology) v in limit (length r) (coordinate m v k) (sumOver m k r)
+
+-- The table with the limit positions of all vertices, three coordinates to each. (Request a)
+unfoldable pub limitPositions : Mesh → List ℤ → List ℤ
+limitPositions m table = fill (3 * m .topology .vertices) (λ i. limitCoordinate m (i / 3) (i % 3)) table

@@ -5,6 +5,7 @@ use mathlib.Core.Bool.{not}
 use mathlib.Core.List.{List}
 use Prim.Native.Nat.{ℕ, suc, _+_, _*_, _≤_, _<_, _%_, max}
 use native.Mathlib.Omega.{arith}
+use lib.IntN.{ℤ}
 use lib.ListN.{length}
 use lib.Dec.{eqb, leb, ltb}
 use Rattle.rules.proofs.Loads.CageTests.{sizes-fit-is, corners-fit-is, coordinates-fit-is, sides-differ-is}
@@ -21,14 +22,14 @@ use Rattle.rules.proofs.Soundness.Relaxed.{sound-manifold, sound-bases}
 use Rattle.rules.proofs.Soundness.SoundTest.{tables-agree-is, sound-is}
 use Rattle.rules.specs.Below.{any}
 use Rattle.rules.specs.Cage.{Cage, cageOf, loaded}
-use Rattle.rules.specs.Calls.{Room, noRoom, ringRoom, Outcome, refusedWith, worked, roomFor, splitsOf}
+use Rattle.rules.specs.Calls.{Room, noRoom, ringRoom, tableRoom, limitRefusal, limitRead, limitCall, Outcome, refusedWith, worked, roomFor, splitsOf}
 use Rattle.rules.specs.Calls.{closedEven, loadRefusal}
 use Rattle.rules.specs.Calls.{refineRefusal, wholeStepRefusal, ringRefusal, positionRefusal, loadCall, refineCall}
 use Rattle.rules.specs.Calls.{wholeStepCall, ringRead, ringCall, positionRead, positionCall}
 use Rattle.rules.specs.Conditions.{EndsAtBoundary, OddInChain, atEven, atBoundary, onward, RoomFor, TooFewSlots}
 use Rattle.rules.specs.Conditions.{ClosedEven, First, none, LongRing, loadConditions, refineConditions}
-use Rattle.rules.specs.Conditions.{wholeStepConditions, ringConditions, positionConditions}
-use Rattle.rules.specs.History.{loads, refines, steps, Question, ringOf, positionOf, asked, Call, changes, asks}
+use Rattle.rules.specs.Conditions.{wholeStepConditions, limitConditions, ringConditions, positionConditions}
+use Rattle.rules.specs.History.{loads, refines, steps, Question, ringOf, positionOf, limitsOf, asked, Call, changes, asks}
 use Rattle.rules.specs.History.{outcome, lent}
 use Rattle.rules.specs.Ring.{ring}
 use Rattle.rules.specs.Sound.{Sound}
@@ -127,6 +128,15 @@ whole-step-refusal-first m =
     first-if 13 (long-ring-is (m .topology)) (λ _.
     first-unless 11 (room-is (m .topology .triangles) m) (λ _. none))))))
 
+pub limit-refusal-first : (table : List ℤ) (m : Mesh) → First (limitConditions table m) (limitRefusal table m)
+unfolding limitRefusal
+limit-refusal-first table m =
+    first-unless 1 (tables-agree-is m) (λ A.
+    first-unless 7 (sound-is m) (λ S.
+    first-unless 12 (closed-even-is (m .topology) (S .someTriangle)) (λ _.
+    first-if 13 (long-ring-is (m .topology)) (λ _.
+    first-unless 15 (is-eq (length table) (3 * m .topology .vertices)) (λ _. none)))))
+
 pub ring-refusal-first : (v : ℕ) (buffer : List ℕ) (m : Mesh)
     → First (ringConditions v buffer m) (ringRefusal v buffer m)
 unfolding ringRefusal
@@ -158,6 +168,11 @@ pub whole-step-judged : (m : Mesh) → Judged (wholeStepRefusal m) m noRoom (wor
 unfolding wholeStepCall
 whole-step-judged m = judged (wholeStepRefusal m) m noRoom (worked (wholeStep m))
 
+pub limit-judged : (table : List ℤ) (m : Mesh)
+    → Judged (limitRefusal table m) m (tableRoom table) (limitRead table m) (limitCall table m)
+unfolding limitCall
+limit-judged table m = judged (limitRefusal table m) m (tableRoom table) (limitRead table m)
+
 pub ring-judged : (v : ℕ) (buffer : List ℕ) (m : Mesh)
     → Judged (ringRefusal v buffer m) m (ringRoom buffer) (ringRead v buffer m) (ringCall v buffer m)
 unfolding ringCall
@@ -178,6 +193,9 @@ refine-refusal t m = rw (judged-refusal refl (refine-judged t m)) (refine-refusa
 pub whole-step-refusal : (m : Mesh) → First (wholeStepConditions m) (wholeStepCall m .answer .refusal)
 whole-step-refusal m = rw (judged-refusal refl (whole-step-judged m)) (whole-step-refusal-first m)
 
+pub limit-refusal : (table : List ℤ) (m : Mesh) → First (limitConditions table m) (limitCall table m .answer .refusal)
+limit-refusal table m = rw (judged-refusal refl (limit-judged table m)) (limit-refusal-first table m)
+
 pub ring-refusal : (v : ℕ) (buffer : List ℕ) (m : Mesh)
     → First (ringConditions v buffer m) (ringCall v buffer m .answer .refusal)
 ring-refusal v buffer m = rw (judged-refusal refl (ring-judged v buffer m)) (ring-refusal-first v buffer m)
@@ -193,6 +211,7 @@ refused-leaves (changes (refines t)) m = judged-refused refl (refine-judged t m)
 refused-leaves (changes steps) m = judged-refused refl (whole-step-judged m)
 refused-leaves (asks (ringOf v buffer)) m = judged-refused refl (ring-judged v buffer m)
 refused-leaves (asks (positionOf v)) m = judged-refused refl (position-judged v m)
+refused-leaves (asks (limitsOf table)) m = judged-refused refl (limit-judged table m)
 
 -- A question leaves the mesh.
 judged-stands : {n : ℕ} {m : Mesh} {room : Room} {success o : Outcome} → success .mesh ≡ m
@@ -203,3 +222,4 @@ judged-stands e (refused z) = refl
 pub question-stands : (q : Question) (m : Mesh) → asked q m .mesh ≡ m
 question-stands (ringOf v buffer) m = judged-stands refl (ring-judged v buffer m)
 question-stands (positionOf v) m = judged-stands refl (position-judged v m)
+question-stands (limitsOf table) m = judged-stands refl (limit-judged table m)

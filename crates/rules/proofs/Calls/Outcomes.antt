@@ -5,12 +5,16 @@ use mathlib.Core.List.{List}
 use Prim.Native.Nat.{ℕ, _*_, _%_, _<_}
 use native.Mathlib.Omega.{arith}
 use lib.IntN.{ℤ}
+use lib.ListN.{length}
 use Rattle.rules.proofs.Loads.CageEdges.{load-edges}
 use Rattle.rules.proofs.Calls.CallRefusals.{load-judged, refine-judged, whole-step-judged, ring-judged}
-use Rattle.rules.proofs.Calls.CallRefusals.{position-judged}
+use Rattle.rules.proofs.Calls.CallRefusals.{position-judged, limit-judged, limit-refusal-first, closed-even-is}
 use Rattle.rules.proofs.Calls.Carried.{load-found, refine-found, found-refined, step-found, found-step}
 use Rattle.rules.proofs.Chains.Chain.{falls}
-use Rattle.rules.proofs.Calls.FirstThatHolds.{judged-carried}
+use Rattle.rules.proofs.Calls.FirstThatHolds.{judged-carried, none-hold}
+use Rattle.rules.proofs.Numbers.Decide.{is-eq, stable}
+use Rattle.rules.proofs.Soundness.SoundTest.{sound-is}
+use Rattle.rules.proofs.Steps.Limits.{limits-made}
 use Rattle.rules.proofs.Calls.Histories.{found-refines}
 use Rattle.rules.proofs.Chains.Kobbelt.{refine-is-kobbelt}
 use Rattle.rules.proofs.Loads.Load.{loaded-loads, links-are, load-sound, loaded-past, loaded-positions-past}
@@ -18,12 +22,12 @@ use Rattle.rules.proofs.Soundness.Relaxed.{sound-manifold, sound-bases}
 use Rattle.rules.proofs.Numbers.Rounding.{half-up, half-up-only}
 use Rattle.rules.specs.Cage.{Cage, cageOf, loaded}
 use Rattle.rules.specs.Calls.{worked, loadCall, refineCall, wholeStepCall, ringRead, ringCall, positionRead}
-use Rattle.rules.specs.Calls.{positionCall}
+use Rattle.rules.specs.Calls.{positionCall, limitRead, limitCall}
 use Rattle.rules.specs.Numbers.{halfUp}
-use Rattle.rules.specs.Promises.{Nearest, Loaded, ChainFalls, RefineMakes, StepMakes, kobbelt}
+use Rattle.rules.specs.Promises.{Nearest, Loaded, ChainFalls, RefineMakes, StepMakes, LimitMakes, kobbelt}
 use Rattle.rules.specs.Sound.{Sound}
 use Rattle.rules.specs.Split.{atFirst, refine}
-use Rattle.rules.specs.Step.{wholeStep}
+use Rattle.rules.specs.Step.{wholeStep, limitPositions}
 use Rattle.rules.specs.Tables.{Mesh, boundary, link, generation}
 
 -- ---- load
@@ -123,6 +127,17 @@ whole-step-makes m z =
       subst (λ (g : ℕ). StepMakes g m (wholeStep m)) (sym (F .closed .all 0 (F .sound .someTriangle)))
           (found-step F),
     )
+
+-- ---- limit positions
+
+pub limit-makes : (table : List ℤ) (m : Mesh) → limitCall table m .answer .refusal ≡ 0
+    → (limitCall table m ≡ limitRead table m) × LimitMakes m (limitPositions m table)
+limit-makes table m z =
+    let x = judged-carried (limit-judged table m) z in
+    let (_, (s, (c, (short, (e, _))))) = none-hold (limit-refusal-first table m) (x .0) tt in
+    let S = stable (sound-is m) s in
+    let C = stable (closed-even-is (m .topology) (S .someTriangle)) c in
+    (x .1, limits-made S (C .closed) short table (stable (is-eq (length table) (3 * m .topology .vertices)) e))
 
 -- ---- queries
 

@@ -61,6 +61,20 @@ unfolding above below
 scale k {x = pos n} p = omega (arith, ap (λ t. k * t) (p .is))
 scale k {x = negsuc n} p = omega (arith, ap (λ t. k * t) (p .is), neg (nat (k * suc n)))
 
+product : (x y : ℤ)
+    → Is (x *ℤ y) (above x * above y + below x * below y) (above x * below y + below x * above y)
+unfolding above below
+product (pos a) (pos b) = omega arith
+product (pos a) (negsuc b) = omega (arith, neg (nat (a * suc b)))
+product (negsuc a) (pos b) = omega (arith, neg (nat (suc a * b)))
+product (negsuc a) (negsuc b) = omega arith
+
+pub times : {x y : ℤ} {a b c d : ℕ} → Is x a b → Is y c d → Is (x *ℤ y) (a * c + b * d) (a * d + b * c)
+times {x} {y} {a} {b} p q =
+    let at-y = ap (λ t. t * above y) (p .is) in
+    let under-y = ap (λ t. t * below y) (p .is) in
+    omega (arith, product x y, at-y, under-y, ap (λ t. a * t) (q .is), ap (λ t. b * t) (q .is))
+
 same : (x y : ℤ) → above x + below y ≡ above y + below x → x ≡ y
 unfolding above below
 same (pos a) (pos b) e = ap pos (omega arith)

@@ -9,6 +9,7 @@ use lib.IntN.{ℤ, pos, negsuc, negℤ, natAbs, _+ℤ_, _-ℤ_, _*ℤ_}
 use lib.ListN.{getD}
 use lib.Signed.{_≤ℤ_, _<ℤ_, ≤ℤ-refl}
 use Rattle.rules.specs.Numbers.{InRange, maxCoordinate, floorDiv, nearestThird, halfUp, weights, weight, moved}
+use Rattle.rules.specs.Numbers.{limit}
 use Rattle.rules.proofs.Numbers.Differences.{above, below, its, nat, add, sub, scale, equal}
 use Rattle.rules.proofs.Numbers.Differences.{at-most, ordered, at-most-gives, less, less-gives, near, near-gives}
 
@@ -103,7 +104,7 @@ third-in-range h k l = record {
   high = third-at-most (h .high) (k .high) (l .high);
 }
 
--- No weight is above 65536, by one computed test of the table.
+-- No weight is above that of two entries, by one computed test of the table.
 greatest : List ℕ → ℕ
 greatest [] = 0
 greatest (x ∷ xs) = max x (greatest xs)
@@ -114,52 +115,71 @@ entry-at-most [] i = omega arith
 entry-at-most (x ∷ xs) zero = omega arith
 entry-at-most (x ∷ xs) (suc i) = omega (arith, entry-at-most xs i)
 
-pub weight-at-most : (n : ℕ) → weight n ≤ 65536
+pub weight-at-most : (n : ℕ) → weight n ≤ 43691
 unfolding weight weights greatest
 weight-at-most n = le-trans (entry-at-most weights n) (lit≤ tt)
 
--- The move is a mean: of its 65536 n parts the vertex has n (65536 - w), and each of the n ring entries w.
-pub parts-of-mean : (n : ℕ) → n * (65536 - weight n) + weight n * n ≡ 65536 * n
-parts-of-mean n =
+-- ---- means
+
+-- The mean of a parts at p and of b parts at each of n places that add up to s.
+unfoldable pub mean : ℕ → ℕ → ℕ → ℤ → ℤ → ℤ
+mean a b n p s = halfUp (pos a *ℤ p +ℤ pos b *ℤ s) (a + b * n)
+
+-- It lies between these places: it grows with them, and is theirs where they are one.
+module _ (a b n : ℕ) (some : 0 < a + b * n) where
+  mean-mono : {p q s t : ℤ} → p ≤ℤ q → s ≤ℤ t → mean a b n p s ≤ℤ mean a b n q t
+  unfolding mean
+  mean-mono {p} {q} {s} {t} h k =
+      half-mono some
+      (at-most (add (scale a (its p)) (scale b (its s))) (add (scale a (its q)) (scale b (its t)))
+      (omega (arith, mul-le-mul-left a (ordered h), mul-le-mul-left b (ordered k))))
+
+  mean-same : (x : ℤ) → mean a b n x (pos n *ℤ x) ≡ x
+  unfolding mean
+  mean-same x =
+      let d = a + b * n in
+      let m = add (scale 2 (add (scale a (its x)) (scale b (scale n (its x))))) (nat d) in
+      sym (half-up-only _ x d (record {
+        low = at-most (scale (2 * d) (its x)) m (omega arith);
+        high = less m (add (scale (2 * d) (its x)) (nat (2 * d))) (omega arith);
+      }))
+
+  pub mean-at-least : {lo p s : ℤ} → lo ≤ℤ p → (pos n *ℤ lo) ≤ℤ s → lo ≤ℤ mean a b n p s
+  mean-at-least {lo} k l = rw (mean-same lo) at (mean-mono k l)
+
+  pub mean-at-most : {hi p s : ℤ} → p ≤ℤ hi → s ≤ℤ (pos n *ℤ hi) → mean a b n p s ≤ℤ hi
+  mean-at-most {hi} k l = rw (mean-same hi) at (mean-mono k l)
+
+  pub mean-in-range : {p s : ℤ} → InRange p → negℤ (pos (n * maxCoordinate)) ≤ℤ s → s ≤ℤ pos (n * maxCoordinate)
+      → InRange (mean a b n p s)
+  mean-in-range r k l = record { low = mean-at-least (r .low) k; high = mean-at-most (r .high) l }
+
+-- The move of a vertex is a mean: of its 65536 n parts the vertex has n (65536 - w), and each of the n ring entries w.
+pub parts-of-move : (n : ℕ) → n * (65536 - weight n) + weight n * n ≡ 65536 * n
+parts-of-move n =
     let e : 65536 - weight n + weight n ≡ 65536 = omega (arith, weight-at-most n) in
     omega (arith, ap (λ t. n * t) e)
 
-pub moved-is : (n : ℕ) (p s : ℤ)
-    → moved n p s ≡ halfUp (pos (n * (65536 - weight n)) *ℤ p +ℤ pos (weight n) *ℤ s) (65536 * n)
-unfolding moved
+pub moved-is : (n : ℕ) (p s : ℤ) → moved n p s ≡ mean (n * (65536 - weight n)) (weight n) n p s
+unfolding moved mean
 moved-is n p s =
     let w = weight n in
     let h = weight-at-most n in
     let e : pos 65536 -ℤ pos w ≡ pos (65536 - w) = equal (sub (nat 65536) (nat w)) (nat _) (omega arith) in
+    rw (e, parts-of-move n)
+
+-- So is its limit: the vertex has 65536 n parts, and each ring entry 3 w.
+pub limit-is : (n : ℕ) (p s : ℤ) → limit n p s ≡ mean (65536 * n) (3 * weight n) n p s
+unfolding limit mean
+limit-is n p s =
+    let e : n * (65536 + 3 * weight n) ≡ 65536 * n + 3 * weight n * n = omega arith in
     rw e
 
--- It lies between the vertex and its ring entries: it grows with them, and stays where they are all in one place.
-mean-mono : (a b : ℕ) {p q s t : ℤ} → p ≤ℤ q → s ≤ℤ t → (pos a *ℤ p +ℤ pos b *ℤ s) ≤ℤ (pos a *ℤ q +ℤ pos b *ℤ t)
-mean-mono a b {p} {q} {s} {t} h k =
-    at-most (add (scale a (its p)) (scale b (its s))) (add (scale a (its q)) (scale b (its t)))
-    (omega (arith, mul-le-mul-left a (ordered h), mul-le-mul-left b (ordered k)))
+-- Both lie in range where their vertex and the ring entries do.
+module _ {n : ℕ} {p s : ℤ} (h : 1 ≤ n) (r : InRange p) (k : negℤ (pos (n * maxCoordinate)) ≤ℤ s)
+    (l : s ≤ℤ pos (n * maxCoordinate)) where
+  pub moved-in-range : InRange (moved n p s)
+  moved-in-range = rw (moved-is n p s) (mean-in-range (n * (65536 - weight n)) (weight n) n (omega (arith, parts-of-move n)) r k l)
 
-moved-mono : {n : ℕ} {p q s t : ℤ} → 1 ≤ n → p ≤ℤ q → s ≤ℤ t → moved n p s ≤ℤ moved n q t
-moved-mono {n} {p} {q} {s} {t} h k l =
-    rw (moved-is n p s, moved-is n q t) (half-mono (omega arith) (mean-mono _ _ k l))
-
-moved-same : {n : ℕ} (b : ℤ) → 1 ≤ n → moved n b (pos n *ℤ b) ≡ b
-moved-same {n} b h =
-    let d = 65536 * n in
-    let m = add (scale 2 (add (scale (n * (65536 - weight n)) (its b)) (scale (weight n) (scale n (its b))))) (nat d) in
-    let e = ap (λ t. t * above b) (parts-of-mean n) in
-    let f = ap (λ t. t * below b) (parts-of-mean n) in
-    moved-is n b (pos n *ℤ b) ∙ sym (half-up-only _ b d (record {
-      low = at-most (scale (2 * d) (its b)) m (omega arith);
-      high = less m (add (scale (2 * d) (its b)) (nat (2 * d))) (omega arith);
-    }))
-
-pub moved-at-least : {n : ℕ} {lo p s : ℤ} → 1 ≤ n → lo ≤ℤ p → (pos n *ℤ lo) ≤ℤ s → lo ≤ℤ moved n p s
-moved-at-least {lo = lo} h k l = rw (moved-same lo h) at (moved-mono h k l)
-
-pub moved-at-most : {n : ℕ} {hi p s : ℤ} → 1 ≤ n → p ≤ℤ hi → s ≤ℤ (pos n *ℤ hi) → moved n p s ≤ℤ hi
-moved-at-most {hi = hi} h k l = rw (moved-same hi h) at (moved-mono h k l)
-
-pub moved-in-range : {n : ℕ} {p s : ℤ}
-    → 1 ≤ n → InRange p → negℤ (pos (n * maxCoordinate)) ≤ℤ s → s ≤ℤ pos (n * maxCoordinate) → InRange (moved n p s)
-moved-in-range h r k l = record { low = moved-at-least h (r .low) k; high = moved-at-most h (r .high) l }
+  pub limit-in-range : InRange (limit n p s)
+  limit-in-range = rw (limit-is n p s) (mean-in-range (65536 * n) (3 * weight n) n (omega arith) r k l)

@@ -14,6 +14,11 @@ unfolding total
 total-same zero f g e = refl
 total-same (suc n) f g e = ap₂ (λ (x y : ℕ). x + y) (total-same n f g (λ h l. e h (omega arith))) (e n (omega arith))
 
+pub total-first : (n : ℕ) (f : ℕ → ℕ) → total (suc n) f ≡ f 0 + total n (λ i. f (suc i))
+unfolding total
+total-first zero f = omega arith
+total-first (suc n) f = let a = total-first n f in omega arith
+
 -- One term changes.
 pub total-change : (n i : ℕ) (f g : ℕ → ℕ) → i < n → ((h : ℕ) → h < n → h ≢ i → f h ≡ g h)
     → total n g + f i ≡ total n f + g i

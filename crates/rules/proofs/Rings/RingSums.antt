@@ -19,7 +19,7 @@ use Rattle.rules.proofs.Rings.Fans.{Walked, sideAt, fan-walked}
 use Rattle.rules.proofs.Numbers.Pigeonhole.{Reached}
 use Rattle.rules.proofs.Soundness.Relaxed.{sound-manifold}
 use Rattle.rules.proofs.Rings.RingTheory.{ring-makes}
-use Rattle.rules.proofs.Numbers.Sums.{total-same, total-zero, total-swap, total-one}
+use Rattle.rules.proofs.Numbers.Sums.{total-same, total-zero, total-swap, total-one, total-first}
 use Rattle.rules.proofs.Rings.Turning.{Glued, manifold-glued}
 use Rattle.rules.specs.Below.{total, bit, count}
 use Rattle.rules.specs.Numbers.{InRange, maxCoordinate}
@@ -35,11 +35,6 @@ use Rattle.rules.specs.Tables.{Topology, Mesh, sides, next, origin, targ
 abbrev given : Bool → ℕ → ℕ
 given true x = x
 given false x = 0
-
-total-first : (n : ℕ) (f : ℕ → ℕ) → total (suc n) f ≡ f 0 + total n (λ i. f (suc i))
-unfolding total
-total-first zero f = omega arith
-total-first (suc n) f = let a = total-first n f in omega arith
 
 total-up : (n k : ℕ) (f : ℕ → ℕ) → n ≤ k → total n f ≤ total k f
 unfolding total
@@ -191,7 +186,7 @@ module _ (positions : List ℤ) (corners : List ℕ) (v : ℕ) where
 
 -- ---- the ring
 
-sum-over-is : (m : Mesh) (k : ℕ) (l : List ℕ)
+pub sum-over-is : (m : Mesh) (k : ℕ) (l : List ℕ)
     → Is (sumOver m k l) (total (length l) (λ i. above (coordinate m (getD l i 0) k)))
     (total (length l) (λ i. below (coordinate m (getD l i 0) k)))
 unfolding sumOver total
@@ -223,11 +218,14 @@ module _ {m : Mesh} (S : Sound m) (closed : (h : ℕ) → h < sides (m .topology
   starts-out : origin mt (firstSide mt v) ≡ v
   starts-out = R .startsOut
 
+  pub fan-out : (i : ℕ) → i < length (fan mt v) → origin mt (sideAt (fan mt v) i) ≡ v
+  fan-out i l = W .out i l ∙ starts-out
+
   -- The ring has an entry for each side out of v.
   pub ring-counted : length (ring mt v) ≡ triangleCount mt v
   ring-counted = R .inner (λ x. closed (x .0) (x .1) (x .3))
 
-  as-fan : length (ring mt v) ≡ length (fan mt v)
+  pub as-fan : length (ring mt v) ≡ length (fan mt v)
   as-fan = ring-counted ∙ sym (all-counted mt (firstSide mt v) (fan mt v) W v starts-out (M .all))
 
   total-ring : (g : ℕ → ℕ) → total (length (ring mt v)) (λ i. g (getD (ring mt v) i 0))
@@ -238,7 +236,7 @@ module _ {m : Mesh} (S : Sound m) (closed : (h : ℕ) → h < sides (m .topology
       (λ i l. ap g (R .entries i l))
       ∙ total-passing (sides mt) (length (fan mt v)) (sideAt (fan mt v)) (λ h. eqb (origin mt h) v)
       (λ h. g (target mt h)) (W .inUse)
-      (λ i l. is-eq (origin mt (sideAt (fan mt v) i)) v .passes (W .out i l ∙ starts-out))
+      (λ i l. is-eq (origin mt (sideAt (fan mt v) i)) v .passes (fan-out i l))
       (λ i j a c e. W .once i j a c (ap (λ (x : ℕ). x / 3) e))
       (λ h l q. M .all h l (is-eq (origin mt h) v .holds q))
 

@@ -12,11 +12,11 @@ use lib.Signed.{_≤ℤ_}
 use Rattle.rules.proofs.Numbers.Differences.{its, nat, add, neg, at-most, at-most-gives}
 use Rattle.rules.proofs.Numbers.Entries.{Each}
 use Rattle.rules.proofs.Links.Past.{drop-put}
-use Rattle.rules.proofs.Numbers.Rounding.{moved-in-range}
+use Rattle.rules.proofs.Numbers.Rounding.{moved-in-range, limit-in-range}
 use Rattle.rules.proofs.Links.Sides.{length-put, put-else, put-at}
 use Rattle.rules.specs.Numbers.{InRange, maxCoordinate}
 use Rattle.rules.specs.Ring.{ring}
-use Rattle.rules.specs.Step.{sumOver, movedCoordinate, moveVertices}
+use Rattle.rules.specs.Step.{sumOver, movedCoordinate, moveVertices, limitCoordinate}
 use Rattle.rules.specs.Tables.{Mesh, coordinate, putThree}
 
 pub length-move : (n : ℕ) (m : Mesh) (l : List ℤ) → length (moveVertices n m l) ≡ length l
@@ -116,11 +116,13 @@ sum-range m k (v ∷ vs) a = go (a .0) (sum-range m k vs (a .1))
           at-most (add c t) (nat (suc (length vs) * maxCoordinate)) (omega arith),
         )
 
--- A vertex in range whose ring entries are in range moves to a place in range.
-pub moved-coordinate-in-range : (m : Mesh) (v k : ℕ) → InRange (coordinate m v k)
-    → Each (λ u. InRange (coordinate m u k)) (ring (m .topology) v)
-    → 1 ≤ length (ring (m .topology) v) → InRange (movedCoordinate m v k)
-unfolding movedCoordinate
-moved-coordinate-in-range m v k p a n =
-    let s = sum-range m k (ring (m .topology) v) a in
-    moved-in-range n p (s .0) (s .1)
+-- A vertex in range whose ring entries are in range moves to a place in range, and has its limit in range.
+module _ (m : Mesh) (v k : ℕ) (p : InRange (coordinate m v k))
+    (a : Each (λ u. InRange (coordinate m u k)) (ring (m .topology) v)) (n : 1 ≤ length (ring (m .topology) v)) where
+  pub moved-coordinate-in-range : InRange (movedCoordinate m v k)
+  unfolding movedCoordinate
+  moved-coordinate-in-range = let s = sum-range m k (ring (m .topology) v) a in moved-in-range n p (s .0) (s .1)
+
+  pub limit-coordinate-in-range : InRange (limitCoordinate m v k)
+  unfolding limitCoordinate
+  limit-coordinate-in-range = let s = sum-range m k (ring (m .topology) v) a in limit-in-range n p (s .0) (s .1)
