@@ -1,0 +1,38 @@
+-- `mesh::limit` meets its contract.
+use borrow.Author.Needs.{needs}
+use Rattle.rules.proofs.Steps.StepRefusals.{limit-refused}
+use Rattle.rules.specs.Tables.{Mesh}
+use Rattle.tables.specs.Lent.{meshNow}
+use Rattle.mesh.proofs.Refusing.{limit-standing, standing-sound}
+use Rattle.mesh.proofs.limit.Statement.{statement}
+use Rattle.mesh.proofs.limit.Tie as tie
+
+abbrev mesh-of : tie.Start → Mesh
+mesh-of c =
+    let args = c .args in
+    meshNow (args .counts) (args .positions .now) (args .corners .now) (args .links .now) (args .generations .now)
+
+not-sound-requires : tie.Need-not-sound-requires
+not-sound-requires c κs = search needs
+
+returns : tie.Need-returns
+returns c =
+    let at = c .before in
+    let start = at .before .before .before .before in
+    let m = mesh-of start in
+    limit-refused _ m _ (limit-standing _ m _ (at .not-sound .ensures) (c .if1 .taken)) (c .if1 .taken)
+
+limit-positions-requires : tie.Need-limit-positions-requires
+limit-positions-requires c κs =
+    let at-if1 = c .before in
+    let at = at-if1 .before in
+    standing-sound (mesh-of (at .before .before .before .before)) _ (at .not-sound .ensures) (at-if1 .if1 .left)
+
+same-length : tie.Need-same-length
+same-length c = search needs
+
+returns-2 : tie.Need-returns-2
+returns-2 c = search needs
+
+pub limit-spec : {M : Type 1} → statement M
+limit-spec = tie.close (tie.spec not-sound-requires returns limit-positions-requires same-length returns-2)
