@@ -3,4 +3,3 @@ pub mod Answers
 pub mod Pairs
 pub mod Parts
 pub mod Starts
-pub mod Walking
