@@ -5,9 +5,10 @@ use native.Mathlib.Omega.{arith}
 use mathlib.Core.Path.{sym, _∙_}
 use lib.ListN.{getD, set}
 use Rattle.rings.proofs.Walk.{OnWalk, EntryIs, LengthIs, on-walk, entry-of, walks-on, ends, ends-at-boundary}
-use Rattle.rings.proofs.Buffer.{Written, unwritten, writes, all-written}
+use Rattle.rings.proofs.write_ring.Proof.Buffer.{Written, unwritten, writes, all-written}
 use Rattle.rings.proofs.write_ring.Statement.{statement}
 use Rattle.rings.proofs.write_ring.Tie as tie
+mod Buffer
 
 abbrev Inv-loop : tie.InvT-loop
 Inv-loop corners links triangles first buffer₀ n₀ h₀ buffer n h =
