@@ -1,26 +1,39 @@
 -- Working room for a cage whose sizes fit.
-use mathlib.Core.Path.{_≡_, sym}
+use mathlib.Core.Path.{_≡_, refl, sym}
 use mathlib.Core.List.{List}
 use Prim.Native.Nat.{ℕ, _+_, _*_, _≤_}
 use native.Mathlib.Omega.{arith}
+use lib.IntN.{ℤ}
 use lib.ListN.{length, replicate, length-replicate}
 use Rattle.rules.specs.Cage.{cageOf}
 use Rattle.rules.specs.Conditions.{SizesFit}
 use Rattle.rules.specs.Numbers.{numberAt}
 use Rattle.rules.specs.Tables.{Mesh, TablesAgree}
 use Rattle.soundness.proofs.Starts.{zeroed}
+use Rattle.cage.specs.Answers.{lent}
 use Rattle.cage.specs.Decoded.{Sized, WorkingRoom}
 
-pub sized : {bytes : List ℕ} {m : Mesh} {v f : ℕ} → TablesAgree m → SizesFit bytes m → v ≡ numberAt bytes 0
-    → f ≡ numberAt bytes 4 → Sized bytes v f
+-- Tables with the sizes v and f, as they are read, have the cage's counts.
+pub lent-sized : (bytes : List ℕ) {p : List ℤ} {c l n : List ℕ} {v f : ℕ} → v ≡ numberAt bytes 0 → f ≡ numberAt bytes 4
+    → lent p c l n v f ≡ lent p c l n (cageOf bytes .vertices) (cageOf bytes .triangles)
 unfolding cageOf
-sized A S e g = record {
+lent-sized bytes e g = rw (e, g) refl
+
+pub sized : {bytes : List ℕ} {m : Mesh} {v f : ℕ} → v ≡ numberAt bytes 0 → f ≡ numberAt bytes 4 → TablesAgree m
+    → SizesFit bytes m → Sized bytes v f
+unfolding cageOf
+sized e g A S = record {
   vertices = sym e;
   triangles = sym g;
   fewVertices = omega (arith, A .fewVertices, S .vertexRoom);
   fewTriangles = omega (arith, A .fewTriangles, S .triangleRoom);
   size = rw (e, g) (S .size);
 }
+
+pub cage-sized : {bytes : List ℕ} {m : Mesh} → TablesAgree m → SizesFit bytes m
+    → Sized bytes (cageOf bytes .vertices) (cageOf bytes .triangles)
+unfolding cageOf
+cage-sized A S = sized refl refl A S
 
 -- Zeros for the sides and the vertices of a cage with k vertices and triangles together.
 pub room-within : {bytes : List ℕ} {v f : ℕ} (k : ℕ) → Sized bytes v f → length bytes ≤ 8 + 12 * k

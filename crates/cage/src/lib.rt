@@ -1,12 +1,10 @@
 // Loads a cage into the lent tables, or refuses it and leaves them.
 ghost use mathlib.Core.Path.{_≡_};
-ghost use Prim.Native.Nat.{_+_, _≤_};
-ghost use Rattle.rules.specs.Cage.{cageOf};
+ghost use Prim.Native.Nat.{_≤_};
 ghost use lib.ListN.{length};
+ghost use Rattle.rules.specs.Cage.{cageOf};
 ghost use Rattle.rules.specs.Calls.{loadCall};
-ghost use Rattle.rules.specs.Conditions.{SizesFit};
-ghost use Rattle.rules.specs.Tables.{topologyOf, meshOf, TablesAgree};
-ghost use Rattle.cage.specs.Answers.{Refuses, Answers};
+ghost use Rattle.cage.specs.Answers.{lent, Loadable, Refuses, Leaves};
 ghost use Rattle.cage.specs.Decoded.{Sized, WorkingRoom, Holds};
 
 mod conditions;
@@ -61,45 +59,32 @@ fn refusal_of(
     0
 }
 
-// Writes the cage, whose origins and partners are held, unless it is refused.
-fn finish(
-    refusal: u32,
+// The load with this working room: the number of the condition that refuses the cage, or 0 and the cage is written.
+fn load_by(
     positions: &mut [i32],
     corners: &mut [u32],
     links: &mut [u32],
     generations: &mut [u8],
-    vertices: u32,
-    triangles: u32,
     cage: &[u8],
-    origins: &[u32],
-    partners: &[u32],
-) -> Loaded
-    requires { ⌜
-        TablesAgree
-        (meshOf (topologyOf vertices triangles (now corners) (now links) (now generations)) (now positions)) ⌝ }
-    requires { ⌜
-        SizesFit (now cage)
-        (meshOf (topologyOf vertices triangles (now corners) (now links) (now generations)) (now positions)) ⌝ }
-    requires { ⌜ Refuses (now cage) refusal ⌝ }
-    requires { ⌜ (refusal ≡ 0 → Holds (cageOf (now cage)) (now origins) (now partners)) ⌝ }
-    ensures { λ r. ⌜
-        Answers (now (cage .entry))
-        (meshOf (topologyOf vertices triangles (now (corners .entry)) (now (links .entry)) (now (generations .entry)))
-        (now (positions .entry)))
-        (r .refusal)
-        (meshOf
-        (topologyOf (r .vertices) (r .triangles) (now (corners .exit)) (now (links .exit)) (now (generations .exit)))
-        (now (positions .exit))) ⌝ }
+    origins: &mut [u32],
+    partners: &mut [u32],
+    heads: &mut [u32],
+    nexts: &mut [u32],
+    slots: &mut [u32],
+) -> u32
+    requires { ⌜ Loadable (now cage) (lent (now positions) (now corners) (now links) (now generations)) ⌝ }
+    requires { ⌜ WorkingRoom (cageOf (now cage) .vertices) (cageOf (now cage) .triangles) (now origins) (now partners)
+        (now heads) (now nexts) (now slots) ⌝ }
+    ensures { λ r. ⌜ Leaves (now (cage .entry)) r
+        (lent (now (positions .entry)) (now (corners .entry)) (now (links .entry)) (now (generations .entry)))
+        (lent (now (positions .exit)) (now (corners .exit)) (now (links .exit)) (now (generations .exit))) ⌝ }
 {
-    if refusal != 0 {
-        return Loaded {
-            refusal,
-            vertices,
-            triangles,
-        };
-    }
     let v = points::number_at(cage, 0);
     let f = points::number_at(cage, 4);
+    let refusal = refusal_of(cage, v, f, origins, partners, heads, nexts, slots);
+    if refusal != 0 {
+        return refusal;
+    }
     writing::write(
         positions,
         corners,
@@ -111,11 +96,73 @@ fn finish(
         v,
         f,
     );
-    Loaded {
-        refusal: 0,
-        vertices: v,
-        triangles: f,
-    }
+    refusal
+}
+
+// The same with working room for 256 vertices and triangles together.
+fn load_within_256(
+    positions: &mut [i32],
+    corners: &mut [u32],
+    links: &mut [u32],
+    generations: &mut [u8],
+    cage: &[u8],
+) -> u32
+    requires { ⌜ Loadable (now cage) (lent (now positions) (now corners) (now links) (now generations)) ⌝ }
+    requires { ⌜ length (now cage) ≤ 3080 ⌝ }
+    ensures { λ r. ⌜ Leaves (now (cage .entry)) r
+        (lent (now (positions .entry)) (now (corners .entry)) (now (links .entry)) (now (generations .entry)))
+        (lent (now (positions .exit)) (now (corners .exit)) (now (links .exit)) (now (generations .exit))) ⌝ }
+{
+    let mut origins = [0u32; 768];
+    let mut partners = [0u32; 768];
+    let mut heads = [0u32; 256];
+    let mut nexts = [0u32; 768];
+    let mut slots = [0u32; 256];
+    load_by(
+        positions,
+        corners,
+        links,
+        generations,
+        cage,
+        &mut origins,
+        &mut partners,
+        &mut heads,
+        &mut nexts,
+        &mut slots,
+    )
+}
+
+// The same for 3072.
+fn load_within_3072(
+    positions: &mut [i32],
+    corners: &mut [u32],
+    links: &mut [u32],
+    generations: &mut [u8],
+    cage: &[u8],
+) -> u32
+    requires { ⌜ Loadable (now cage) (lent (now positions) (now corners) (now links) (now generations)) ⌝ }
+    requires { ⌜ length (now cage) ≤ 36872 ⌝ }
+    ensures { λ r. ⌜ Leaves (now (cage .entry)) r
+        (lent (now (positions .entry)) (now (corners .entry)) (now (links .entry)) (now (generations .entry)))
+        (lent (now (positions .exit)) (now (corners .exit)) (now (links .exit)) (now (generations .exit))) ⌝ }
+{
+    let mut origins = [0u32; 9216];
+    let mut partners = [0u32; 9216];
+    let mut heads = [0u32; 3072];
+    let mut nexts = [0u32; 9216];
+    let mut slots = [0u32; 3072];
+    load_by(
+        positions,
+        corners,
+        links,
+        generations,
+        cage,
+        &mut origins,
+        &mut partners,
+        &mut heads,
+        &mut nexts,
+        &mut slots,
+    )
 }
 
 // Room for the sides of the largest cage. What it holds is not said, so that no proof writes it out.
@@ -123,174 +170,63 @@ fn side_room() -> [u32; 196608] {
     [0u32; 196608]
 }
 
-// The load with working room for 256 vertices and triangles together.
-fn load_within_256(
-    positions: &mut [i32],
-    corners: &mut [u32],
-    links: &mut [u32],
-    generations: &mut [u8],
-    vertices: u32,
-    triangles: u32,
-    cage: &[u8],
-) -> Loaded
-    requires { ⌜
-        TablesAgree
-        (meshOf (topologyOf vertices triangles (now corners) (now links) (now generations)) (now positions)) ⌝ }
-    requires { ⌜
-        SizesFit (now cage)
-        (meshOf (topologyOf vertices triangles (now corners) (now links) (now generations)) (now positions)) ⌝ }
-    requires { ⌜ length (now cage) ≤ 3080 ⌝ }
-    ensures { λ r. ⌜
-        Answers (now (cage .entry))
-        (meshOf (topologyOf vertices triangles (now (corners .entry)) (now (links .entry)) (now (generations .entry)))
-        (now (positions .entry)))
-        (r .refusal)
-        (meshOf
-        (topologyOf (r .vertices) (r .triangles) (now (corners .exit)) (now (links .exit)) (now (generations .exit)))
-        (now (positions .exit))) ⌝ }
-{
-    let mut origins = [0u32; 768];
-    let mut partners = [0u32; 768];
-    let mut heads = [0u32; 256];
-    let mut nexts = [0u32; 768];
-    let mut slots = [0u32; 256];
-    let v = points::number_at(cage, 0);
-    let f = points::number_at(cage, 4);
-    let refusal = refusal_of(
-        cage,
-        v,
-        f,
-        &mut origins,
-        &mut partners,
-        &mut heads,
-        &mut nexts,
-        &mut slots,
-    );
-    finish(
-        refusal,
-        positions,
-        corners,
-        links,
-        generations,
-        vertices,
-        triangles,
-        cage,
-        &origins,
-        &partners,
-    )
-}
-
-// The same, for 3072.
-fn load_within_3072(
-    positions: &mut [i32],
-    corners: &mut [u32],
-    links: &mut [u32],
-    generations: &mut [u8],
-    vertices: u32,
-    triangles: u32,
-    cage: &[u8],
-) -> Loaded
-    requires { ⌜
-        TablesAgree
-        (meshOf (topologyOf vertices triangles (now corners) (now links) (now generations)) (now positions)) ⌝ }
-    requires { ⌜
-        SizesFit (now cage)
-        (meshOf (topologyOf vertices triangles (now corners) (now links) (now generations)) (now positions)) ⌝ }
-    requires { ⌜ length (now cage) ≤ 36872 ⌝ }
-    ensures { λ r. ⌜
-        Answers (now (cage .entry))
-        (meshOf (topologyOf vertices triangles (now (corners .entry)) (now (links .entry)) (now (generations .entry)))
-        (now (positions .entry)))
-        (r .refusal)
-        (meshOf
-        (topologyOf (r .vertices) (r .triangles) (now (corners .exit)) (now (links .exit)) (now (generations .exit)))
-        (now (positions .exit))) ⌝ }
-{
-    let mut origins = [0u32; 9216];
-    let mut partners = [0u32; 9216];
-    let mut heads = [0u32; 3072];
-    let mut nexts = [0u32; 9216];
-    let mut slots = [0u32; 3072];
-    let v = points::number_at(cage, 0);
-    let f = points::number_at(cage, 4);
-    let refusal = refusal_of(
-        cage,
-        v,
-        f,
-        &mut origins,
-        &mut partners,
-        &mut heads,
-        &mut nexts,
-        &mut slots,
-    );
-    finish(
-        refusal,
-        positions,
-        corners,
-        links,
-        generations,
-        vertices,
-        triangles,
-        cage,
-        &origins,
-        &partners,
-    )
-}
-
-// The same, for the maxima.
+// The same for the maxima.
 fn load_within_98304(
     positions: &mut [i32],
     corners: &mut [u32],
     links: &mut [u32],
     generations: &mut [u8],
-    vertices: u32,
-    triangles: u32,
     cage: &[u8],
-) -> Loaded
-    requires { ⌜
-        TablesAgree
-        (meshOf (topologyOf vertices triangles (now corners) (now links) (now generations)) (now positions)) ⌝ }
-    requires { ⌜
-        SizesFit (now cage)
-        (meshOf (topologyOf vertices triangles (now corners) (now links) (now generations)) (now positions)) ⌝ }
-    ensures { λ r. ⌜
-        Answers (now (cage .entry))
-        (meshOf (topologyOf vertices triangles (now (corners .entry)) (now (links .entry)) (now (generations .entry)))
-        (now (positions .entry)))
-        (r .refusal)
-        (meshOf
-        (topologyOf (r .vertices) (r .triangles) (now (corners .exit)) (now (links .exit)) (now (generations .exit)))
-        (now (positions .exit))) ⌝ }
+) -> u32
+    requires { ⌜ Loadable (now cage) (lent (now positions) (now corners) (now links) (now generations)) ⌝ }
+    ensures { λ r. ⌜ Leaves (now (cage .entry)) r
+        (lent (now (positions .entry)) (now (corners .entry)) (now (links .entry)) (now (generations .entry)))
+        (lent (now (positions .exit)) (now (corners .exit)) (now (links .exit)) (now (generations .exit))) ⌝ }
 {
     let mut origins = side_room();
     let mut partners = side_room();
     let mut heads = [0u32; 32768];
     let mut nexts = side_room();
     let mut slots = [0u32; 32768];
-    let v = points::number_at(cage, 0);
-    let f = points::number_at(cage, 4);
-    let refusal = refusal_of(
+    load_by(
+        positions,
+        corners,
+        links,
+        generations,
         cage,
-        v,
-        f,
         &mut origins,
         &mut partners,
         &mut heads,
         &mut nexts,
         &mut slots,
-    );
-    finish(
-        refusal,
-        positions,
-        corners,
-        links,
-        generations,
-        vertices,
-        triangles,
-        cage,
-        &origins,
-        &partners,
     )
+}
+
+// The same for all, with the conditions 1 and 2. A small cage has little room to clear.
+fn load_tables(
+    positions: &mut [i32],
+    corners: &mut [u32],
+    links: &mut [u32],
+    generations: &mut [u8],
+    cage: &[u8],
+) -> u32
+    ensures { λ r. ⌜ Leaves (now (cage .entry)) r
+        (lent (now (positions .entry)) (now (corners .entry)) (now (links .entry)) (now (generations .entry)))
+        (lent (now (positions .exit)) (now (corners .exit)) (now (links .exit)) (now (generations .exit))) ⌝ }
+{
+    if !soundness::tables_agree(positions, corners, links, generations) {
+        return 1;
+    }
+    if !conditions::sizes_fit(cage, positions, generations) {
+        return 2;
+    }
+    if cage.len() <= 3080 {
+        return load_within_256(positions, corners, links, generations, cage);
+    }
+    if cage.len() <= 36872 {
+        return load_within_3072(positions, corners, links, generations, cage);
+    }
+    load_within_98304(positions, corners, links, generations, cage)
 }
 
 // Loads the cage. A refusal leaves the tables and the counts.
@@ -303,61 +239,26 @@ pub fn load(
     triangles: u32,
     cage: &[u8],
 ) -> Loaded
-    ensures { λ r. ⌜
-        r .refusal ≡ loadCall (now (cage .entry))
-        (meshOf (topologyOf vertices triangles (now (corners .entry)) (now (links .entry)) (now (generations .entry)))
-        (now (positions .entry))) .answer .refusal ⌝ }
-    ensures { λ r. ⌜
-        meshOf
-        (topologyOf (r .vertices) (r .triangles) (now (corners .exit)) (now (links .exit)) (now (generations .exit)))
-        (now (positions .exit))
-        ≡ loadCall (now (cage .entry))
-        (meshOf (topologyOf vertices triangles (now (corners .entry)) (now (links .entry)) (now (generations .entry)))
-        (now (positions .entry))) .mesh ⌝ }
+    ensures { λ r. ⌜ r .refusal ≡ loadCall (now (cage .entry)) (lent (now (positions .entry)) (now (corners .entry))
+        (now (links .entry)) (now (generations .entry)) vertices triangles) .answer .refusal ⌝ }
+    ensures { λ r. ⌜ lent (now (positions .exit)) (now (corners .exit)) (now (links .exit)) (now (generations .exit))
+        (r .vertices) (r .triangles)
+        ≡ loadCall (now (cage .entry)) (lent (now (positions .entry)) (now (corners .entry)) (now (links .entry))
+        (now (generations .entry)) vertices triangles) .mesh ⌝ }
 {
-    if !soundness::tables_agree(positions, corners, links, generations) {
+    let refusal = load_tables(positions, corners, links, generations, cage);
+    if refusal == 0 {
+        let v = points::number_at(cage, 0);
+        let f = points::number_at(cage, 4);
         return Loaded {
-            refusal: 1,
-            vertices,
-            triangles,
+            refusal,
+            vertices: v,
+            triangles: f,
         };
     }
-    if !conditions::sizes_fit(cage, positions, generations) {
-        return Loaded {
-            refusal: 2,
-            vertices,
-            triangles,
-        };
-    }
-    if cage.len() <= 3080 {
-        return load_within_256(
-            positions,
-            corners,
-            links,
-            generations,
-            vertices,
-            triangles,
-            cage,
-        );
-    }
-    if cage.len() <= 36872 {
-        return load_within_3072(
-            positions,
-            corners,
-            links,
-            generations,
-            vertices,
-            triangles,
-            cage,
-        );
-    }
-    load_within_98304(
-        positions,
-        corners,
-        links,
-        generations,
+    Loaded {
+        refusal,
         vertices,
         triangles,
-        cage,
-    )
+    }
 }

@@ -120,7 +120,7 @@ fn lowered(k: u64) -> i32
 }
 
 // The whole number nearest to a third of the sum.
-pub fn third(a: i32, b: i32, c: i32) -> i32
+fn third(a: i32, b: i32, c: i32) -> i32
     ensures { λ r. ⌜ r ≡ nearestThird (a +ℤ b +ℤ c) ⌝ }
 {
     let sum = raised(a) + raised(b) + raised(c);
@@ -186,7 +186,7 @@ pub fn number_at(bytes: &[u8], i: usize) -> u32
 }
 
 // The signed number of four bytes whose unsigned number is n: from 2147483648 on it counts from the least number.
-pub fn signed_of(n: u32) -> i32
+fn signed_of(n: u32) -> i32
     ensures { λ r. ⌜ r ≡ signed n ⌝ }
 {
     if n < 2147483648 {

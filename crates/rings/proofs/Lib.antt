@@ -1,3 +1,2 @@
--- Laws of walks, and of rings written to a buffer.
+-- Laws of walks and their rings.
 pub mod Walk
-pub mod Buffer

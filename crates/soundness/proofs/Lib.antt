@@ -1,6 +1,3 @@
 -- Laws that several proofs cite.
 pub mod Answers
-pub mod Pairs
-pub mod Parts
 pub mod Starts
-pub mod Walking

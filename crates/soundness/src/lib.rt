@@ -11,7 +11,7 @@ ghost use Rattle.rules.specs.Tables.{topologyOf, meshOf, tablesAgree};
 ghost use Rattle.soundness.specs.Parts.{countsFit};
 ghost use Rattle.soundness.specs.Walks.{startIf};
 
-pub mod sides;
+mod sides;
 pub mod walks;
 
 // Whether the tables agree in their slots and keep to the maxima. The counts do not matter.

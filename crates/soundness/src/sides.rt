@@ -11,7 +11,7 @@ ghost use Rattle.rules.specs.Tables.{next, topologyOf};
 ghost use Rattle.soundness.specs.Parts.{Room, pairFits, linkFits, sideFits, triangleFits};
 
 // Whether side i of a triangle of generation g and side j of one of generation h are a pair of one of the five kinds.
-pub fn five_kinds(g: u8, i: usize, h: u8, j: usize) -> bool
+fn five_kinds(g: u8, i: usize, h: u8, j: usize) -> bool
     ensures { λ r. ⌜ r ≡ fiveKinds (roleOf g i) (roleOf h j) ⌝ }
 {
     let a = g as u32;

@@ -1,11 +1,9 @@
 // The test of fans by a walk round each vertex, and where a ring starts.
 use tables::BOUNDARY;
-use tables::sides::previous;
 ghost use mathlib.Core.Path.{_≡_};
 ghost use mathlib.Core.List.{List};
 ghost use Prim.Native.Nat.{ℕ, _+_, _*_, _≤_, _<_};
 ghost use lib.ListN.{length, getD};
-ghost use Rattle.rules.proofs.Rings.FanTotal.{walkLength};
 ghost use Rattle.rules.specs.Tables.{topologyOf};
 ghost use Rattle.soundness.specs.Walks.{CornersInUse, Zeroed, Kept, AllKept, StartsInUse};
 ghost use Rattle.soundness.specs.Walks.{walksMeetAll, TellsStart, TellsFans};
@@ -40,29 +38,6 @@ fn pick_starts(corners: &[u32], links: &[u32], triangles: u32, vertices: u32, st
     }
 }
 
-// How many sides a walk from `first` meets. It reads neither corners nor generations.
-fn walk_length(links: &[u32], triangles: u32, first: usize) -> usize
-    requires { ⌜ (triangles ≤ 65536) × (3 * triangles ≤ length (now links)) × (first < 3 * triangles) ⌝ }
-    ensures { λ r. ⌜ (r ≤ triangles)
-        × ((v : ℕ) (c g : List ℕ) → r ≡ walkLength (topologyOf v triangles c (now (links .entry)) g) first) ⌝ }
-{
-    let most = triangles as usize;
-    let mut n: usize = 0;
-    let mut h = first;
-    while n < most {
-        n += 1;
-        let p = previous(h);
-        h = links[p] as usize;
-        if 3 * most <= h {
-            return n;
-        }
-        if h == first {
-            return n;
-        }
-    }
-    n
-}
-
 // Whether each vertex has a start and the walks from them meet as many sides as there are.
 fn walks_meet_all(links: &[u32], triangles: u32, vertices: u32, starts: &[u32]) -> bool
     requires { ⌜ StartsInUse vertices triangles (now links) (now starts) ⌝ }
@@ -76,7 +51,7 @@ fn walks_meet_all(links: &[u32], triangles: u32, vertices: u32, starts: &[u32]) 
         if s == 0 {
             return false;
         }
-        met += walk_length(links, triangles, s - 1);
+        met += rings::walk_from(links, triangles, s - 1).sides;
         v += 1;
     }
     met == 3 * (triangles as usize)

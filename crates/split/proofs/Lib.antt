@@ -1,5 +1,3 @@
 -- Laws of splits, flips and chains that the proofs of functions cite.
 pub mod Steps
 pub mod Bounds
-pub mod Walk
-pub mod Turns

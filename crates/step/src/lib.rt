@@ -103,7 +103,8 @@ fn split_all(
 // Each vertex moved by the length and the sum of its ring.
 fn move_all(positions: &mut [i32], vertices: u32, lengths: &[u8], sums: &[i32])
     requires { ⌜ ((m : Mesh) × Movable vertices m (now positions) (now lengths) (now sums)) ⌝ }
-    ensures { λ r. ⌜ ((m : Mesh) → Movable vertices m (now (positions .entry)) (now (lengths .entry)) (now (sums .entry))
+    ensures { λ r. ⌜ ((m : Mesh) →
+        Movable vertices m (now (positions .entry)) (now (lengths .entry)) (now (sums .entry))
         → now (positions .exit) ≡ moveVertices vertices m (now (positions .entry))) ⌝ }
 {
     let mut v: u32 = 0;
@@ -172,7 +173,7 @@ fn whole_step(
     work
 }
 
-// The whole step, with two arrays lent that are zero at first, for the length of each ring and the sum of its positions.
+// The whole step, with two arrays lent, zero at first, for the length of each ring and the sum of its positions.
 fn step_by(
     positions: &mut [i32],
     corners: &mut [u32],

@@ -1,56 +1,20 @@
--- `cage::load` meets its contract: conditions 1 and 2 are decided here, the others with working room of a fitting size.
-use borrow.Author.Tests.{not-true, not-false}
-use native.Mathlib.Omega.{arith}
-use mathlib.Core.Path.{_≡_, refl, sym, _∙_}
-use Rattle.rules.proofs.Loads.CageTests.{sizes-fit-is}
-use Rattle.rules.proofs.Numbers.Decide.{when-true}
-use Rattle.rules.proofs.Loads.LoadTests.{load-by-tests, load-refused}
-use Rattle.rules.proofs.Soundness.SoundTest.{tables-agree-is}
-use Rattle.rules.specs.Cage.{sizesFit}
-use Rattle.rules.specs.Conditions.{SizesFit}
-use Rattle.rules.specs.Tables.{Mesh, TablesAgree, tablesAgree, topologyOf, meshOf}
+-- `cage::load` meets its contract.
 use borrow.Author.Needs.{needs}
+use native.Mathlib.Omega.{arith}
+use mathlib.Core.Path.{sym, _∙_}
+use Rattle.rules.proofs.Loads.LoadTests.{load-refused, load-carried}
+use Rattle.cage.proofs.Room.{lent-sized}
 use Rattle.cage.proofs.load.Statement.{statement}
 use Rattle.cage.proofs.load.Tie as tie
 
-abbrev mesh : tie.Start → Mesh
-mesh c =
-    let args = c .args in
-    meshOf
-    (topologyOf (args .vertices) (args .triangles) (args .corners .now) (args .links .now) (args .generations .now))
-    (args .positions .now)
+load-tables-requires : tie.Need-load-tables-requires
+load-tables-requires c κs = search needs
 
--- The results of the two tests.
-agree : (c : tie.After-tables-agree)
-    → let at = c .before .before .before .before .before .before .before .before .before in
-    tablesAgree (mesh at) ≡ c .tables-agree .result
-agree c =
-    let at = c .before .before .before .before .before .before .before .before .before .args in
-    sym (c .tables-agree .ensures (at .vertices) (at .triangles))
+number-at-requires : tie.Need-number-at-requires
+number-at-requires c κs = omega (arith, c .before .before .before .before .before .before .before .before .load-tables .ensures .sizes (c .if1 .taken))
 
-fit : (c : tie.After-sizes-fit)
-    → let at =
-    c .before .before .before .before .before .before .before .before .before .before .before .before .before in
-    sizesFit (at .args .cage .now) (mesh at) ≡ c .sizes-fit .result
-fit c =
-    let at =
-    c .before .before .before .before .before .before .before .before .before .before .before .before .before .args in
-    sym (c .sizes-fit .ensures (at .vertices) (at .triangles) (at .corners .now) (at .links .now))
-
--- What is known where both are passed.
-known : (c : tie.Else2)
-    → let at =
-    c .before .before .before .before .before .before .before .before .before .before .before .before .before
-    .before in
-    TablesAgree (mesh at) × SizesFit (at .args .cage .now) (mesh at)
-known c =
-    let at-else = c .before .before .before .before in (
-      when-true (tables-agree-is _) (agree (at-else .before) ∙ not-false _ (at-else .if1 .left)),
-      when-true (sizes-fit-is _ _) (fit (c .before) ∙ not-false _ (c .if2 .left)),
-    )
-
-tables-agree-requires : tie.Need-tables-agree-requires
-tables-agree-requires c κs = search needs
+number-at-requires-2 : tie.Need-number-at-requires-2
+number-at-requires-2 c κs = omega (arith, c .before .before .before .before .before .before .before .before .before .load-tables .ensures .sizes (c .before .if1 .taken))
 
 same-length : tie.Need-same-length
 same-length c = search needs
@@ -66,12 +30,12 @@ same-length-4 c = search needs
 
 returns : tie.Need-returns
 returns c =
-    load-refused _ _
-    (load-by-tests _ _ (agree (c .before) ∙ not-true _ (c .if1 .taken)) refl refl refl refl refl)
-    (λ e. omega arith)
-
-sizes-fit-requires : tie.Need-sizes-fit-requires
-sizes-fit-requires c κs = search needs
+    let zero = c .before .before .if1 .taken in
+    let left = c .before .before .before .before .before .before .before .before .before .before .load-tables .ensures in
+    let made =
+    load-carried _ _ (sym zero ∙ left .refusal _ _)
+    (lent-sized _ (c .before .number-at .ensures) (c .number-at2 .ensures) ∙ left .carried zero _ _) in
+    (zero ∙ made .0, made .1)
 
 same-length-5 : tie.Need-same-length-5
 same-length-5 c = search needs
@@ -87,103 +51,24 @@ same-length-8 c = search needs
 
 returns-2 : tie.Need-returns-2
 returns-2 c =
-    let at-else = c .before .before .before .before in
-    load-refused _ _
-    (load-by-tests _ _ (agree (at-else .before) ∙ not-false _ (at-else .if1 .left))
-    (fit (c .before) ∙ not-true _ (c .if2 .taken)) refl refl refl refl)
-    (λ e. omega arith)
-
-load-within-256-requires : tie.Need-load-within-256-requires
-load-within-256-requires c κs =
-    let at-else = c .before .before .before .before .before in
-    let k = known at-else in
-    (k .0, (k .1, c .before .before .before .before .if3 .taken))
-
-same-length-9 : tie.Need-same-length-9
-same-length-9 c = search needs
-
-same-length-10 : tie.Need-same-length-10
-same-length-10 c = search needs
-
-same-length-11 : tie.Need-same-length-11
-same-length-11 c = search needs
-
-same-length-12 : tie.Need-same-length-12
-same-length-12 c = search needs
-
-returns-3 : tie.Need-returns-3
-returns-3 c = search needs
-
-load-within-3072-requires : tie.Need-load-within-3072-requires
-load-within-3072-requires c κs =
-    let at-else = c .before .before .before .before .before .before in
-    let k = known at-else in
-    (k .0, (k .1, c .before .before .before .before .if4 .taken))
-
-same-length-13 : tie.Need-same-length-13
-same-length-13 c = search needs
-
-same-length-14 : tie.Need-same-length-14
-same-length-14 c = search needs
-
-same-length-15 : tie.Need-same-length-15
-same-length-15 c = search needs
-
-same-length-16 : tie.Need-same-length-16
-same-length-16 c = search needs
-
-returns-4 : tie.Need-returns-4
-returns-4 c = search needs
-
-load-within-98304-requires : tie.Need-load-within-98304-requires
-load-within-98304-requires c κs = known (c .before .before .before .before .before .before)
-
-same-length-17 : tie.Need-same-length-17
-same-length-17 c = search needs
-
-same-length-18 : tie.Need-same-length-18
-same-length-18 c = search needs
-
-same-length-19 : tie.Need-same-length-19
-same-length-19 c = search needs
-
-same-length-20 : tie.Need-same-length-20
-same-length-20 c = search needs
-
-returns-5 : tie.Need-returns-5
-returns-5 c = search needs
+    let left = c .before .before .before .before .before .before .before .before .load-tables .ensures in
+    let stood = load-refused _ _ (left .refusal _ _) (c .if1 .left) in
+    (stood .0, left .refused (c .if1 .left) _ _ ∙ stood .1)
 
 pub load-spec : {M : Type 1} → statement M
 load-spec =
     tie.close
     (tie.spec
-    tables-agree-requires
+    load-tables-requires
+    number-at-requires
+    number-at-requires-2
     same-length
     same-length-2
     same-length-3
     same-length-4
     returns
-    sizes-fit-requires
     same-length-5
     same-length-6
     same-length-7
     same-length-8
-    returns-2
-    load-within-256-requires
-    same-length-9
-    same-length-10
-    same-length-11
-    same-length-12
-    returns-3
-    load-within-3072-requires
-    same-length-13
-    same-length-14
-    same-length-15
-    same-length-16
-    returns-4
-    load-within-98304-requires
-    same-length-17
-    same-length-18
-    same-length-19
-    same-length-20
-    returns-5)
+    returns-2)

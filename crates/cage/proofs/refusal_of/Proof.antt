@@ -2,13 +2,14 @@
 use borrow.Author.Tests.{not-true, not-false}
 use native.Mathlib.Omega.{arith}
 use mathlib.Core.Path.{sym, _∙_}
-use Rattle.cage.proofs.Refusals.{Fits, decode-read, refuses-3, refuses-4, readable, refuses-5, in-use, holds}
-use Rattle.cage.proofs.Refusals.{refuses-6, refuses-none}
+use Rattle.cage.proofs.refusal_of.Proof.Refusals.{Fits, decode-read, refuses-3, refuses-4, readable, refuses-5, in-use, holds}
+use Rattle.cage.proofs.refusal_of.Proof.Refusals.{refuses-6, refuses-none}
 use Rattle.cage.specs.Decoded.{decoded}
 use Rattle.cage.specs.Pairing.{Matched}
 use borrow.Author.Needs.{needs}
 use Rattle.cage.proofs.refusal_of.Statement.{statement}
 use Rattle.cage.proofs.refusal_of.Tie as tie
+mod Refusals
 
 -- What is known where pairing starts, and where it is done.
 fit : (c : tie.Else2)

@@ -5,9 +5,10 @@ use native.Mathlib.Omega.{arith}
 use mathlib.Core.Path.{sym, _∙_}
 use lib.ListN.{getD, set}
 use Rattle.rings.proofs.Walk.{OnWalk, EntryIs, LengthIs, on-walk, entry-of, walks-on, ends, ends-at-boundary}
-use Rattle.rings.proofs.Buffer.{Written, unwritten, writes, all-written}
+use Rattle.rings.proofs.write_ring.Proof.Buffer.{Written, unwritten, writes, all-written}
 use Rattle.rings.proofs.write_ring.Statement.{statement}
 use Rattle.rings.proofs.write_ring.Tie as tie
+mod Buffer
 
 abbrev Inv-loop : tie.InvT-loop
 Inv-loop corners links triangles first buffer₀ n₀ h₀ buffer n h =
@@ -44,9 +45,6 @@ last c =
 loop-holds : tie.Need-loop-holds Inv-loop μ-loop
 loop-holds c = (on-walk _ _ _ (omega arith), unwritten _ _ _ _ _)
 
-cast-next : tie.Need-cast-next Inv-loop μ-loop
-cast-next c = omega arith
-
 next-requires : tie.Need-next-requires Inv-loop μ-loop
 next-requires c κs = omega arith
 
@@ -55,9 +53,6 @@ mul-buffer c = omega arith
 
 shared-slice-read-buffer : tie.Need-shared-slice-read-buffer Inv-loop μ-loop
 shared-slice-read-buffer c = omega arith
-
-cast-buffer : tie.Need-cast-buffer Inv-loop μ-loop
-cast-buffer c = omega arith
 
 mul-buffer-2 : tie.Need-mul-buffer-2 Inv-loop μ-loop
 mul-buffer-2 c = omega arith
@@ -68,9 +63,6 @@ slice-write-buffer c =
     let fits = start .pre .1 in
     omega (arith, fits .2, entry (c .before) .has (fits .0) (fits .1), c .before .before .loop .inv .1 .size)
 
-cast-previous : tie.Need-cast-previous Inv-loop μ-loop
-cast-previous c = omega arith
-
 previous-requires : tie.Need-previous-requires Inv-loop μ-loop
 previous-requires c κs = omega arith
 
@@ -80,17 +72,20 @@ mul-k c = omega arith
 shared-slice-read-k : tie.Need-shared-slice-read-k Inv-loop μ-loop
 shared-slice-read-k c = omega arith
 
+cast-k : tie.Need-cast-k Inv-loop μ-loop
+cast-k c = omega (arith, c .shared-slice-known4 .given (c .before .previous .result))
+
 add-n : tie.Need-add-n Inv-loop μ-loop
 add-n c = omega arith
+
+cast-if1 : tie.Need-cast-if1 Inv-loop μ-loop
+cast-if1 c = omega arith
 
 mul-buffer-3 : tie.Need-mul-buffer-3 Inv-loop μ-loop
 mul-buffer-3 c = omega arith
 
 shared-slice-read-buffer-2 : tie.Need-shared-slice-read-buffer-2 Inv-loop μ-loop
 shared-slice-read-buffer-2 c = omega arith
-
-cast-buffer-2 : tie.Need-cast-buffer-2 Inv-loop μ-loop
-cast-buffer-2 c = omega arith
 
 mul-buffer-4 : tie.Need-mul-buffer-4 Inv-loop μ-loop
 mul-buffer-4 c = omega arith
@@ -139,21 +134,19 @@ write-ring-spec =
     Inv-loop
     μ-loop
     loop-holds
-    cast-next
     next-requires
     mul-buffer
     shared-slice-read-buffer
-    cast-buffer
     mul-buffer-2
     slice-write-buffer
-    cast-previous
     previous-requires
     mul-k
     shared-slice-read-k
+    cast-k
     add-n
+    cast-if1
     mul-buffer-3
     shared-slice-read-buffer-2
-    cast-buffer-2
     mul-buffer-4
     slice-write-buffer-2
     goes-on-requires

@@ -8,9 +8,10 @@ use lib.ListN.{length, getD}
 use Rattle.rules.specs.Tables.{Topology}
 use Rattle.tables.specs.declared.Counts.{Counts}
 use Rattle.tables.specs.Lent.{topologyNow}
-use Rattle.split.proofs.Walk.{Walking, walk-begins, walk-ends, walk-more, walk-even, walk-boundary, walk-on}
+use Rattle.split.proofs.base_chain.Proof.Walk.{Walking, walk-begins, walk-ends, walk-more, walk-even, walk-boundary, walk-on}
 use Rattle.split.proofs.base_chain.Statement.{statement}
 use Rattle.split.proofs.base_chain.Tie as tie
+mod Walk
 
 abbrev Inv-loop : tie.InvT-loop
 Inv-loop links generations t slots₀ odd₀ end₀ steps₀ slots odd end steps =

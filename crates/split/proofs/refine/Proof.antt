@@ -9,9 +9,10 @@ use Rattle.rules.specs.Split.{chainEnd}
 use Rattle.rules.specs.Tables.{Mesh}
 use Rattle.tables.specs.Lent.{meshNow}
 use Rattle.split.specs.Made.{workNow}
-use Rattle.split.proofs.Turns.{turn-may-split, turn-on, turn-within, turn-end}
+use Rattle.split.proofs.refine.Proof.Turns.{turn-may-split, turn-on, turn-within, turn-end}
 use Rattle.split.proofs.refine.Statement.{statement}
 use Rattle.split.proofs.refine.Tie as tie
+mod Turns
 
 abbrev Inv-loop : tie.InvT-loop
 Inv-loop positions₀ corners₀ links₀ generations₀ t slots work₀ _ _ positions corners links generations work left end =

@@ -111,7 +111,8 @@ returns-4 : tie.Need-returns-4
 returns-4 c =
     let s = at-sums (c .before) in (
       step-by-tests (sound (inner s)) (even (inner s)) (young (second s))
-          (sym (rings-told s) ∙ c .before .before .if3 .left) (sym (room-told (c .before)) ∙ not-true _ (c .if4 .taken)),
+          (sym (rings-told s) ∙ c .before .before .if3 .left)
+          (sym (room-told (c .before)) ∙ not-true _ (c .if4 .taken)),
       λ e. absurd (omega arith),
     )
 

@@ -6,9 +6,10 @@ use Prim.Native.Nat.{_-_, _≤_}
 use native.Mathlib.Omega.{arith}
 use lib.ListN.{length}
 use Rattle.cage.specs.Decoded.{decoded}
-use Rattle.cage.proofs.Pairs.{Pairing, pairing-none, pairing-more, all-matched}
+use Rattle.cage.proofs.pairing.join_all.Proof.Pairs.{Pairing, pairing-none, pairing-more, all-matched}
 use Rattle.cage.proofs.pairing.join_all.Statement.{statement}
 use Rattle.cage.proofs.pairing.join_all.Tie as tie
+mod Pairs
 
 abbrev Inv-loop : tie.InvT-loop
 Inv-loop corners triangles vertices heads nexts slots₀ links₀ v₀ slots links v =

@@ -6,10 +6,11 @@ use native.Mathlib.Omega.{arith}
 use lib.ListN.{length, length-set}
 use Rattle.cage.specs.Decoded.{decoded}
 use Rattle.cage.specs.Pairing.{Threads}
-use Rattle.cage.proofs.Threads.{threads-none, threads-more}
+use Rattle.cage.proofs.pairing.thread.Proof.Threading.{threads-none, threads-more}
 use Rattle.cage.proofs.pairing.thread.Statement.{statement}
 use Rattle.cage.proofs.pairing.thread.Tie as tie
 use Rattle.cage.proofs.pairing.thread.Reads as reads
+mod Threading
 
 abbrev Inv-loop : tie.InvT-loop
 Inv-loop corners triangles vertices heads₀ nexts₀ h₀ heads nexts h =

@@ -1,8 +1,9 @@
 -- `cage::writing::write` meets its contract.
-use Rattle.cage.proofs.Written.{written}
+use Rattle.cage.proofs.writing.write.Proof.Written.{written}
 use borrow.Author.Needs.{needs}
 use Rattle.cage.proofs.writing.write.Statement.{statement}
 use Rattle.cage.proofs.writing.write.Tie as tie
+mod Written
 
 mul-coordinates : tie.Need-mul-coordinates
 mul-coordinates c = search needs

@@ -66,11 +66,11 @@ returns c d g =
     let none = le-ltb 0 (getD starts (turn .before .loop .v) 0) (omega arith) in
     rw (all-fails _ _ (hasStart starts) (turn .loop-test .taken) none)
 
-sub-walk-length : tie.Need-sub-walk-length Inv-loop μ-loop
-sub-walk-length c = omega arith
+sub-walk-from : tie.Need-sub-walk-from Inv-loop μ-loop
+sub-walk-from c = omega arith
 
-walk-length-requires : tie.Need-walk-length-requires Inv-loop μ-loop
-walk-length-requires c κs =
+walk-from-requires : tie.Need-walk-from-requires Inv-loop μ-loop
+walk-from-requires c κs =
     let head = c .before .before .before in
     omega (arith, head .before .before .before .pre .inUse (head .loop .v) (c .before .before .loop-test .taken))
 
@@ -85,7 +85,7 @@ loop-less c = omega arith
 
 loop-again : tie.Need-loop-again Inv-loop μ-loop
 loop-again c =
-    let head = c .before .before .before .before in
+    let head = c .before .before .before .before .before in
     let start = head .before .before .before in
     let starts = start .args .starts .now in
     let inv = head .loop .inv in
@@ -93,7 +93,7 @@ loop-again c =
       omega arith,
       omega arith,
       all-more _ (hasStart starts) (inv .2) some,
-      λ d g. more _ (lengthFrom (topology start d g) starts) (inv .3 d g) (c .walk-length .ensures .1 _ d g),
+      λ d g. more _ (lengthFrom (topology start d g) starts) (inv .3 d g) (c .before .walk-from .ensures .sides _ d g),
     )
 
 mul-result : tie.Need-mul-result Inv-loop μ-loop
@@ -116,8 +116,8 @@ walks-meet-all-spec =
     shared-slice-read-s
     cast-s
     returns
-    sub-walk-length
-    walk-length-requires
+    sub-walk-from
+    walk-from-requires
     add-met
     add-v
     loop-less

@@ -17,7 +17,7 @@ use Rattle.rules.specs.Numbers.{InRange, inRange}
 use Rattle.rules.specs.Sound.{OneFan, Sound, hasOneFan, isSound}
 use Rattle.rules.specs.Tables.{Topology, Mesh, TablesAgree, tablesAgree, vertexSlots, triangleSlots}
 use Rattle.rules.specs.Tables.{sides, origin, target, generation}
-use Rattle.soundness.proofs.Pairs.{LinkFits, link-is, links-fit, link-fits}
+use Rattle.soundness.proofs.sound_start.Proof.Pairs.{LinkFits, link-is, links-fit, link-fits}
 use Rattle.soundness.specs.Parts.{Room, countsFit, sideFits, triangleFits}
 use Rattle.soundness.specs.Walks.{CornersInUse}
 

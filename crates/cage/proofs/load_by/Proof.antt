@@ -1,0 +1,137 @@
+-- `cage::load_by` meets its contract: a refusal leaves the tables, and else they hold the cage.
+use borrow.Author.Needs.{needs}
+use native.Mathlib.Omega.{arith}
+use mathlib.Core.Path.{refl, sym, _∙_}
+use Rattle.rules.specs.Cage.{cageOf}
+use Rattle.cage.proofs.Room.{sized, lent-sized}
+use Rattle.cage.proofs.load_by.Statement.{statement}
+use Rattle.cage.proofs.load_by.Tie as tie
+
+-- Where the sizes are read, and where the refusal is decided.
+abbrev sizes : tie.After-refusal-of → tie.After-number-at2
+sizes c = c .before .before .before .before .before .before
+
+abbrev start : tie.After-number-at2 → tie.Start
+start c = c .before .before .before .before .before .before .before .before .before .before .before
+
+number-at-requires : tie.Need-number-at-requires
+number-at-requires c κs = omega (arith, c .before .before .before .before .before .before .before .before .before .pre .0 0 0 .1 .size)
+
+number-at-requires-2 : tie.Need-number-at-requires-2
+number-at-requires-2 c κs = omega (arith, c .before .before .before .before .before .before .before .before .before .before .pre .0 0 0 .1 .size)
+
+refusal-of-requires : tie.Need-refusal-of-requires
+refusal-of-requires c κs =
+    let at = c .before .before .before .before .before in
+    let pre = start at .pre in
+    let e = at .before .number-at .ensures in
+    let g = at .number-at2 .ensures in
+    let Z = sized e g (pre .0 0 0 .0) (pre .0 0 0 .1) in
+    (Z, rw (← Z .vertices, ← Z .triangles) (pre .1))
+
+returns : tie.Need-returns
+returns c =
+    let at = c .before .before .before .before .before .before .before .before .before .before .before in
+    let pre = start (sizes at) .pre in
+    record {
+      refusal = λ v f. at .refusal-of .ensures .0 _ (pre .0 v f .0) (pre .0 v f .1);
+      sizes = λ e. absurd (c .if1 .taken e);
+      refused = λ _ v f. refl;
+      carried = λ e. absurd (c .if1 .taken e);
+    }
+
+write-requires : tie.Need-write-requires
+unfolding cageOf
+write-requires c κs =
+    let at-else = c .before .before .before .before .before .before in
+    let at = at-else .before .before .before .before .before .before .before .before .before .before .before in
+    let pre = start (sizes at) .pre in
+    let A = pre .0 0 0 .0 in
+    let S = pre .0 0 0 .1 in
+    let e = sizes at .before .number-at .ensures in
+    let g = sizes at .number-at2 .ensures in (
+      (sym e, sym g),
+      (omega (arith, e, S .size), (at .refusal-of .ensures .1 (at-else .if1 .left), omega (arith, e, g, A, S))),
+    )
+
+returns-2 : tie.Need-returns-2
+returns-2 c =
+    let at-write = c .before .before .before .before .before .before .before in
+    let at-else = at-write .before .before .before .before .before .before .before in
+    let at = at-else .before .before .before .before .before .before .before .before .before .before .before in
+    let pre = start (sizes at) .pre in
+    record {
+      refusal = λ v f. at .refusal-of .ensures .0 _ (pre .0 v f .0) (pre .0 v f .1);
+      sizes = λ _. omega (arith, pre .0 0 0 .1 .size);
+      refused = λ n. absurd (n (at-else .if1 .left));
+      carried = λ _ v f.
+          sym (lent-sized _ (sizes at .before .number-at .ensures) (sizes at .number-at2 .ensures))
+          ∙ at-write .write .ensures v f;
+    }
+
+same-length : tie.Need-same-length
+same-length c = search needs
+
+same-length-2 : tie.Need-same-length-2
+same-length-2 c = search needs
+
+same-length-3 : tie.Need-same-length-3
+same-length-3 c = search needs
+
+same-length-4 : tie.Need-same-length-4
+same-length-4 c = search needs
+
+same-length-5 : tie.Need-same-length-5
+same-length-5 c = search needs
+
+same-length-6 : tie.Need-same-length-6
+same-length-6 c = search needs
+
+same-length-7 : tie.Need-same-length-7
+same-length-7 c = search needs
+
+same-length-8 : tie.Need-same-length-8
+same-length-8 c = search needs
+
+same-length-9 : tie.Need-same-length-9
+same-length-9 c = search needs
+
+same-length-10 : tie.Need-same-length-10
+same-length-10 c = search needs
+
+same-length-11 : tie.Need-same-length-11
+same-length-11 c = search needs
+
+same-length-12 : tie.Need-same-length-12
+same-length-12 c = search needs
+
+same-length-13 : tie.Need-same-length-13
+same-length-13 c = search needs
+
+same-length-14 : tie.Need-same-length-14
+same-length-14 c = search needs
+
+pub load-by-spec : {M : Type 1} → statement M
+load-by-spec =
+    tie.close
+    (tie.spec
+    number-at-requires
+    number-at-requires-2
+    refusal-of-requires
+    same-length
+    same-length-2
+    same-length-3
+    same-length-4
+    same-length-5
+    returns
+    write-requires
+    same-length-6
+    same-length-7
+    same-length-8
+    same-length-9
+    same-length-10
+    same-length-11
+    same-length-12
+    same-length-13
+    same-length-14
+    returns-2)
