@@ -4,9 +4,10 @@ use mathlib.Core.Bool.{Bool, true, false, not}
 use mathlib.Core.List.{List, [], _∷_}
 use mathlib.Core.Logic.{_≢_}
 use mathlib.Core.Path.{_≡_, refl, sym, _∙_}
-use Prim.Native.Nat.{ℕ, _≤_, _<_}
+use Prim.Native.Nat.{ℕ, _*_, _≤_, _<_}
 use native.Mathlib.Omega.{arith}
 use lib.Dec.{eqb, leb, ltb}
+use lib.IntN.{ℤ}
 use lib.ListN.{length}
 use Rattle.rules.proofs.Calls.CallRefusals.{load-judged, position-refusal-first}
 use Rattle.rules.proofs.Numbers.Decide.{Decides, stable}
@@ -15,7 +16,7 @@ use Rattle.rules.proofs.Soundness.SoundTest.{tables-agree-is, sound-is}
 use Rattle.rules.specs.Below.{any}
 use Rattle.rules.specs.Calls.{Test, _if_, firstOf, Outcome, answerOf, noRoom, ringRoom, outcomeOf, zeroPoint}
 use Rattle.rules.specs.Calls.{refusedWith, splitsOf, roomFor, worked, loadCall}
-use Rattle.rules.specs.Calls.{refineRefusal, refineCall, closedEven, wholeStepRefusal, ringRefusal, ringRead, ringCall}
+use Rattle.rules.specs.Calls.{refineRefusal, refineCall, closedEven, wholeStepRefusal, limitRefusal, ringRefusal, ringRead, ringCall}
 use Rattle.rules.specs.Calls.{positionRefusal, positionRead, positionCall}
 use Rattle.rules.specs.Ring.{ring}
 use Rattle.rules.specs.Sound.{Sound, isSound}
@@ -163,7 +164,7 @@ module _ (m : Mesh) (v s : ℕ) where
     pub chain-none : roomFor s m ≡ true → 0 ≡ chainRefusal
     chain-none b = rw (a, b)
 
--- ---- whole step
+-- ---- whole step and limit positions
 
 pub step-standing : (m : Mesh) (r : ℕ) → r ≡ standing m → r ≢ 0 → r ≡ wholeStepRefusal m
 unfolding wholeStepRefusal
@@ -173,6 +174,16 @@ step-standing m r =
     ∷ 9 if eqb (generation (m .topology) 0) 20
     ∷ 13 if any (m .topology .vertices) (λ v. ltb 12 (length (ring (m .topology) v)))
     ∷ 11 if not (roomFor (m .topology .triangles) m)
+    ∷ []
+    ) r
+
+pub limit-standing : (table : List ℤ) (m : Mesh) (r : ℕ) → r ≡ standing m → r ≢ 0 → r ≡ limitRefusal table m
+unfolding limitRefusal
+limit-standing table m r =
+    two-kept (not (tablesAgree m)) (not (isSound m)) (
+    12 if not (closedEven (m .topology))
+    ∷ 13 if any (m .topology .vertices) (λ v. ltb 12 (length (ring (m .topology) v)))
+    ∷ 15 if not (eqb (length table) (3 * m .topology .vertices))
     ∷ []
     ) r
 

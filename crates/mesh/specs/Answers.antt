@@ -10,14 +10,21 @@ use Rattle.rules.specs.Ring.{ring}
 use Rattle.rules.specs.Sound.{isSound}
 use Rattle.rules.specs.Tables.{Mesh, tablesAgree}
 use Rattle.rings.specs.Rings.{ringFrom, Walkable}
+use Rattle.tables.specs.Answers.{tableOutcome}
 use Rattle.tables.specs.Lent.{meshNow}
 use Rattle.mesh.specs.declared.FoundRing.{FoundRing}
+use Rattle.mesh.specs.declared.LimitRead.{LimitRead}
 use Rattle.mesh.specs.declared.RingRead.{RingRead}
 use Rattle.mesh.specs.declared.PositionRead.{PositionRead}
 
 -- The first refusal of a mesh, by every call but load.
 abbrev pub standing : Mesh → ℕ
 standing m = firstOf (1 if not (tablesAgree m) ∷ 7 if not (isSound m) ∷ [])
+
+-- The outcome of a call that reads limit positions.
+abbrev pub limitOutcome : LimitRead → List ℤ → List ℕ → List ℕ → List ℕ → List ℤ → Outcome
+limitOutcome a positions corners links generations table =
+    tableOutcome (a .refusal) (meshNow (a .counts) positions corners links generations) table
 
 -- The outcome of a call that reads a ring.
 abbrev pub ringOutcome : RingRead → List ℤ → List ℕ → List ℕ → List ℕ → List ℕ → Outcome

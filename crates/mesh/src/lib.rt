@@ -10,12 +10,12 @@ ghost use Prim.Native.Nat.{ℕ, max};
 ghost use lib.Dec.{eqb, leb};
 ghost use lib.IntN.{ℤ};
 ghost use Rattle.rules.specs.Calls.{firstOf, _if_, roomFor, loadCall, refineCall, wholeStepCall};
-ghost use Rattle.rules.specs.Calls.{ringCall, positionCall, positionRefusal};
+ghost use Rattle.rules.specs.Calls.{limitCall, ringCall, positionCall, positionRefusal};
 ghost use Rattle.rules.specs.Sound.{isSound};
 ghost use Rattle.rules.specs.Tables.{tablesAgree, generation, odd};
 ghost use Rattle.tables.specs.Answers.{workedOutcome};
 ghost use Rattle.tables.specs.Lent.{meshNow};
-ghost use Rattle.mesh.specs.Answers.{standing, noRing, FoundFor, ringOutcome, positionOutcome};
+ghost use Rattle.mesh.specs.Answers.{standing, limitOutcome, noRing, FoundFor, ringOutcome, positionOutcome};
 
 // The answer of ring.
 #[repr(C)]
@@ -30,6 +30,13 @@ pub struct RingRead {
 pub struct PositionRead {
     pub refusal: u32,
     pub point: Point,
+    pub counts: Counts,
+}
+
+// The answer of limit.
+#[repr(C)]
+pub struct LimitRead {
+    pub refusal: u32,
     pub counts: Counts,
 }
 
@@ -231,6 +238,39 @@ pub fn whole_step(
 {
     let bad = not_sound(positions, corners, links, generations, counts);
     whole_step_known(positions, corners, links, generations, counts, bad)
+}
+
+// Writes the limit position of each vertex into the table.
+pub fn limit(
+    positions: &[i32],
+    corners: &[u32],
+    links: &[u32],
+    generations: &[u8],
+    counts: Counts,
+    table: &mut [i32],
+) -> LimitRead
+    ensures { λ r. ⌜
+        limitOutcome r (now (positions .entry)) (now (corners .entry)) (now (links .entry))
+        (now (generations .entry)) (now (table .exit))
+        ≡ limitCall (now (table .entry)) (meshNow counts (now (positions .entry)) (now (corners .entry))
+        (now (links .entry)) (now (generations .entry))) ⌝ }
+{
+    let bad = not_sound(positions, corners, links, generations, counts);
+    if bad != 0 {
+        return LimitRead {
+            refusal: bad,
+            counts,
+        };
+    }
+    let refusal = step::limits::limit_positions(
+        positions,
+        corners,
+        links,
+        generations,
+        counts,
+        table,
+    );
+    LimitRead { refusal, counts }
 }
 
 // What is known of a ring before it is written: its refusal, or 0 with the side where it starts and its length.

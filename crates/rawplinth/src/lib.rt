@@ -1,14 +1,15 @@
 // The calls of crate mesh under the names by which C and Rust link them (include/rawplinth.h). A slice is a pointer and
 // a length.
+use mesh::LimitRead;
 use mesh::PositionRead;
 use mesh::RingRead;
 use tables::Counts;
 use tables::Worked;
 ghost use mathlib.Core.Path.{_≡_};
-ghost use Rattle.rules.specs.Calls.{loadCall, refineCall, wholeStepCall, ringCall, positionCall};
+ghost use Rattle.rules.specs.Calls.{loadCall, refineCall, wholeStepCall, limitCall, ringCall, positionCall};
 ghost use Rattle.tables.specs.Answers.{workedOutcome};
 ghost use Rattle.tables.specs.Lent.{meshNow};
-ghost use Rattle.mesh.specs.Answers.{ringOutcome, positionOutcome};
+ghost use Rattle.mesh.specs.Answers.{limitOutcome, ringOutcome, positionOutcome};
 
 // Loads a cage.
 #[no_mangle]
@@ -61,6 +62,24 @@ pub extern "C" fn rawplinth_whole_step(
         (now (generations .entry))) ⌝ }
 {
     mesh::whole_step(positions, corners, links, generations, counts)
+}
+
+// Writes the limit position of each vertex.
+#[no_mangle]
+pub extern "C" fn rawplinth_limit(
+    positions: &[i32],
+    corners: &[u32],
+    links: &[u32],
+    generations: &[u8],
+    counts: Counts,
+    table: &mut [i32],
+) -> LimitRead
+    ensures { λ r. ⌜ limitOutcome r (now (positions .entry)) (now (corners .entry)) (now (links .entry))
+        (now (generations .entry)) (now (table .exit))
+        ≡ limitCall (now (table .entry)) (meshNow counts (now (positions .entry)) (now (corners .entry))
+        (now (links .entry)) (now (generations .entry))) ⌝ }
+{
+    mesh::limit(positions, corners, links, generations, counts, table)
 }
 
 // Reads the ring of a vertex.

@@ -22,6 +22,8 @@ ghost use Rattle.split.specs.Made.{workNow};
 ghost use Rattle.rings.specs.Sums.{Cleared, RingSums};
 ghost use Rattle.step.specs.Moves.{Movable};
 
+pub mod limits;
+
 // Whether none of the first n sides is on the boundary.
 fn none_on_boundary(links: &[u32], n: usize) -> bool
     requires { ⌜ n ≤ length (now links) ⌝ }

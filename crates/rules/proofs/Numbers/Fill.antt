@@ -1,13 +1,14 @@
 -- Lists whose first n entries are written from a function, read back.
 use mathlib.Core.Path.{_≡_, refl, _∙_}
 use mathlib.Core.List.{List}
-use Prim.Native.Nat.{ℕ, zero, suc, _+_, _≤_, _<_}
+use Prim.Native.Nat.{ℕ, zero, suc, _+_, _*_, _≤_, _<_}
 use native.Mathlib.Numerals.{add-one}
 use native.Mathlib.Omega.{arith}
 use native.Mathlib.Decide.{ℕ-discrete}
 use lib.ListN.{length, getD, set, drop, length-set}
 use lib.Seq.{getD-set-same, getD-set-other, drop-set-lt}
 use Rattle.rules.specs.Below.{fill}
+use Rattle.rules.specs.Tables.{putThree}
 
 module _ {A : Type 0} where
   pub length-fill : (n : ℕ) (f : ℕ → A) (l : List A) → length (fill n f l) ≡ length l
@@ -41,3 +42,14 @@ module _ {A : Type 0} where
   unfolding fill
   fill-same zero f g l e = refl
   fill-same (suc n) f g l e = rw (fill-same n f g l (λ h i. e h (omega arith)), e n (omega arith))
+
+  -- Three entries more.
+  pub fill-three : (v : ℕ) (f : ℕ → A) (l : List A)
+      → fill (3 * (v + 1)) f l ≡ putThree v (f (3 * v + 0), f (3 * v + 1), f (3 * v + 2)) (fill (3 * v) f l)
+  unfolding fill
+  fill-three v f l =
+      let e : 3 * (v + 1) ≡ suc (suc (suc (3 * v))) = omega arith in
+      let a : 3 * v + 0 ≡ 3 * v = omega arith in
+      let b : 3 * v + 1 ≡ suc (3 * v) = omega arith in
+      let c : 3 * v + 2 ≡ suc (suc (3 * v)) = omega arith in
+      rw (e, a, b, c) refl

@@ -1,17 +1,18 @@
--- The refusal of a whole step on a sound mesh by its tests, and what the call makes of it.
+-- The refusals of a whole step and of limit positions on a sound mesh by their tests, and what the calls make of them.
 use mathlib.Core.Path.{_≡_, refl}
 use mathlib.Core.Logic.{_≢_}
 use mathlib.Core.Bool.{Bool, true, not}
-use mathlib.Core.List.{[], _∷_}
-use Prim.Native.Nat.{ℕ}
+use mathlib.Core.List.{List, [], _∷_}
+use Prim.Native.Nat.{ℕ, _*_}
 use lib.Dec.{eqb, ltb}
+use lib.IntN.{ℤ}
 use lib.ListN.{length}
 use Rattle.rules.proofs.Numbers.Decide.{is-true, is-same}
 use Rattle.rules.proofs.Calls.FirstThatHolds.{refuses, carries}
 use Rattle.rules.proofs.Soundness.SoundTest.{tables-agree-is, sound-is}
 use Rattle.rules.specs.Below.{any}
 use Rattle.rules.specs.Calls.{noRoom, refusedWith, worked, roomFor, closedEven, wholeStepRefusal, wholeStepCall}
-use Rattle.rules.specs.Calls.{_if_, firstOf}
+use Rattle.rules.specs.Calls.{_if_, firstOf, tableRoom, limitRefusal, limitRead, limitCall}
 use Rattle.rules.specs.Ring.{ring}
 use Rattle.rules.specs.Sound.{Sound, isSound}
 use Rattle.rules.specs.Step.{wholeStep}
@@ -21,15 +22,19 @@ use Rattle.rules.specs.Tables.{Mesh, tablesAgree, generation}
 abbrev pub longRing : Mesh → Bool
 longRing m = any (m .topology .vertices) (λ v. ltb 12 (length (ring (m .topology) v)))
 
+agrees : {m : Mesh} → Sound m → tablesAgree m ≡ true
+agrees {m} S = is-same (tables-agree-is m) (is-true (S .tables))
+
+tests-sound : {m : Mesh} → Sound m → isSound m ≡ true
+tests-sound {m} S = is-same (sound-is m) (is-true S)
+
 -- The refusal of a sound mesh by the answers of the later tests. A test that was not made stands for itself.
 pub step-by-tests : {m : Mesh} {c g r s : Bool} → Sound m → closedEven (m .topology) ≡ c
     → eqb (generation (m .topology) 0) 20 ≡ g → longRing m ≡ r → roomFor (m .topology .triangles) m ≡ s
     → firstOf (12 if not c ∷ 9 if g ∷ 13 if r ∷ 11 if not s ∷ []) ≡ wholeStepRefusal m
 unfolding wholeStepRefusal
 step-by-tests {m} S c g r s =
-    let agree : tablesAgree m ≡ true = is-same (tables-agree-is m) (is-true (S .tables)) in
-    let sound : isSound m ≡ true = is-same (sound-is m) (is-true S) in
-    rw (wholeStepRefusal, agree, sound, c, g, r, s)
+    rw (wholeStepRefusal, agrees S, tests-sound S, c, g, r, s)
 
 pub step-refused : (m : Mesh) (n : ℕ) → n ≡ wholeStepRefusal m → n ≢ 0
     → refusedWith n m noRoom ≡ wholeStepCall m
@@ -39,3 +44,20 @@ step-refused m n e = refuses m noRoom (worked (wholeStep m)) (wholeStepRefusal m
 pub step-carried : (m : Mesh) → 0 ≡ wholeStepRefusal m → worked (wholeStep m) ≡ wholeStepCall m
 unfolding wholeStepCall
 step-carried m e = carries m noRoom (worked (wholeStep m)) (wholeStepRefusal m) 0 e refl
+
+-- ---- limit positions
+
+pub limit-by-tests : (table : List ℤ) {m : Mesh} {c r s : Bool} → Sound m → closedEven (m .topology) ≡ c → longRing m ≡ r
+    → eqb (length table) (3 * m .topology .vertices) ≡ s
+    → firstOf (12 if not c ∷ 13 if r ∷ 15 if not s ∷ []) ≡ limitRefusal table m
+unfolding limitRefusal
+limit-by-tests table S c r s = rw (limitRefusal, agrees S, tests-sound S, c, r, s)
+
+pub limit-refused : (table : List ℤ) (m : Mesh) (n : ℕ) → n ≡ limitRefusal table m → n ≢ 0
+    → refusedWith n m (tableRoom table) ≡ limitCall table m
+unfolding limitCall
+limit-refused table m n e = refuses m (tableRoom table) (limitRead table m) (limitRefusal table m) n e
+
+pub limit-carried : (table : List ℤ) (m : Mesh) → 0 ≡ limitRefusal table m → limitRead table m ≡ limitCall table m
+unfolding limitCall
+limit-carried table m e = carries m (tableRoom table) (limitRead table m) (limitRefusal table m) 0 e refl

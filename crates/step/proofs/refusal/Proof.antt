@@ -1,31 +1,19 @@
 -- `step::refusal` meets its contract.
 use borrow.Author.Needs.{needs}
 use borrow.Author.Tests.{eq-eqb, ne-eqb, not-true, not-false}
-use Prim.Native.Nat.{ℕ}
 use native.Mathlib.Omega.{arith}
-use mathlib.Core.Bool.{true, false, not, Bool}
-use mathlib.Core.List.{List}
+use mathlib.Core.Bool.{true, false, not}
 use mathlib.Core.Path.{_≡_, refl, sym, _∙_}
 use lib.Dec.{eqb}
-use lib.IntN.{ℤ}
-use Rattle.rules.proofs.Calls.CallRefusals.{closed-even-is, long-ring-is}
-use Rattle.rules.proofs.Numbers.Decide.{is-true, is-false, is-same, when-true}
 use Rattle.rules.proofs.Steps.StepRefusals.{longRing, step-by-tests}
 use Rattle.rules.specs.Calls.{closedEven, roomFor}
 use Rattle.rules.specs.Sound.{Sound}
 use Rattle.rules.specs.Tables.{Mesh, generation}
 use Rattle.tables.specs.Lent.{meshNow}
-use Rattle.rings.specs.Sums.{Closed, RingsAdded}
+use Rattle.rings.specs.Sums.{Closed}
+use Rattle.step.proofs.Deciding.{closed-of, rings-tell}
 use Rattle.step.proofs.refusal.Statement.{statement}
 use Rattle.step.proofs.refusal.Tie as tie
-
--- The answer of the ring sums tells whether a ring is too long.
-rings-tell : {m : Mesh} {lengths : List ℕ} {sums : List ℤ} (r : Bool) → RingsAdded m lengths sums r
-    → not r ≡ longRing m
-rings-tell {m} true A =
-    let S = A .whole refl in
-    is-same (is-false (λ (v, b, l). omega (arith, S .long v b, S .few v b))) (long-ring-is (m .topology))
-rings-tell {m} false A = is-same (is-true (A .crowded refl)) (long-ring-is (m .topology))
 
 abbrev mesh : tie.Start → Mesh
 mesh c =
@@ -44,10 +32,7 @@ module _ (c : tie.Else1) where
   even = sym (c .before .closed-even .ensures _ _) ∙ not-false _ (c .if1 .left)
 
   closed : Closed (mesh start)
-  closed = record {
-    sound = sound;
-    inner = when-true (closed-even-is (mesh start .topology) (sound .someTriangle)) even .closed;
-  }
+  closed = closed-of sound even
 
 -- Its generation is below 20.
 young : (c : tie.Else2) → eqb (generation (mesh (start (c .before .before)) .topology) 0) 20 ≡ false
