@@ -1,13 +1,14 @@
 # test     the gate
 # run      the program refine on its tetrahedron
 # lib      target/staticlib/librawplinth.a, for C and Rust to link (include/)
-# example  the example in C, built with the library and run
+# example  the examples in C, built with the library and run
 # twin     the library and the program beside the second implementation (needs cargo)
 # soak     the same for SECONDS=N of random rounds, from SEED=N
 # bench    the calls measured, as the table of docs/BENCHMARKS.md (needs cargo, and valgrind to count instructions)
 RT := $(shell command -v rt || echo /opt/rattle/bin/rt)
 SECONDS := 600
 SEED := 1
+CFLAGS = -std=c99 -Wall -Wextra -Wpedantic -Werror -Iinclude
 CARGO = RAWPLINTH_LIB='$(CURDIR)/target/staticlib' cargo
 TWIN = --release --quiet --manifest-path twin/Cargo.toml --target-dir target/twin
 
@@ -20,8 +21,9 @@ run:
 lib:
 	@$(RT) staticlib rawplinth >/dev/null
 example: lib
-	@$(CC) -std=c99 -Wall -Wextra -Wpedantic -Werror -Iinclude example/tetrahedron.c target/staticlib/librawplinth.a -o target/tetrahedron
-	@target/tetrahedron
+	@for name in tetrahedron octahedron; do \
+	    $(CC) $(CFLAGS) example/$$name.c target/staticlib/librawplinth.a -o target/$$name && target/$$name || exit 1; \
+	done
 twin: lib
 	@$(RT) check refine >/dev/null
 	$(CARGO) test $(TWIN)

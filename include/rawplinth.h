@@ -13,7 +13,7 @@ extern "C" {
 #endif
 
 /* Raised by every change of a signature, a struct or an answer; docs/changes/README.md has a line for each. */
-#define RAWPLINTH_VERSION 1
+#define RAWPLINTH_VERSION 2
 
 /* What a side without a partner links to. */
 #define RAWPLINTH_BOUNDARY UINT32_C(4294967295)
@@ -45,7 +45,8 @@ enum {
     RAWPLINTH_NO_SLOTS = 11,       /* too few slots for the splits that are needed */
     RAWPLINTH_NOT_UNIFORM = 12,    /* a boundary, or triangles not all of one even generation */
     RAWPLINTH_RING_LONG = 13,      /* a ring of more than 12 entries */
-    RAWPLINTH_BUFFER_SHORT = 14    /* a buffer shorter than the ring */
+    RAWPLINTH_BUFFER_SHORT = 14,   /* a buffer shorter than the ring */
+    RAWPLINTH_TABLE_LENGTH = 15    /* a table that has not exactly three entries for each vertex in use */
 };
 
 /* The answer of load, refine and whole step. */
@@ -69,6 +70,12 @@ typedef struct {
     int32_t x, y, z;
     rawplinth_counts counts;
 } rawplinth_position_read;
+
+/* The answer of limit. */
+typedef struct {
+    uint32_t refusal;
+    rawplinth_counts counts;
+} rawplinth_limit_read;
 
 /* Every call is lent the same four tables, each a pointer and its number of entries:
 
@@ -139,6 +146,18 @@ rawplinth_position_read rawplinth_position(
     const uint8_t *generations, size_t generations_length,
     rawplinth_counts counts,
     uint32_t vertex);
+
+/* Reads the limit positions of a closed mesh of one even generation: where ever more whole steps would take its
+   vertices, three coordinates a vertex, each to the nearest, half going up. The table has 3 entries for each vertex in
+   use, neither fewer nor more, and is none of the mesh's own.
+   Refuses with 1, 7, 12, 13, 15, in this order. Writes the table, and nothing else. */
+rawplinth_limit_read rawplinth_limit(
+    const int32_t *positions, size_t positions_length,
+    const uint32_t *corners, size_t corners_length,
+    const uint32_t *links, size_t links_length,
+    const uint8_t *generations, size_t generations_length,
+    rawplinth_counts counts,
+    int32_t *table, size_t table_length);
 
 #ifdef __cplusplus
 }

@@ -3,7 +3,7 @@
 
 /// Raised with that of the header. A program may go without it.
 #[allow(dead_code)]
-pub const RAWPLINTH_VERSION: u32 = 1;
+pub const RAWPLINTH_VERSION: u32 = 2;
 
 /// The vertices and triangles in use.
 #[repr(C)]
@@ -40,6 +40,14 @@ pub struct PositionRead {
     pub x: i32,
     pub y: i32,
     pub z: i32,
+    pub counts: Counts,
+}
+
+/// The answer of a limit query, without the table.
+#[repr(C)]
+#[derive(Clone, Copy, Debug, Default, PartialEq, Eq)]
+pub struct LimitRead {
+    pub refusal: u32,
     pub counts: Counts,
 }
 
@@ -110,4 +118,18 @@ unsafe extern "C" {
         counts: Counts,
         vertex: u32,
     ) -> PositionRead;
+
+    pub fn rawplinth_limit(
+        positions: *const i32,
+        positions_length: usize,
+        corners: *const u32,
+        corners_length: usize,
+        links: *const u32,
+        links_length: usize,
+        generations: *const u8,
+        generations_length: usize,
+        counts: Counts,
+        table: *mut i32,
+        table_length: usize,
+    ) -> LimitRead;
 }

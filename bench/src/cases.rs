@@ -7,6 +7,9 @@ use crate::tables::{Answer, Call, Lent};
 /// The refine that makes the most splits.
 pub const LONGEST: &str = "refine, chain of 10";
 
+const NAMES: [&str; 9] =
+    ["load", "soundness", "refine even", "refine odd", LONGEST, "whole step", "ring", "position", "limit"];
+
 pub struct Case {
     pub name: &'static str,
     pub triangles: usize,
@@ -27,7 +30,7 @@ pub fn all() -> Vec<Case> {
     let spheres = [10, 57].map(cages::sphere);
     let step_spheres = [10, 33].map(cages::sphere);
     let mut list = Vec::new();
-    for name in ["load", "soundness", "refine even", "refine odd", LONGEST, "whole step", "ring", "position"] {
+    for name in NAMES {
         let spheres = if name == "whole step" { &step_spheres } else { &spheres };
         for cage in [cages::tetrahedron()].iter().chain(spheres) {
             list.push(case(name, cage, false));
@@ -41,6 +44,9 @@ pub fn all() -> Vec<Case> {
 fn case(name: &'static str, cage: &Cage, shuffled: bool) -> Case {
     let mut lent = cage.lent();
     set_up(&mut lent, Call::Load);
+    if name == "limit" {
+        lent.table = vec![0; 3 * lent.counts.vertices as usize];
+    }
     if name == "load" {
         // A load has to write these anew, while the counts tell the scan what is read.
         lent.tables.positions.fill(-1);
@@ -62,6 +68,7 @@ fn case(name: &'static str, cage: &Cage, shuffled: bool) -> Case {
         "whole step" => Call::WholeStep,
         "ring" => Call::Ring(vertex),
         "position" => Call::Position(vertex),
+        "limit" => Call::Limit,
         _ => Call::Refine(triangle),
     };
     Case { name, triangles: cage.triangles(), shuffled, lent, call }

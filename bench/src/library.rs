@@ -1,6 +1,6 @@
 //! The library's calls, through its C interface.
 
-use crate::rawplinth::{rawplinth_load, rawplinth_position, rawplinth_refine, rawplinth_ring, rawplinth_whole_step};
+use crate::rawplinth::*;
 use crate::tables::{Answer, Call, Lent};
 
 /// A call of the function named, with the four tables as pointers and lengths, then the counts, then what follows.
@@ -34,5 +34,6 @@ pub fn answer(lent: &mut Lent, call: Call) -> Answer {
             Answer::Ring(call!(rawplinth_ring, lent, vertex, lent.buffer.as_mut_ptr(), lent.buffer.len()))
         }
         Call::Position(vertex) => Answer::Position(call!(rawplinth_position, lent, vertex)),
+        Call::Limit => Answer::Limit(call!(rawplinth_limit, lent, lent.table.as_mut_ptr(), lent.table.len())),
     }
 }

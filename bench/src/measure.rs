@@ -42,7 +42,7 @@ fn run(case: &Case, subject: Subject, lent: &mut Lent) {
 }
 
 /// Fails unless library and fast implementation agree on a case: answer, tables with the slots past the counts, and
-/// buffer. Fails, too, if the case is not what its name says.
+/// what else is lent. Fails, too, if the case is not what its name says.
 pub fn compare(case: &Case) {
     let (mut ours, mut theirs) = (case.lent.clone(), case.lent.clone());
     let (answer, other) = (library::answer(&mut ours, case.call), fast::answer(&mut theirs, case.call));
@@ -52,6 +52,7 @@ pub fn compare(case: &Case) {
         Answer::Worked(worked) => (worked.refusal, worked.splits as usize),
         Answer::Ring(read) => (read.refusal, 0),
         Answer::Position(read) => (read.refusal, 0),
+        Answer::Limit(read) => (read.refusal, 0),
     };
     let expected = match case.name {
         "soundness" => (8, 0),

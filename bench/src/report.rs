@@ -12,8 +12,12 @@ const EXPERT: [(&str, usize, u64); 4] = [
 ];
 /// How many times the expert's instructions a call may take.
 const MOST_TIMES: f64 = 1.5;
-/// How many instructions beyond those of soundness a refine, a ring or a position may take.
-const MOST_BEYOND: i64 = 3_000;
+/// How many instructions beyond those of soundness a refine, a ring or a position may take, and limit positions for each
+/// triangle.
+const MOST_BEYOND: u64 = 3_000;
+const MOST_FOR_EACH: u64 = 150;
+/// How many instructions the limit positions of a tetrahedron may take, with soundness.
+const MOST_OF_SMALL: u64 = 3_500;
 
 const HEADS: [&str; 13] = [
     "call",
@@ -42,16 +46,16 @@ pub fn print(cases: &[Case], counts: Option<&[Counted]>, times: &[Timed]) {
         let counted = counted.join(" | ");
         println!("| {} | {triangles} | {order} | {counted} | {library} | {fast} | {scan} |", case.name);
     }
-    println!("\nA figure above its limit is bold.");
+    println!("\nA figure above its bound is bold.");
 }
 
 fn count_columns(case: &Case, [library, soundness, fast, scan]: Counted) -> [String; 7] {
     let expert = expert(case);
     let ratio = expert.map(|expert| library as f64 / expert as f64);
-    let beyond = limited_beyond_soundness(case).then_some(library as i64 - soundness as i64);
+    let beyond = library.saturating_sub(soundness);
     [
         thousands(library),
-        beyond.map_or(String::new(), |beyond| bold_if(beyond > MOST_BEYOND, beyond.to_string())),
+        most_beyond(case, soundness).map_or(String::new(), |most| bold_if(beyond > most, thousands(beyond))),
         expert.map_or(String::new(), thousands),
         ratio.map_or(String::new(), |ratio| bold_if(ratio > MOST_TIMES, format!("{ratio:.2}"))),
         thousands(fast),
@@ -66,9 +70,14 @@ fn expert(case: &Case) -> Option<u64> {
     (!case.shuffled).then_some(*count)
 }
 
-/// Whether a call's limit is stated by what it takes beyond soundness on the same tables.
-fn limited_beyond_soundness(case: &Case) -> bool {
-    case.name.starts_with("refine") || ["ring", "position"].contains(&case.name)
+/// What a call may take beyond soundness on the same tables, where its bound is stated by this.
+fn most_beyond(case: &Case, soundness: u64) -> Option<u64> {
+    match case.name {
+        "limit" if case.triangles == 4 => Some(MOST_OF_SMALL.saturating_sub(soundness)),
+        "limit" => Some(MOST_FOR_EACH * case.triangles as u64),
+        "ring" | "position" => Some(MOST_BEYOND),
+        name => name.starts_with("refine").then_some(MOST_BEYOND),
+    }
 }
 
 fn bold_if(condition: bool, text: String) -> String {

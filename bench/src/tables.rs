@@ -1,6 +1,6 @@
 //! What a call is lent and what it answers.
 
-pub use crate::rawplinth::{Counts, PositionRead, RingRead, Worked};
+pub use crate::rawplinth::{Counts, LimitRead, PositionRead, RingRead, Worked};
 
 /// The link of a boundary side.
 pub const BOUNDARY: u32 = u32::MAX;
@@ -23,7 +23,10 @@ pub struct Lent {
     pub tables: Tables,
     pub counts: Counts,
     pub cage: Vec<u8>,
+    /// The buffer of a ring query.
     pub buffer: Vec<u32>,
+    /// The table of a limit query.
+    pub table: Vec<i32>,
 }
 
 /// A call with the number it is given.
@@ -34,6 +37,7 @@ pub enum Call {
     WholeStep,
     Ring(u32),
     Position(u32),
+    Limit,
 }
 
 #[derive(Clone, Copy, Debug, PartialEq)]
@@ -41,6 +45,7 @@ pub enum Answer {
     Worked(Worked),
     Ring(RingRead),
     Position(PositionRead),
+    Limit(LimitRead),
 }
 
 impl Lent {
@@ -54,7 +59,7 @@ impl Lent {
             links: vec![0; 3 * triangle_slots],
             generations: vec![0; triangle_slots],
         };
-        Lent { tables, counts: Counts::default(), cage, buffer: vec![0; 16] }
+        Lent { tables, counts: Counts::default(), cage, buffer: vec![0; 16], table: Vec::new() }
     }
 }
 

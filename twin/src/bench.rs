@@ -74,6 +74,7 @@ impl<'a> Bench<'a> {
     fn first_difference(&self, one: &Store, other: &Store) -> Option<String> {
         self.first_in_tables(&one.tables, &other.tables)
             .or_else(|| self.first_entry("ring buffers", &one.room.ring, &other.room.ring))
+            .or_else(|| self.first_entry("limit tables", &one.room.table, &other.room.table))
     }
 
     fn first_in_tables(&self, one: &Tables, other: &Tables) -> Option<String> {

@@ -5,6 +5,10 @@ use std::collections::HashSet;
 use crate::rng::Rng;
 use crate::tables::FARTHEST;
 
+/// 65536 + 3w for rings of 2, 4, 6, 8, 10 and 12 entries. Limit positions of a mesh at multiples of it often lie
+/// half-way between whole numbers; those of odd rings never do.
+const LIMIT_DENOMINATORS: [i32; 6] = [196_609, 152_917, 131_071, 122_023, 117_571, 115_081];
+
 #[derive(Clone, Debug, PartialEq, Eq)]
 pub struct Cage {
     pub points: Vec<[i32; 3]>,
@@ -60,16 +64,18 @@ impl Cage {
     }
 
     /// The same figure with all vertices thrown anew: small, anywhere, at the limits, near them, or where halves
-    /// are frequent.
+    /// are frequent, in a whole step or in limit positions.
     pub fn scattered(mut self, rng: &mut Rng) -> Cage {
-        let style = rng.below(5);
+        let style = rng.below(6);
+        let denominator = rng.pick(&LIMIT_DENOMINATORS);
         for coordinate in self.points.iter_mut().flatten() {
             *coordinate = match style {
                 0 => rng.between(-10, 10),
                 1 => rng.between(-FARTHEST, FARTHEST),
                 2 => rng.pick(&[-FARTHEST, FARTHEST]),
                 3 => rng.pick(&[-1, 1]) * (FARTHEST - rng.between(0, 3)),
-                _ => 32_768 * rng.between(-512, 512),
+                4 => 32_768 * rng.between(-512, 512),
+                _ => denominator * rng.between(-85, 85),
             };
         }
         self

@@ -11,18 +11,20 @@ pub const WRAPPING: u32 = 0x5555_5556;
 /// One call of any kind but load, for which the store gets room.
 pub fn random_call(store: &mut Store, rng: &mut Rng) -> Call {
     match rng.below(100) {
-        0..60 => Call::Refine { triangle: some_triangle(store, rng) },
-        60..68 => Call::WholeStep,
-        68..86 => ring(store, rng),
+        0..56 => Call::Refine { triangle: some_triangle(store, rng) },
+        56..64 => Call::WholeStep,
+        64..72 => limit(store, rng),
+        72..88 => ring(store, rng),
         _ => Call::Position { vertex: some_number(store.counts.vertices, rng) },
     }
 }
 
 /// One call of each kind but load, for which the store gets room.
-pub fn one_of_each(store: &mut Store, rng: &mut Rng) -> [Call; 4] {
+pub fn one_of_each(store: &mut Store, rng: &mut Rng) -> [Call; 5] {
     [
         Call::Refine { triangle: some_triangle(store, rng) },
         Call::WholeStep,
+        limit(store, rng),
         ring(store, rng),
         Call::Position { vertex: some_number(store.counts.vertices, rng) },
     ]
@@ -42,6 +44,30 @@ fn ring(store: &mut Store, rng: &mut Rng) -> Call {
     let length = rng.pick(&[0, 1, 2, 3, 4, 5, 6, 7, 8, 12, 20, 60]);
     store.room.ring = (0..length).map(|_| rng.word()).collect();
     Call::Ring { vertex: some_number(store.counts.vertices, rng) }
+}
+
+/// The lengths of a limit query's table that are tried: none, one short, the length wanted, one over and a vertex
+/// over.
+fn table_lengths(store: &Store) -> [usize; 5] {
+    let wanted = 3 * store.vertices();
+    [0, wanted.saturating_sub(1), wanted, wanted + 1, wanted + 3]
+}
+
+/// A limit query with a table of any content, half of the time of the length wanted.
+fn limit(store: &mut Store, rng: &mut Rng) -> Call {
+    let lengths = table_lengths(store);
+    let length = if rng.percent(50) { lengths[2] } else { rng.pick(&lengths) };
+    store.room.table = (0..length).map(|_| rng.word() as i32).collect();
+    Call::Limit
+}
+
+/// Limit queries with tables of all the lengths tried.
+pub fn compare_limits(bench: &mut Bench, store: &mut Store, rng: &mut Rng) -> Outcome {
+    for length in table_lengths(store) {
+        store.room.table = vec![rng.word() as i32; length];
+        bench.compare_only(store, &Call::Limit)?;
+    }
+    Ok(())
 }
 
 /// A number mostly below the count, else at it, past it or far off.

@@ -22,12 +22,14 @@ impl Display for Case {
         writeln!(out, "generations{}", numbers(&tables.generations))?;
         writeln!(out, "counts {} {}", counts.vertices, counts.triangles)?;
         writeln!(out, "ring-buffer{}", numbers(&room.ring))?;
+        writeln!(out, "limit-table{}", numbers(&room.table))?;
         match &self.call {
             Call::Load { cage } => writeln!(out, "load{}", numbers(cage)),
             Call::Refine { triangle } => writeln!(out, "refine {triangle}"),
             Call::WholeStep => writeln!(out, "whole-step"),
             Call::Ring { vertex } => writeln!(out, "ring {vertex}"),
             Call::Position { vertex } => writeln!(out, "position {vertex}"),
+            Call::Limit => writeln!(out, "limit"),
         }
     }
 }
@@ -76,7 +78,7 @@ impl FromStr for Case {
         let [vertices, triangles] = counts[..] else {
             return Err("counts are two numbers".to_string());
         };
-        let room = Room { ring: parsed(line("ring-buffer")?)? };
+        let room = Room { ring: parsed(line("ring-buffer")?)?, table: parsed(line("limit-table")?)? };
         let call = parsed_call(lines.last().expect("there are lines"))?;
         Ok(Case { store: Store { tables, counts: Counts { vertices, triangles }, room }, call })
     }
@@ -90,6 +92,7 @@ fn parsed_call(words: &[&str]) -> Result<Call, String> {
         "whole-step" => Ok(Call::WholeStep),
         "ring" => Ok(Call::Ring { vertex: first(parsed(&words[1..])?)? }),
         "position" => Ok(Call::Position { vertex: first(parsed(&words[1..])?)? }),
+        "limit" => Ok(Call::Limit),
         other => Err(format!("no call `{other}`")),
     }
 }

@@ -1,5 +1,5 @@
-//! What a run has met: each refusal of each call, each kind of linked pair, each chain length, each ring of a whole
-//! step.
+//! What a run has met: each refusal of each call, each kind of linked pair, each chain length, each ring length of a
+//! whole step and of a limit query.
 
 use std::collections::{BTreeMap, BTreeSet};
 use std::fmt::{self, Display};
@@ -15,6 +15,7 @@ const CALLS: &[(&str, &[u32])] = &[
     ("whole step", &[0, 1, 7, 9, 11, 12, 13]),
     ("ring", &[0, 1, 7, 8, 14]),
     ("position", &[0, 1, 7, 8]),
+    ("limit", &[0, 1, 7, 12, 13, 15]),
 ];
 
 #[derive(Default)]
@@ -30,6 +31,8 @@ pub struct Coverage {
     entered: [u64; 3],
     /// Rings of whole steps carried out, by their length.
     rings: [u64; 13],
+    /// Rings of limit queries carried out, by their length.
+    limit_rings: [u64; 13],
 }
 
 /// The place of a call in the list.
@@ -40,6 +43,7 @@ fn row(call: &Call) -> usize {
         Call::WholeStep => 2,
         Call::Ring { .. } => 3,
         Call::Position { .. } => 4,
+        Call::Limit => 5,
     }
 }
 
@@ -48,6 +52,15 @@ fn count(met: &mut [u64], index: usize) {
     if let Some(met) = met.get_mut(index) {
         *met += 1;
     }
+}
+
+/// In a mesh without boundary a ring is as long as its vertex has triangles.
+fn note_rings(met: &mut [u64], before: &Store) {
+    let mut lengths = vec![0; before.counts.vertices as usize];
+    for &corner in &before.tables.corners[..3 * before.counts.triangles as usize] {
+        lengths[corner as usize] += 1;
+    }
+    lengths.into_iter().for_each(|length| count(met, length));
 }
 
 impl Coverage {
@@ -59,7 +72,8 @@ impl Coverage {
             (&Call::Refine { triangle }, 10) => {
                 count(&mut self.boundary_chains, read_chain(&before.tables, triangle as usize).odd);
             }
-            (Call::WholeStep, 0) => self.note_rings(before),
+            (Call::WholeStep, 0) => note_rings(&mut self.rings, before),
+            (Call::Limit, 0) => note_rings(&mut self.limit_rings, before),
             _ => {}
         }
     }
@@ -76,15 +90,6 @@ impl Coverage {
                 count(&mut self.kinds, kind(end(side), end(link as usize)).unwrap_or(0));
             }
         }
-    }
-
-    /// In a mesh without boundary a ring is as long as its vertex has triangles.
-    fn note_rings(&mut self, before: &Store) {
-        let mut lengths = vec![0; before.counts.vertices as usize];
-        for &corner in &before.tables.corners[..3 * before.counts.triangles as usize] {
-            lengths[corner as usize] += 1;
-        }
-        lengths.into_iter().for_each(|length| count(&mut self.rings, length));
     }
 
     /// The refusals that can occur or were met.
@@ -115,6 +120,7 @@ impl Coverage {
         expect("chain ending at the boundary, length", &self.boundary_chains, 1);
         expect("chain entering by side", &self.entered, 1);
         expect("ring in a whole step, length", &self.rings, 2);
+        expect("ring in a limit query, length", &self.limit_rings, 2);
         gaps
     }
 }
@@ -143,6 +149,7 @@ impl Display for Coverage {
         list("base chains carried out", &self.chains, 0)?;
         list("base chains ending at the boundary", &self.boundary_chains, 1)?;
         list("sides by which chains enter odd triangles", &self.entered, 1)?;
-        list("rings in whole steps", &self.rings, 2)
+        list("rings in whole steps", &self.rings, 2)?;
+        list("rings in limit queries", &self.limit_rings, 2)
     }
 }

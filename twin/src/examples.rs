@@ -1,10 +1,10 @@
-//! The examples of document 01 and of the readings: each a store, a call, and the refusal that the papers give for
+//! The examples of the papers and of the readings: each a store, a call, and the refusal that the papers give for
 //! it.
 
 use crate::bench::{Bench, Outcome, difference};
 use crate::cages::{self, Cage};
 use crate::damage::refined;
-use crate::handmade::chain;
+use crate::handmade::{chain, foil};
 use crate::rng::Rng;
 use crate::tables::{Call, FARTHEST, LAST_GENERATION, Store};
 
@@ -32,14 +32,20 @@ fn ring(refusal: u32, mut store: Store, vertex: u32, entries: u32) -> Example {
     example(refusal, store, Call::Ring { vertex })
 }
 
+/// A limit query with a table of so many entries.
+fn limit(refusal: u32, mut store: Store, entries: usize) -> Example {
+    store.room.table = vec![-7; entries];
+    example(refusal, store, Call::Limit)
+}
+
 /// A loaded cage whose generations are all raised to the same even one.
-fn at_generation(cage: &Cage, generation: u8, spare: usize, rng: &mut Rng) -> Store {
+pub fn at_generation(cage: &Cage, generation: u8, spare: usize, rng: &mut Rng) -> Store {
     let mut store = refined(cage, &[], spare, rng);
     store.tables.generations[..cage.triangles.len()].fill(generation);
     store
 }
 
-/// The example column of the table of refused inputs, in its order.
+/// The example column of the table of refused inputs, in its order, and one for each number that a request adds.
 pub fn refusals(rng: &mut Rng) -> Vec<Example> {
     let tetrahedron = cages::tetrahedron();
     let roomy = Store::junk(20, 40, rng);
@@ -68,6 +74,7 @@ pub fn refusals(rng: &mut Rng) -> Vec<Example> {
         example(12, refined(&tetrahedron, &[0], 50, rng), Call::WholeStep),
         example(13, refined(&cages::double_pyramid(13), &[], 50, rng), Call::WholeStep),
         ring(14, refined(&tetrahedron, &[], 0, rng), 0, 2),
+        limit(15, refined(&tetrahedron, &[], 0, rng), 11),
     ]
 }
 
@@ -105,6 +112,17 @@ pub fn orders(rng: &mut Rng) -> Vec<Example> {
         // Halves: 18204.5 goes to 18205 and −18204.5 to −18204.
         example(0, refined(&halves(98_304), &[], 4, rng), Call::WholeStep),
         example(0, refined(&halves(-98_304), &[], 4, rng), Call::WholeStep),
+        // A limit query takes a table of exactly three entries a vertex, and the last generation.
+        limit(15, refined(&tetrahedron, &[], 3, rng), 13),
+        limit(15, refined(&tetrahedron, &[], 3, rng), 21),
+        limit(13, refined(&pyramid, &[], 0, rng), 0),
+        limit(12, refined(&cages::disc(14), &[], 0, rng), 0),
+        limit(7, Store::fresh(20, 40), 0),
+        limit(0, at_generation(&tetrahedron, LAST_GENERATION, 0, rng), 12),
+        limit(0, foil(LAST_GENERATION).store(0, 0, rng), 9),
+        // Halves: 43690.5 goes to 43691 and −43690.5 to −43690.
+        limit(0, refined(&OCTAHEDRON.cage(false), &[], 0, rng), 18),
+        limit(0, refined(&OCTAHEDRON.cage(true), &[], 0, rng), 18),
     ]
 }
 
@@ -112,6 +130,35 @@ pub fn orders(rng: &mut Rng) -> Vec<Example> {
 pub fn halves(x: i32) -> Cage {
     let points = vec![[0, 0, 0], [x, 0, 0], [0, 0, 0], [0, 0, 0]];
     Cage { points, ..cages::tetrahedron() }
+}
+
+/// A ring of so many entries at the origin, save one at x: the limit of a vertex there lies half-way between two
+/// whole numbers.
+pub struct Halfway {
+    pub entries: u32,
+    pub x: i32,
+}
+
+/// For four entries, on the octahedron.
+const OCTAHEDRON: Halfway = Halfway { entries: 4, x: 305_834 };
+
+/// One for each even number of entries; with odd ones there is no half.
+pub const HALFWAY: [Halfway; 6] = [
+    Halfway { entries: 2, x: 196_609 },
+    OCTAHEDRON,
+    Halfway { entries: 6, x: 131_071 },
+    Halfway { entries: 8, x: 488_092 },
+    Halfway { entries: 10, x: 117_571 },
+    Halfway { entries: 12, x: 230_162 },
+];
+
+impl Halfway {
+    /// A cage with such a ring, or its mirror image.
+    pub fn cage(&self, mirrored: bool) -> Cage {
+        let mut cage = if self.entries == 2 { cages::foil() } else { cages::double_pyramid(self.entries) };
+        cage.points[2][0] = if mirrored { -self.x } else { self.x };
+        cage
+    }
 }
 
 /// The lists of requests in the papers, each with its cage.

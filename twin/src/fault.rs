@@ -44,6 +44,12 @@ faults! {
     OldGenerationKept: "a flip leaves the generation of the triangle across",
     RangeUntested: "coordinates out of range are let pass",
     RingLimitBeforeGeneration: "the whole step tests 13 before 9",
+    LimitWeightOnce: "limit gives the ring the weight w for 3w",
+    LimitOfMoved: "limit goes out from the moved vertex",
+    LimitHalvesDown: "limit rounds halves down",
+    LongerTableAccepted: "limit lets a longer table pass",
+    TableBeforeRings: "limit tests 15 before 13",
+    LimitOfLastRefused: "limit refuses generation 20 with 9",
 }
 
 impl Fault {

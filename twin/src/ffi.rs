@@ -90,15 +90,17 @@ impl LentTables {
 /// The room beside the mesh as it is lent to the library.
 struct LentRoom {
     ring: Lent<u32>,
+    table: Lent<i32>,
 }
 
 impl LentRoom {
     fn new(room: &Room) -> LentRoom {
-        LentRoom { ring: Lent::new(&room.ring, 0x5E5E_5E5E) }
+        LentRoom { ring: Lent::new(&room.ring, 0x5E5E_5E5E), table: Lent::new(&room.table, 0x5F5F_5F5F) }
     }
 
     fn give_back(&self, room: &mut Room) -> Result<(), String> {
         room.ring.copy_from_slice(self.ring.content("ring buffer")?);
+        room.table.copy_from_slice(self.table.content("limit table")?);
         Ok(())
     }
 }
@@ -118,6 +120,12 @@ impl From<RingRead> for Answer {
 impl From<PositionRead> for Answer {
     fn from(PositionRead { refusal, x, y, z, counts }: PositionRead) -> Answer {
         Answer { refusal, point: [x, y, z], counts, ..Answer::default() }
+    }
+}
+
+impl From<LimitRead> for Answer {
+    fn from(LimitRead { refusal, counts }: LimitRead) -> Answer {
+        Answer { refusal, counts, ..Answer::default() }
     }
 }
 
@@ -145,6 +153,7 @@ impl Service for Library {
                 call!(rawplinth_ring, lent, counts, *vertex, room.ring.pointer(), room.ring.length).into()
             }
             Call::Position { vertex } => call!(rawplinth_position, lent, counts, *vertex).into(),
+            Call::Limit => call!(rawplinth_limit, lent, counts, room.table.pointer(), room.table.length).into(),
         };
         lent.give_back(&mut store.tables)?;
         room.give_back(&mut store.room)?;

@@ -115,6 +115,15 @@ pub fn chain(odd: usize, even_end: bool, lowest: u8, more: &[u8], rng: &mut Rng)
     gluing
 }
 
+/// Two triangles back to back, both of this generation.
+pub fn foil(generation: u8) -> Gluing {
+    let mut gluing = Gluing::new(vec![generation; 2]);
+    for side in 0..3 {
+        assert!(gluing.glue(side, 5 - side), "even triangles can be glued");
+    }
+    gluing
+}
+
 /// Tables of any of these forms: a chain with more glued to it, a mixture of near generations, or one even
 /// generation.
 pub fn random(rng: &mut Rng) -> Store {
@@ -179,6 +188,7 @@ pub fn histories(bench: &mut Bench, rounds: usize, rng: &mut Rng) -> Outcome {
             store = raised(&store, rng);
         }
         bench.compare_only(&store, &Call::WholeStep)?;
+        calls::compare_limits(bench, &mut store, rng)?;
         let length = 4 + rng.below(16);
         calls::compare_some(bench, &mut store, length, rng)?;
     }

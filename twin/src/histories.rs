@@ -67,7 +67,8 @@ impl History {
     }
 }
 
-/// Every shape, plain and shuffled: loaded, all rings and positions read, the whole step tried, refined at random.
+/// Every shape, plain and shuffled: loaded, all rings and positions read, limits and the whole step tried, refined at
+/// random.
 pub fn shapes(bench: &mut Bench, rng: &mut Rng) -> Outcome {
     for shape in cages::shapes() {
         for shuffle in 0..3 {
@@ -78,6 +79,7 @@ pub fn shapes(bench: &mut Bench, rng: &mut Rng) -> Outcome {
             for vertex in 0..cage.points.len() as u32 {
                 read_vertex(bench, &mut history.store, vertex, rng)?;
             }
+            calls::compare_limits(bench, &mut history.store, rng)?;
             bench.compare_only(&history.store, &Call::WholeStep)?;
             calls::compare_some(bench, &mut history.store, 40, rng)?;
             history.check(bench, rng)?;
@@ -98,7 +100,8 @@ fn read_vertex(bench: &mut Bench, store: &mut Store, vertex: u32, rng: &mut Rng)
     Ok(())
 }
 
-/// Whole steps one after another as long as there is room, with a little refining at the end.
+/// Whole steps one after another as long as there is room, the limits read before each, with a little refining at the
+/// end.
 pub fn whole_steps(bench: &mut Bench, rng: &mut Rng) -> Outcome {
     for round in 0..60 {
         let (vertices, triangles) = rng.pick(&[(80, 150), (700, 1400), (2000, 4000)]);
@@ -107,6 +110,7 @@ pub fn whole_steps(bench: &mut Bench, rng: &mut Rng) -> Outcome {
         let cage = closed[round as usize % 4].clone().shuffled(rng).scattered(rng);
         history.load(bench, cage.bytes())?;
         for _ in 0..6 {
+            calls::compare_limits(bench, &mut history.store, rng)?;
             bench.compare(&mut history.store, &Call::WholeStep)?;
         }
         calls::compare_some(bench, &mut history.store, 6, rng)?;
@@ -157,7 +161,7 @@ fn chain_lengthener(store: &Store, rng: &mut Rng) -> u32 {
     beside / 3
 }
 
-/// Random histories of all five calls, on stores with slots to spare and with none.
+/// Random histories of all calls, on stores with slots to spare and with none.
 pub fn random(bench: &mut Bench, rounds: usize, rng: &mut Rng) -> Outcome {
     for _ in 0..rounds {
         let cage = random_cage(rng);
@@ -233,6 +237,8 @@ pub fn largest(bench: &mut Bench, rng: &mut Rng) -> Outcome {
         let mut history = History::begun(32_768, 65_536, rng);
         history.load(bench, cage.shuffled(rng).scattered(rng).bytes())?;
         for _ in 0..2 {
+            history.store.room.table = vec![7; 3 * history.store.vertices()];
+            bench.compare(&mut history.store, &Call::Limit)?;
             bench.compare(&mut history.store, &Call::WholeStep)?;
             calls::compare_some(bench, &mut history.store, 4, rng)?;
         }

@@ -13,6 +13,7 @@ mod fault;
 mod ffi;
 mod handmade;
 mod histories;
+mod limits;
 mod load;
 mod malformed;
 mod mesh;

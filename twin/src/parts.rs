@@ -4,7 +4,7 @@ use std::time::Instant;
 
 use crate::bench::{Bench, Outcome};
 use crate::rng::Rng;
-use crate::{damage, examples, handmade, histories, malformed, surgery, unsound};
+use crate::{damage, examples, handmade, histories, limits, malformed, surgery, unsound};
 
 type Part = fn(&mut Bench, &mut Rng) -> Outcome;
 
@@ -26,6 +26,7 @@ const PARTS: &[(&str, Part)] = &[
     ("counts off", damage::counts),
     ("every entry damaged", damage::single_entries),
     ("damage that keeps order", |bench, rng| surgery::random_damage(bench, 8_000, rng)),
+    ("limit positions", limits::run),
     ("whole steps", histories::whole_steps),
     ("deep histories", |bench, rng| histories::deep(bench, 120, rng)),
     ("random histories", |bench, rng| histories::random(bench, 4_000, rng)),

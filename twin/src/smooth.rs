@@ -1,7 +1,7 @@
-//! The whole step: every triangle refined, every old vertex moved.
+//! The whole step: every triangle refined, every old vertex moved; and where ever more of them lead.
 
-use crate::fault::{Fault, Seeded};
-use crate::mesh::Mesh;
+use crate::fault::Fault;
+use crate::mesh::{Mesh, Side};
 use crate::split::Work;
 
 /// The weights for rings of 2 to 12 entries, out of 65536.
@@ -24,28 +24,49 @@ pub fn whole_step(mesh: &mut Mesh) -> Work {
     work
 }
 
-/// The new places of the old vertices.
+/// The new places of the old vertices: for one at p that has n ring entries of the sum s, N/D with
+/// N = n(65536−w)p + ws and D = 65536n.
 fn moved_points(mesh: &Mesh) -> Vec<[i32; 3]> {
     let mut points = mesh.points.clone();
     for (vertex, leaving) in mesh.leaving_sides().iter().enumerate() {
         let ring = mesh.ring(leaving);
+        let (n, w) = (ring.len() as i64, weight(&ring));
         let seen = mesh.fault.unless(Fault::MovedOneByOne, &mesh.points, &points);
-        points[vertex] = std::array::from_fn(|axis| {
-            let sum = ring.iter().map(|&neighbour| i64::from(seen[neighbour][axis])).sum();
-            smoothed(i64::from(mesh.points[vertex][axis]), ring.len(), sum, mesh.fault)
+        points[vertex] = [0, 1, 2].map(|axis| {
+            let numerator = n * (65536 - w) * i64::from(mesh.points[vertex][axis]) + w * sum(seen, &ring, axis);
+            nearest(numerator, 65536 * n, mesh.fault.has(Fault::HalvesDown))
         });
     }
     points
 }
 
-/// Where a vertex at p moves that has n ring entries of the sum s: N/D to the nearest, half going up, with
-/// N = n(65536−w)p + ws and D = 65536n.
-fn smoothed(p: i64, ring_length: usize, sum: i64, fault: Seeded) -> i32 {
-    let n = ring_length as i64;
-    let w = WEIGHTS[ring_length - 2];
-    let numerator = n * (65536 - w) * p + w * sum;
-    let denominator = 65536 * n;
-    // The nearest whole number is the floor of N/D + 1/2.
-    let doubled = 2 * numerator + denominator;
-    fault.unless(Fault::HalvesDown, doubled, doubled - 1).div_euclid(2 * denominator) as i32
+/// The limit positions: for each vertex, with n, p, s and w as in the whole step, (65536np + 3ws) over n(65536 + 3w),
+/// rounded as there.
+pub fn limit_points(mesh: &Mesh) -> Vec<[i32; 3]> {
+    let moved = mesh.fault.has(Fault::LimitOfMoved).then(|| moved_points(mesh));
+    let from = moved.as_ref().unwrap_or(&mesh.points);
+    let limit_of = |(vertex, leaving): (usize, &Vec<Side>)| {
+        let ring = mesh.ring(leaving);
+        let (n, w) = (ring.len() as i64, weight(&ring));
+        let share = mesh.fault.unless(Fault::LimitWeightOnce, 3 * w, w);
+        [0, 1, 2].map(|axis| {
+            let numerator = 65536 * n * i64::from(from[vertex][axis]) + share * sum(&mesh.points, &ring, axis);
+            nearest(numerator, n * (65536 + share), mesh.fault.has(Fault::LimitHalvesDown))
+        })
+    };
+    mesh.leaving_sides().iter().enumerate().map(limit_of).collect()
+}
+
+fn weight(ring: &[usize]) -> i64 {
+    WEIGHTS[ring.len() - 2]
+}
+
+/// One coordinate of a ring's entries, added up.
+fn sum(points: &[[i32; 3]], ring: &[usize], axis: usize) -> i64 {
+    ring.iter().map(|&neighbour| i64::from(points[neighbour][axis])).sum()
+}
+
+/// The nearest whole number, which is the floor of N/D + 1/2; with the fault, halves go down.
+fn nearest(numerator: i64, denominator: i64, halves_down: bool) -> i32 {
+    (2 * numerator + denominator - i64::from(halves_down)).div_euclid(2 * denominator) as i32
 }

@@ -1,4 +1,4 @@
-//! What a call is lent, the five calls and their answers.
+//! What a call is lent, the calls and their answers.
 
 pub use crate::rawplinth::Counts;
 use crate::rng::Rng;
@@ -27,6 +27,8 @@ pub struct Tables {
 pub struct Room {
     /// The buffer of a ring query.
     pub ring: Vec<u32>,
+    /// The table of a limit query.
+    pub table: Vec<i32>,
 }
 
 /// All that a caller lends: the mesh, which is tables and the counts that travel with them, and room beside it.
@@ -70,6 +72,11 @@ impl Store {
         self.tables.generations.len()
     }
 
+    /// The vertices in use, or all slots where the count lies beyond them.
+    pub fn vertices(&self) -> usize {
+        (self.counts.vertices as usize).min(self.vertex_slots())
+    }
+
     /// The triangles in use, or all slots where the count lies beyond them.
     pub fn triangles(&self) -> usize {
         (self.counts.triangles as usize).min(self.triangle_slots())
@@ -84,6 +91,7 @@ pub enum Call {
     WholeStep,
     Ring { vertex: u32 },
     Position { vertex: u32 },
+    Limit,
 }
 
 /// What a call answers, with zeros for what it does not speak of.
@@ -104,7 +112,7 @@ pub fn refuse_unless(good: bool, number: u32) -> Result<(), u32> {
     if good { Ok(()) } else { Err(number) }
 }
 
-/// A service that answers the five calls: the twin, a broken twin, or the library under test.
+/// A service that answers the calls: the twin, a broken twin, or the library under test.
 pub trait Service {
     fn name(&self) -> String;
 

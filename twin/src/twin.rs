@@ -1,16 +1,16 @@
-//! The twin: the five calls, each with its conditions in the paper's order.
+//! The twin: the calls, each with its conditions in the papers' order.
 
 use crate::fault::{Fault, Seeded};
 use crate::load::mesh_of_cage;
 use crate::mesh::Mesh;
-use crate::smooth::{LONGEST_RING, whole_step};
+use crate::smooth::{LONGEST_RING, limit_points, whole_step};
 use crate::sound::is_sound;
 use crate::tables::{
     Answer, Call, Counts, LAST_GENERATION, MOST_TRIANGLE_SLOTS, MOST_VERTEX_SLOTS, Service, Store, Tables,
     refuse_unless,
 };
 
-/// The rules of document 01, with one seeded fault or none.
+/// The rules of documents 01 and 02, with one seeded fault or none.
 pub struct Twin {
     pub fault: Seeded,
 }
@@ -32,6 +32,7 @@ impl Service for Twin {
             Call::WholeStep => self.whole_step(tables, *counts),
             Call::Ring { vertex } => self.ring(tables, *counts, *vertex as usize, &mut room.ring),
             Call::Position { vertex } => self.position(tables, *counts, *vertex as usize),
+            Call::Limit => self.limit(tables, *counts, &mut room.table),
         };
         let answer = answered.unwrap_or_else(|refusal| Answer { refusal, counts: *counts, ..Answer::default() });
         *counts = answer.counts;
@@ -90,16 +91,12 @@ impl Twin {
     fn whole_step(&self, tables: &mut Tables, counts: Counts) -> Result<Answer, u32> {
         refuse_unless(self.tables_agree(tables), 1)?;
         let mut mesh = self.sound_mesh(tables, counts)?;
-        let generation = mesh.triangles[0].generation;
-        let closed = mesh.triangles.iter().all(|triangle| triangle.links.iter().all(Option::is_some));
-        let uniform = mesh.triangles.iter().all(|triangle| triangle.generation == generation);
-        refuse_unless(closed && uniform && generation % 2 == 0, 12)?;
-        let rings_have_weights = mesh.leaving_sides().iter().all(|leaving| mesh.ring(leaving).len() <= LONGEST_RING);
+        refuse_unless(is_closed_and_even(&mesh), 12)?;
         if self.fault.has(Fault::RingLimitBeforeGeneration) {
-            refuse_unless(rings_have_weights, 13)?;
+            refuse_unless(rings_have_weights(&mesh), 13)?;
         }
-        refuse_unless(generation != LAST_GENERATION, 9)?;
-        refuse_unless(rings_have_weights, 13)?;
+        refuse_unless(mesh.triangles[0].generation != LAST_GENERATION, 9)?;
+        refuse_unless(rings_have_weights(&mesh), 13)?;
         let splits = mesh.triangles.len();
         refuse_unless(has_slots(tables, &mesh, splits, 2 * splits), 11)?;
         let work = whole_step(&mut mesh);
@@ -129,6 +126,27 @@ impl Twin {
         Ok(Answer { point: mesh.points[vertex], counts, ..Answer::default() })
     }
 
+    /// Limit: 1, 7, 12, 13, 15. The table has an entry for each coordinate of the vertices in use, and no more.
+    fn limit(&self, tables: &Tables, counts: Counts, table: &mut [i32]) -> Result<Answer, u32> {
+        refuse_unless(self.tables_agree(tables), 1)?;
+        let mesh = self.sound_mesh(tables, counts)?;
+        refuse_unless(is_closed_and_even(&mesh), 12)?;
+        let last = mesh.triangles[0].generation == LAST_GENERATION;
+        refuse_unless(!(last && self.fault.has(Fault::LimitOfLastRefused)), 9)?;
+        let entries = 3 * mesh.points.len();
+        let longer = self.fault.has(Fault::LongerTableAccepted) && table.len() > entries;
+        let table_fits = table.len() == entries || longer;
+        if self.fault.has(Fault::TableBeforeRings) {
+            refuse_unless(table_fits, 15)?;
+        }
+        refuse_unless(rings_have_weights(&mesh), 13)?;
+        refuse_unless(table_fits, 15)?;
+        for (entry, coordinate) in table.iter_mut().zip(limit_points(&mesh).concat()) {
+            *entry = coordinate;
+        }
+        Ok(Answer { counts, ..Answer::default() })
+    }
+
     /// Condition 1.
     fn tables_agree(&self, tables: &Tables) -> bool {
         let most_vertex_slots = self.fault.unless(Fault::MaximumExceeded, MOST_VERTEX_SLOTS, MOST_VERTEX_SLOTS + 1);
@@ -149,6 +167,19 @@ impl Twin {
         refuse_unless(is_sound(&mesh), 7)?;
         Ok(mesh)
     }
+}
+
+/// The opposite of condition 12: no boundary, and one even generation.
+fn is_closed_and_even(mesh: &Mesh) -> bool {
+    let generation = mesh.triangles[0].generation;
+    let closed = mesh.triangles.iter().all(|triangle| triangle.links.iter().all(Option::is_some));
+    let uniform = mesh.triangles.iter().all(|triangle| triangle.generation == generation);
+    closed && uniform && generation.is_multiple_of(2)
+}
+
+/// The opposite of condition 13.
+fn rings_have_weights(mesh: &Mesh) -> bool {
+    mesh.leaving_sides().iter().all(|leaving| mesh.ring(leaving).len() <= LONGEST_RING)
 }
 
 /// Condition 11: a face split takes one vertex slot and two triangle slots.

@@ -1,4 +1,4 @@
-//! The five calls written for speed, without proofs: what the library is measured beside. The calls themselves have C
+//! The calls written for speed, without proofs: what the library is measured beside. The calls themselves have C
 //! names, so that callgrind can be told to count them alone.
 
 mod load;
@@ -7,20 +7,21 @@ mod split;
 mod step;
 
 use crate::tables::{
-    Answer, BOUNDARY, Call, Counts, Lent, MOST_TRIANGLE_SLOTS, MOST_VERTEX_SLOTS, PositionRead, RingRead, Tables,
-    Worked,
+    Answer, BOUNDARY, Call, Counts, Lent, LimitRead, MOST_TRIANGLE_SLOTS, MOST_VERTEX_SLOTS, PositionRead, RingRead,
+    Tables, Worked,
 };
 
 const LAST_GENERATION: u8 = 20;
 
 pub fn answer(lent: &mut Lent, call: Call) -> Answer {
-    let Lent { tables, counts, cage, buffer } = lent;
+    let Lent { tables, counts, cage, buffer, table } = lent;
     match call {
         Call::Load => Answer::Worked(fast_load(tables, *counts, cage)),
         Call::Refine(triangle) => Answer::Worked(fast_refine(tables, *counts, triangle)),
         Call::WholeStep => Answer::Worked(fast_whole_step(tables, *counts)),
         Call::Ring(vertex) => Answer::Ring(fast_ring(tables, *counts, vertex, buffer)),
         Call::Position(vertex) => Answer::Position(fast_position(tables, *counts, vertex)),
+        Call::Limit => Answer::Limit(fast_limit(tables, *counts, table)),
     }
 }
 
@@ -71,6 +72,13 @@ fn fast_position(tables: &Tables, counts: Counts, vertex: u32) -> PositionRead {
         }
         refused => PositionRead { refusal: refused.err().unwrap_or(8), counts, ..PositionRead::default() },
     }
+}
+
+#[unsafe(no_mangle)]
+#[inline(never)]
+fn fast_limit(tables: &Tables, counts: Counts, table: &mut [i32]) -> LimitRead {
+    let refused = starts(tables, counts).and_then(|_| step::limit(tables, counts, table)).err();
+    LimitRead { refusal: refused.unwrap_or(0), counts }
 }
 
 /// Condition 1.

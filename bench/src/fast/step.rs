@@ -1,4 +1,4 @@
-//! The whole step in closed form. On a closed mesh of one even generation every edge is flipped, so that each old
+//! The whole step in closed form, and the limit positions. On a closed mesh of one even generation every edge is flipped, so that each old
 //! side x gives one new triangle, in a slot that x alone decides: (origin of x, centre across x, centre of x's own
 //! triangle).
 
@@ -12,12 +12,7 @@ const WEIGHTS: [i64; 13] = [0, 0, 43691, 36409, 29127, 24627, 21845, 20047, 1882
 /// The whole step on sound tables, or the refusal 12, 9, 13 or 11.
 pub fn whole_step(tables: &mut Tables, counts: Counts) -> Result<Worked, u32> {
     let (vertices, triangles) = (counts.vertices as usize, counts.triangles as usize);
-    let generation = tables.generations[0];
-    let open = tables.links[..3 * triangles].iter().fold(false, |open, &link| open | (link == BOUNDARY));
-    let mixed = tables.generations[..triangles].iter().fold(false, |mixed, &other| mixed | (other != generation));
-    if open || mixed || generation % 2 == 1 {
-        return Err(12);
-    }
+    let generation = even_generation(tables, triangles).ok_or(12u32)?;
     if generation == LAST_GENERATION {
         return Err(9);
     }
@@ -39,9 +34,42 @@ pub fn whole_step(tables: &mut Tables, counts: Counts) -> Result<Worked, u32> {
     Ok(Worked { refusal: 0, splits, flips, counts })
 }
 
-/// Where the vertices move, if no ring has more than 12 entries. On a closed mesh the ring of a vertex has the
-/// targets of the sides out of it.
-fn moved_vertices(tables: &Tables, vertices: usize, triangles: usize) -> Option<Vec<[i32; 3]>> {
+/// The limit positions of sound tables, or the refusal 12, 13 or 15.
+pub fn limit(tables: &Tables, counts: Counts, table: &mut [i32]) -> Result<(), u32> {
+    let (vertices, triangles) = (counts.vertices as usize, counts.triangles as usize);
+    even_generation(tables, triangles).ok_or(12u32)?;
+    let rings = ring_sums(tables, vertices, triangles);
+    if rings.iter().fold(0, |longest, &[.., entries]| longest.max(entries)) >= WEIGHTS.len() as i32 {
+        return Err(13);
+    }
+    if table.len() != 3 * vertices {
+        return Err(15);
+    }
+    let (points, _) = tables.positions.as_chunks::<3>();
+    let (limits, _) = table.as_chunks_mut::<3>();
+    for ((limit, point), &[x, y, z, entries]) in limits.iter_mut().zip(points).zip(&rings) {
+        let (n, w) = (i64::from(entries), WEIGHTS[entries as usize]);
+        let denominator = n * (65536 + 3 * w);
+        let nearest = |p: i32, sum: i32| {
+            let numerator = 65536 * n * i64::from(p) + 3 * w * i64::from(sum);
+            (2 * numerator + denominator).div_euclid(2 * denominator) as i32
+        };
+        *limit = [nearest(point[0], x), nearest(point[1], y), nearest(point[2], z)];
+    }
+    Ok(())
+}
+
+/// The generation of all triangles, if it is one even one and no side is on the boundary.
+fn even_generation(tables: &Tables, triangles: usize) -> Option<u8> {
+    let generation = tables.generations[0];
+    let open = tables.links[..3 * triangles].iter().fold(false, |open, &link| open | (link == BOUNDARY));
+    let mixed = tables.generations[..triangles].iter().fold(false, |mixed, &other| mixed | (other != generation));
+    (!open && !mixed && generation.is_multiple_of(2)).then_some(generation)
+}
+
+/// The sum of each vertex's ring, and how many entries it has. On a closed mesh the ring of a vertex has the targets
+/// of the sides out of it.
+fn ring_sums(tables: &Tables, vertices: usize, triangles: usize) -> Vec<[i32; 4]> {
     let (points, _) = tables.positions[..3 * vertices].as_chunks::<3>();
     let mut rings = vec![[0i32; 4]; vertices];
     for &[a, b, c] in tables.corners[..3 * triangles].as_chunks::<3>().0 {
@@ -51,6 +79,13 @@ fn moved_vertices(tables: &Tables, vertices: usize, triangles: usize) -> Option<
             *ring = [ring[0].wrapping_add(x), ring[1].wrapping_add(y), ring[2].wrapping_add(z), ring[3] + 1];
         }
     }
+    rings
+}
+
+/// Where the vertices move, if no ring has more than 12 entries.
+fn moved_vertices(tables: &Tables, vertices: usize, triangles: usize) -> Option<Vec<[i32; 3]>> {
+    let (points, _) = tables.positions[..3 * vertices].as_chunks::<3>();
+    let rings = ring_sums(tables, vertices, triangles);
     let moved = |(&point, &[x, y, z, entries]): (&[i32; 3], &[i32; 4])| {
         let w = *WEIGHTS.get(entries as usize)?;
         let n = i64::from(entries);

@@ -70,12 +70,14 @@ fn cases_are_read_back_as_they_were_written() {
     let rng = &mut Rng::new(13);
     let mut store = handmade::random(rng);
     store.room.ring = vec![9, 9, 4];
+    store.room.table = vec![-1, -1, i32::MAX];
     let calls = [
         Call::Load { cage: vec![1, 1, 1, 255, 0] },
         Call::Refine { triangle: 7 },
         Call::WholeStep,
         Call::Ring { vertex: 9 },
         Call::Position { vertex: u32::MAX },
+        Call::Limit,
     ];
     for call in calls {
         let case = Case { store: store.clone(), call };

@@ -1,7 +1,7 @@
 //! The twin against the papers: P1 to P12, the readings, the refusals.
 
 use crate::cages::{self, Cage};
-use crate::examples::{self, Example};
+use crate::examples::{self, Example, HALFWAY};
 use crate::malformed::RawCage;
 use crate::program::{Files, model};
 use crate::rng::Rng;
@@ -102,7 +102,7 @@ fn links_are_no_function_of_the_corners() {
 fn refusals_are_those_of_the_table() {
     let rng = &mut Rng::new(3);
     let table = examples::refusals(rng);
-    assert!(table.iter().map(|example| example.refusal).eq(1..=14));
+    assert!(table.iter().map(|example| example.refusal).eq(1..=15));
     for Example { refusal, store, call } in table.into_iter().chain(examples::orders(rng)) {
         let mut after = store.clone();
         let answer = run(&mut after, &call);
@@ -160,6 +160,65 @@ fn weights_are_the_formula_to_the_nearest() {
         let cosine = (std::f64::consts::TAU / f64::from(sides)).cos();
         let weight = (65_536.0 * (4.0 - 2.0 * cosine) / 9.0).round() as i32;
         assert_eq!(point(&store, sides as usize)[0], 65_536 - weight, "{sides} sides");
+    }
+}
+
+/// The limit positions of a mesh, one point a vertex.
+fn limits(store: &mut Store) -> Vec<[i32; 3]> {
+    store.room.table = vec![99; 3 * store.counts.vertices as usize];
+    let before = store.clone();
+    assert_eq!(run(store, &Call::Limit), Answer { counts: before.counts, ..Answer::default() });
+    assert_eq!((&store.tables, store.counts), (&before.tables, before.counts), "the mesh is only read");
+    store.room.table.chunks_exact(3).map(|point| [point[0], point[1], point[2]]).collect()
+}
+
+#[test]
+fn limits_are_the_formula_to_the_nearest() {
+    let tetrahedron = limits(&mut loaded(&cages::tetrahedron()));
+    assert_eq!(tetrahedron, [[2, 2, 2], [3, 2, 2], [2, 3, 2], [2, 2, 3]]);
+    for sides in 3..=12_u32 {
+        let mut cage = cages::double_pyramid(sides);
+        // The apex alone lies away from the origin, so that it keeps the share 1 / (1 + 3α) of its way (document 000,
+        // formulas (7) and (8) at infinity).
+        cage.points[sides as usize] = [1_000_000, 0, -1_000_000];
+        let cosine = (std::f64::consts::TAU / f64::from(sides)).cos();
+        let share = 1_000_000.0 / (1.0 + 3.0 * (4.0 - 2.0 * cosine) / 9.0);
+        let [x, y, z] = limits(&mut loaded(&cage))[sides as usize];
+        // The weights of the table are off by 1/131072 at most.
+        assert!((f64::from(x) - share).abs() < 12.0 && x + z == 0 && y == 0, "{sides} sides: {x} for {share}");
+    }
+}
+
+#[test]
+fn limits_round_halves_up() {
+    for (halfway, below) in HALFWAY.iter().zip([65_536, 43_690, 10_922, 28_243, 5_203, 8_257]) {
+        // The apex of a double pyramid, or a vertex of the foil beside the one that lies away.
+        let vertex = if halfway.entries == 2 { 1 } else { halfway.entries as usize };
+        assert_eq!(limits(&mut loaded(&halfway.cage(false)))[vertex], [below + 1, 0, 0]);
+        assert_eq!(limits(&mut loaded(&halfway.cage(true)))[vertex], [-below, 0, 0]);
+    }
+}
+
+#[test]
+fn whole_steps_lead_to_the_limits() {
+    let rng = &mut Rng::new(6);
+    for cage in [cages::tetrahedron(), cages::foil(), cages::double_pyramid(5), cages::double_pyramid(12)] {
+        let mut cage = cage;
+        cage.points.iter_mut().flatten().for_each(|coordinate| *coordinate = rng.between(-1_000_000, 1_000_000));
+        let mut store = Store::junk(9_000, 18_000, rng);
+        run(&mut store, &Call::Load { cage: cage.bytes() });
+        let first = limits(&mut store);
+        for _ in 0..6 {
+            assert_eq!(run(&mut store, &Call::WholeStep).refusal, 0);
+        }
+        let last = limits(&mut store);
+        for (vertex, limit) in first.iter().enumerate() {
+            for axis in 0..3 {
+                // Each step rounds the vertex and its ring; 0.42 to the sixth power is below 1/180.
+                assert!((last[vertex][axis] - limit[axis]).abs() <= 8, "{vertex}: {limit:?}, {:?}", last[vertex]);
+                assert!((point(&store, vertex)[axis] - limit[axis]).abs() <= 4_000_000 / 180);
+            }
+        }
     }
 }
 
