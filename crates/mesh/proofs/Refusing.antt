@@ -4,7 +4,7 @@ use mathlib.Core.Bool.{Bool, true, false, not}
 use mathlib.Core.List.{List, [], _∷_}
 use mathlib.Core.Logic.{_≢_}
 use mathlib.Core.Path.{_≡_, refl, sym, _∙_}
-use Prim.Native.Nat.{ℕ, _≤_, _<_}
+use Prim.Native.Nat.{ℕ, _*_, _≤_, _<_}
 use native.Mathlib.Omega.{arith}
 use lib.Dec.{eqb, leb, ltb}
 use lib.ListN.{length}
@@ -114,7 +114,7 @@ module _ (t : ℕ) (m : Mesh) where
   abbrev chainTests : List Test
   chainTests =
       10 if odd (generation (m .topology) (chainEnd (m .topology) t))
-      ∷ 11 if not (roomFor (splitsOf (m .topology) t) m)
+      ∷ 11 if not (roomFor (splitsOf (m .topology) t) (2 * splitsOf (m .topology) t) m)
       ∷ []
 
   module _ (r : ℕ) (e : r ≡ triangleRefusal) where
@@ -153,16 +153,16 @@ module _ (t : ℕ) (m : Mesh) where
 -- The answers of the two tests of a chain.
 module _ (m : Mesh) (v s : ℕ) where
   abbrev chainRefusal : ℕ
-  chainRefusal = firstOf (10 if odd (generation (m .topology) v) ∷ 11 if not (roomFor s m) ∷ [])
+  chainRefusal = firstOf (10 if odd (generation (m .topology) v) ∷ 11 if not (roomFor s (2 * s) m) ∷ [])
 
   pub chain-ten : odd (generation (m .topology) v) ≡ true → 10 ≡ chainRefusal
   chain-ten a = rw a
 
   module _ (a : odd (generation (m .topology) v) ≡ false) where
-    pub chain-eleven : roomFor s m ≡ false → 11 ≡ chainRefusal
+    pub chain-eleven : roomFor s (2 * s) m ≡ false → 11 ≡ chainRefusal
     chain-eleven b = rw (a, b)
 
-    pub chain-none : roomFor s m ≡ true → 0 ≡ chainRefusal
+    pub chain-none : roomFor s (2 * s) m ≡ true → 0 ≡ chainRefusal
     chain-none b = rw (a, b)
 
 -- ---- whole step
@@ -174,7 +174,7 @@ step-standing m r =
     12 if not (closedEven (m .topology))
     ∷ 9 if eqb (generation (m .topology) 0) 20
     ∷ 13 if any (m .topology .vertices) (λ v. ltb 12 (length (ring (m .topology) v)))
-    ∷ 11 if not (roomFor (m .topology .triangles) m)
+    ∷ 11 if not (roomFor (m .topology .triangles) (2 * m .topology .triangles) m)
     ∷ []
     ) r
 

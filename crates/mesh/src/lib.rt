@@ -5,7 +5,7 @@ use tables::Counts;
 ghost use mathlib.Core.Path.{_≡_};
 ghost use mathlib.Core.List.{List, [], _∷_};
 ghost use mathlib.Core.Bool.{not};
-ghost use Prim.Native.Nat.{ℕ, max};
+ghost use Prim.Native.Nat.{ℕ, _*_, max};
 ghost use lib.Dec.{eqb, leb};
 ghost use Rattle.rules.specs.Calls.{firstOf, _if_, roomFor, loadCall, refineCall, wholeStepCall};
 ghost use Rattle.rules.specs.Calls.{ringCall, positionCall, positionRefusal};
@@ -126,8 +126,8 @@ fn triangle_refusal(
 fn chain_refusal(positions: &[i32], generations: &[u8], counts: Counts, chain: Chain) -> u32
     ensures { λ r. ⌜ ((corners links : List ℕ) →
         let m = meshNow counts (now (positions .entry)) corners links (now (generations .entry)) in
-        r ≡ firstOf (10 if odd (generation (m .topology) (chain .end))
-        ∷ 11 if not (roomFor (max 1 (chain .odd)) m) ∷ [])) ⌝ }
+        let s = max 1 (chain .odd) in
+        r ≡ firstOf (10 if odd (generation (m .topology) (chain .end)) ∷ 11 if not (roomFor s (2 * s) m) ∷ [])) ⌝ }
 {
     if tables::generation_at(generations, chain.end) % 2 == 1 {
         return 10;

@@ -57,9 +57,9 @@ abbrev pub firstOf : List Test → ℕ
 firstOf [] = 0
 firstOf (n if holds ∷ rest) = elim holds [ true ↦ n | false ↦ firstOf rest ]
 
--- Slots for s face splits. (Refused inputs, 11)
-abbrev pub roomFor : ℕ → Mesh → Bool
-roomFor s m = leb (m .topology .vertices + s) (vertexSlots m) && leb (m .topology .triangles + 2 * s) (triangleSlots m)
+-- Slots for v vertices and f triangles more. (Refused inputs, 11)
+abbrev pub roomFor : ℕ → ℕ → Mesh → Bool
+roomFor v f m = leb (m .topology .vertices + v) (vertexSlots m) && leb (m .topology .triangles + f) (triangleSlots m)
 
 -- The face splits that refining t takes: one for each odd triangle of its base chain, and one where t is even, as its
 -- chain has none. (Refine one triangle)
@@ -96,7 +96,7 @@ refineRefusal t m =
     ∷ 8 if leb (tri .triangles) t
     ∷ 9 if eqb (generation tri t) 20
     ∷ 10 if odd (generation tri (chainEnd tri t))
-    ∷ 11 if not (roomFor (splitsOf tri t) m)
+    ∷ 11 if not (roomFor (splitsOf tri t) (2 * splitsOf tri t) m)
     ∷ []
     )
 
@@ -109,7 +109,7 @@ wholeStepRefusal m =
     ∷ 12 if not (closedEven tri)
     ∷ 9 if eqb (generation tri 0) 20
     ∷ 13 if any (tri .vertices) (λ v. ltb 12 (length (ring tri v)))
-    ∷ 11 if not (roomFor (tri .triangles) m)
+    ∷ 11 if not (roomFor (tri .triangles) (2 * tri .triangles) m)
     ∷ []
     )
 

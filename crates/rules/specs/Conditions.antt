@@ -57,15 +57,15 @@ pub data OddInChain (m : Topology) : ℕ → ℕ → Type 0 where
   onward : {t k : ℕ} → generation m t % 2 ≡ 1 → link m (3 * t) ≢ boundary → OddInChain m (link m (3 * t) / 3) k
       → OddInChain m t (suc k)
 
--- There are slots for s face splits.
-pub record RoomFor (s : ℕ) (m : Mesh) : Type 0 where
-  pub vertices : m .topology .vertices + s ≤ vertexSlots m
-  pub triangles : m .topology .triangles + 2 * s ≤ triangleSlots m
+-- There are slots for v vertices and f triangles more.
+pub record RoomFor (v f : ℕ) (m : Mesh) : Type 0 where
+  pub vertices : m .topology .vertices + v ≤ vertexSlots m
+  pub triangles : m .topology .triangles + f ≤ triangleSlots m
 
 -- 11, of a refine: there are too few slots for a split for each odd triangle in the base chain of t, or for one split
 -- where t is even.
 abbrev pub TooFewSlots : ℕ → Mesh → Type 0
-TooFewSlots t m = (k : ℕ) × OddInChain (m .topology) t k × (¬ RoomFor (max 1 k) m)
+TooFewSlots t m = (k : ℕ) × OddInChain (m .topology) t k × (¬ RoomFor (max 1 k) (2 * max 1 k) m)
 
 -- Not 12: no side is on the boundary, and all triangles are of one even generation.
 pub record ClosedEven (m : Topology) : Type 0 where
@@ -121,7 +121,7 @@ wholeStepConditions m =
     ∷ 12 when (¬ ClosedEven (m .topology))
     ∷ 9 when (generation (m .topology) 0 ≡ 20)
     ∷ 13 when LongRing (m .topology)
-    ∷ 11 when (¬ RoomFor (m .topology .triangles) m)
+    ∷ 11 when (¬ RoomFor (m .topology .triangles) (2 * m .topology .triangles) m)
     ∷ []
 
 abbrev pub ringConditions : ℕ → List ℕ → Mesh → List Condition

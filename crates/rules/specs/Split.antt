@@ -87,11 +87,15 @@ withMesh m w = record { mesh = m; splits = w .splits; flips = w .flips }
 
 -- ---- the face split with its flips
 
--- Coordinate k of the centre of t: the nearest third of the sum of its corners.
+-- Coordinate k of the nearest third of the sum of the corners h, i and j of t.
+abbrev pub thirdOf : ℕ → ℕ → ℕ → Mesh → ℕ → ℕ → ℤ
+thirdOf h i j m t k =
+    let at : ℕ → ℤ = λ corner. coordinate m (origin (m .topology) (3 * t + corner)) k in
+    nearestThird (at h +ℤ at i +ℤ at j)
+
+-- Coordinate k of the centre of t.
 unfoldable pub centre : Mesh → ℕ → ℕ → ℤ
-centre m t k =
-    let at : ℕ → ℤ = λ i. coordinate m (origin (m .topology) (3 * t + i)) k in
-    nearestThird (at 0 +ℤ at 1 +ℤ at 2)
+centre = thirdOf 0 1 2
 
 -- The split with the new vertex placed at the centre.
 unfoldable pub splitPlaced : ℕ → Mesh → Mesh

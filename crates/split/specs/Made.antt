@@ -8,10 +8,10 @@ use Rattle.rules.proofs.Chains.Remembered.{chainAt}
 use Rattle.rules.specs.Conditions.{RoomFor}
 use Rattle.rules.specs.Split as rules
 use Rattle.rules.specs.Split.{withSplit, splitPlaced, chainEnd, chainOdd}
-use Rattle.rules.specs.Tables.{Topology, TablesAgree, generation, triangleSlots}
+use Rattle.rules.specs.Tables.{Topology, TablesAgree, generation, triangleSlots, relink}
 use Rattle.tables.specs.declared.Counts.{Counts}
 use Rattle.tables.specs.declared.Triangle.{Triangle}
-use Rattle.tables.specs.Lent.{meshNow, entries}
+use Rattle.tables.specs.Lent.{meshNow, entries, put}
 use Rattle.split.specs.declared.Chain.{Chain}
 use Rattle.split.specs.declared.Work.{Work}
 
@@ -36,7 +36,7 @@ splitCounted t w = withSplit (splitPlaced t (w .mesh)) w
 pub record MaySplit (t : ℕ) (w : rules.Work) : Type 0 where
   pub tables : TablesAgree (w .mesh)
   pub slot : t < triangleSlots (w .mesh)
-  pub room : RoomFor 1 (w .mesh)
+  pub room : RoomFor 1 2 (w .mesh)
   pub young : generation (w .mesh .topology) t ≤ 251
   pub splits : w .splits < 4294967295
   pub flips : w .flips + 3 ≤ 4294967295
@@ -50,6 +50,10 @@ triangle c l g = record {
   generation = g;
 }
 
+-- What is read past the end of an array of triangles.
+abbrev pub blank : Triangle
+blank = record { corners = []; links = []; generation = 0 }
+
 -- The children (A,B,P), (B,C,P) and (C,A,P) of x = (A,B,C), for the slots t, f and e = f + 1.
 abbrev pub childrenOf : Triangle → ℕ → ℕ → ℕ → List Triangle
 childrenOf x t f p =
@@ -61,6 +65,12 @@ childrenOf x t f p =
     ∷ triangle (c .1, c .2, p) (l .1, 3 * e + 2, 3 * t + 1) g
     ∷ triangle (c .2, c .0, p) (l .2, 3 * t + 2, 3 * f + 1) g
     ∷ []
+
+-- Three triangles in slots t, f and f + 1, and the partners of the sides 1 and 2 of x told their new places h and k.
+abbrev pub replaced : ℕ → ℕ → Triangle → List Triangle → ℕ → ℕ → Topology → Topology
+replaced t f x three h k m =
+    let told = relink (getD (x .links) 2 0) k (relink (getD (x .links) 1 0) h m) in
+    put (f + 1) (getD three 2 blank) (put f (getD three 1 blank) (put t (getD three 0 blank) told))
 
 -- The flipped (A,Q,P) and (B,P,Q) of x = (A,B,P) and y = (B,A,Q), for the slots s and u.
 abbrev pub flippedOf : Triangle → Triangle → ℕ → ℕ → List Triangle

@@ -9,11 +9,11 @@ ghost use lib.IntN.{ℤ};
 ghost use lib.ListN.{length, getD};
 ghost use Rattle.points.specs.Axes.{eachAxis};
 ghost use Rattle.rules.proofs.Calls.Carried.{RefineFound};
-ghost use Rattle.rules.specs.Split.{split, flip, centre, settle, faceSplit, atFirst, refine};
+ghost use Rattle.rules.specs.Split.{flip, thirdOf, settle, faceSplit, atFirst, refine};
 ghost use Rattle.rules.specs.Tables.{isBase};
 ghost use Rattle.tables.specs.declared.Counts.{Counts};
 ghost use Rattle.tables.specs.Lent.{topologyNow, meshNow, TrianglesAgree, VerticesAgree};
-ghost use Rattle.split.specs.Made.{workNow, splitCounted, MaySplit, childrenOf, flippedOf, BaseChain};
+ghost use Rattle.split.specs.Made.{workNow, splitCounted, MaySplit, childrenOf, replaced, flippedOf, BaseChain};
 
 // The slots in use, and the face splits and flips made so far.
 pub struct Work {
@@ -160,56 +160,53 @@ fn settle(
     }
 }
 
-// The split of t with no flip yet.
-fn split(
+// Three triangles in the place of x, which is in slot t: in slots t, f and f + 1. The partners of the sides 1 and 2
+// of x are told their new places.
+fn replace(
     corners: &mut [u32],
     links: &mut [u32],
     generations: &mut [u8],
-    n: Counts,
     t: u32,
-) -> Counts
+    f: u32,
+    x: Triangle,
+    three: [Triangle; 3],
+    to_1: u32,
+    to_2: u32,
+)
     requires { ⌜ TrianglesAgree (now corners) (now links) (now generations) × (t < length (now generations))
-        × (n .triangles + 2 ≤ length (now generations)) × (n .vertices < 32768) × (getD (now generations) t 0 < 255) ⌝ }
-    ensures { λ r. ⌜ topologyNow r (now (corners .exit)) (now (links .exit)) (now (generations .exit))
-        ≡ split t (topologyNow n (now (corners .entry)) (now (links .entry)) (now (generations .entry))) ⌝ }
+        × (f + 2 ≤ length (now generations)) ⌝ }
+    ensures { λ r. ⌜ ((n : Counts) →
+        topologyNow n (now (corners .exit)) (now (links .exit)) (now (generations .exit))
+        ≡ replaced t f x three to_1 to_2
+        (topologyNow n (now (corners .entry)) (now (links .entry)) (now (generations .entry)))) ⌝ }
 {
-    let p = n.vertices;
-    let f = n.triangles;
     let e = f + 1;
-    let to_f = 3 * f;
-    let to_e = 3 * e;
-    let after = Counts {
-        vertices: p + 1,
-        triangles: f + 2,
-    };
-    let x = tables::triangle_at(corners, links, generations, t);
-    let three = children(x, t, f, p);
     let at_t = three[0];
     let at_f = three[1];
     let at_e = three[2];
-    tables::relink(links, x.links[1], to_f);
-    tables::relink(links, x.links[2], to_e);
+    tables::relink(links, x.links[1], to_1);
+    tables::relink(links, x.links[2], to_2);
     tables::store(corners, links, generations, t, at_t);
     tables::store(corners, links, generations, f, at_f);
     tables::store(corners, links, generations, e, at_e);
-    after
 }
 
-// The centre of t.
-fn centre(positions: &[i32], corners: &[u32], t: u32) -> Point
-    requires { ⌜ VerticesAgree (now positions) × (3 * t + 2 < length (now corners)) ⌝ }
+// The nearest third of the sum of the corners h, i and j of t.
+fn third_of(positions: &[i32], corners: &[u32], t: u32, h: usize, i: usize, j: usize) -> Point
+    requires { ⌜ VerticesAgree (now positions) × (3 * t + 2 < length (now corners)) × (h < 3) × (i < 3) × (j < 3) ⌝ }
     ensures { λ r. ⌜ ((n : Counts) (links generations : List ℕ) →
-        r ≡ eachAxis (centre (meshNow n (now (positions .entry)) (now (corners .entry)) links generations) t)) ⌝ }
+        r ≡ eachAxis (thirdOf h i j
+        (meshNow n (now (positions .entry)) (now (corners .entry)) links generations) t)) ⌝ }
 {
-    let i = 3 * (t as usize);
-    let a = tables::point_at(positions, corners[i]);
-    let b = tables::point_at(positions, corners[i + 1]);
-    let c = tables::point_at(positions, corners[i + 2]);
+    let first = 3 * (t as usize);
+    let a = tables::point_at(positions, corners[first + h]);
+    let b = tables::point_at(positions, corners[first + i]);
+    let c = tables::point_at(positions, corners[first + j]);
     Point::thirds(a, b, c)
 }
 
-// The split of t with the new vertex placed at the centre.
-fn split_placed(
+// The cut of the face split of t, with no flip yet: the new vertex is placed at the centre.
+fn face_cut(
     positions: &mut [i32],
     corners: &mut [u32],
     links: &mut [u32],
@@ -223,21 +220,22 @@ fn split_placed(
         ≡ splitCounted t (workNow work
         (now (positions .entry)) (now (corners .entry)) (now (links .entry)) (now (generations .entry))) ⌝ }
 {
-    let v = work.vertices;
-    let before = Counts {
-        vertices: v,
-        triangles: work.triangles,
-    };
-    let splits = work.splits + 1;
-    let p = centre(positions, corners, t);
-    tables::store_point(positions, v, p);
-    let after = split(corners, links, generations, before, t);
-    Work {
-        vertices: after.vertices,
-        triangles: after.triangles,
-        splits,
+    let p = work.vertices;
+    let f = work.triangles;
+    let after = Work {
+        vertices: p + 1,
+        triangles: f + 2,
+        splits: work.splits + 1,
         flips: work.flips,
-    }
+    };
+    let to_f = 3 * f;
+    let to_e = 3 * (f + 1);
+    let centre = third_of(positions, corners, t, 0, 1, 2);
+    tables::store_point(positions, p, centre);
+    let x = tables::triangle_at(corners, links, generations, t);
+    let three = children(x, t, f, p);
+    replace(corners, links, generations, t, f, x, three, to_f, to_e);
+    after
 }
 
 // The face split of t, with its flips.
@@ -257,7 +255,7 @@ pub fn face_split(
 {
     let f = work.triangles;
     let e = f + 1;
-    let cut = split_placed(positions, corners, links, generations, work, t);
+    let cut = face_cut(positions, corners, links, generations, work, t);
     let one = settle(corners, links, generations, cut, t);
     let two = settle(corners, links, generations, one, f);
     settle(corners, links, generations, two, e)

@@ -139,7 +139,8 @@ pub fn store_point(positions: &mut [i32], v: u32, p: Point)
 // Whether there are slots for so many face splits.
 pub fn has_room(positions: &[i32], generations: &[u8], counts: Counts, splits: u32) -> bool
     ensures { λ r. ⌜ ((corners links : List ℕ) →
-        r ≡ roomFor splits (meshNow counts (now (positions .entry)) corners links (now (generations .entry)))) ⌝ }
+        r ≡ roomFor splits (2 * splits)
+        (meshNow counts (now (positions .entry)) corners links (now (generations .entry)))) ⌝ }
 {
     let vertices = counts.vertices as u64 + splits as u64;
     let triangles = counts.triangles as u64 + 2 * (splits as u64);

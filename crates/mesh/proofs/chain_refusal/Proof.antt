@@ -1,7 +1,7 @@
 -- `mesh::chain_refusal` meets its contract.
 use borrow.Author.Needs.{needs}
 use borrow.Author.Tests.{eq-eqb, ne-eqb, not-true, not-false}
-use Prim.Native.Nat.{ℕ, _%_, max}
+use Prim.Native.Nat.{ℕ, _*_, _%_, max}
 use mathlib.Core.Bool.{false}
 use mathlib.Core.List.{List}
 use mathlib.Core.Path.{_≡_, sym, ap, _∙_}
@@ -27,10 +27,12 @@ module _ (c : tie.After-has-room) (corners links : List ℕ) where
   even-end : odd (generation (mesh start corners links .topology) (start .args .chain .end)) ≡ false
   even-end = ne-eqb _ _ (λ e. at-if1 .if1 .left (ap (λ g. g % 2) (at-if1 .before .generation-at .ensures) ∙ e))
 
-  room-is : c .has-room .result ≡ roomFor (max 1 (start .args .chain .odd)) (mesh start corners links)
+  room-is :
+      let s = max 1 (start .args .chain .odd) in
+      c .has-room .result ≡ roomFor s (2 * s) (mesh start corners links)
   room-is =
       c .has-room .ensures corners links
-      ∙ ap (λ s. roomFor s (mesh start corners links)) (c .before .splits .ensures)
+      ∙ ap (λ s. roomFor s (2 * s) (mesh start corners links)) (c .before .splits .ensures)
 
 generation-at-requires : tie.Need-generation-at-requires
 generation-at-requires c κs = search needs

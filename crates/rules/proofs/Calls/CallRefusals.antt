@@ -39,11 +39,10 @@ use Rattle.rules.specs.Tables.{Topology, Mesh, sides, boundary, link, ge
 unused-is : (n k : ℕ) → Decides (leb k n) (¬ (n < k))
 unused-is n k = is-iff (λ l q. omega arith) (λ q. omega arith) (is-le k n)
 
-pub room-is : (s : ℕ) (m : Mesh) → Decides (roomFor s m) (RoomFor s m)
-room-is s m =
+pub room-is : (v f : ℕ) (m : Mesh) → Decides (roomFor v f m) (RoomFor v f m)
+room-is v f m =
     is-iff (λ x. record { vertices = x .0; triangles = x .1 }) (λ R. (R .vertices, R .triangles))
-    (is-and (is-le (m .topology .vertices + s) (vertexSlots m))
-    (is-le (m .topology .triangles + 2 * s) (triangleSlots m)))
+    (is-and (is-le (m .topology .vertices + v) (vertexSlots m)) (is-le (m .topology .triangles + f) (triangleSlots m)))
 
 -- All triangles have the generation of the first, if there is one.
 pub closed-even-is : (m : Topology) → 1 ≤ m .triangles → Decides (closedEven m) (ClosedEven m)
@@ -79,11 +78,11 @@ module _ (t : ℕ) (m : Mesh) (S : Sound m) (u : t < m .topology .triangles) (e 
   pub chain-counted : OddInChain (m .topology) t (chainOdd (m .topology) t)
   chain-counted = chain-counts t m S u ends-even
 
-  pub too-few-is : Decides (not (roomFor (splitsOf (m .topology) t) m)) (TooFewSlots t m)
+  pub too-few-is : let s = splitsOf (m .topology) t in Decides (not (roomFor s (2 * s) m)) (TooFewSlots t m)
   too-few-is =
       is-iff (λ n. (chainOdd (m .topology) t, chain-counted, n))
-      (λ (k, c, n) R. n (subst (λ (j : ℕ). RoomFor (max 1 j) m) (one-number chain-counted c) R))
-      (is-not (room-is (splitsOf (m .topology) t) m))
+      (λ (k, c, n) R. n (subst (λ (j : ℕ). RoomFor (max 1 j) (2 * max 1 j) m) (one-number chain-counted c) R))
+      (is-not (room-is (splitsOf (m .topology) t) (2 * splitsOf (m .topology) t) m))
 
 pub long-ring-is : (m : Topology) → Decides (any (m .vertices) (λ v. ltb 12 (length (ring m v)))) (LongRing m)
 long-ring-is m =
@@ -122,7 +121,7 @@ whole-step-refusal-first m =
     first-unless 12 (closed-even-is (m .topology) (S .someTriangle)) (λ _.
     first-if 9 (is-eq (generation (m .topology) 0) 20) (λ _.
     first-if 13 (long-ring-is (m .topology)) (λ _.
-    first-unless 11 (room-is (m .topology .triangles) m) (λ _. none))))))
+    first-unless 11 (room-is (m .topology .triangles) (2 * m .topology .triangles) m) (λ _. none))))))
 
 pub ring-refusal-first : (v : ℕ) (buffer : List ℕ) (m : Mesh)
     → First (ringConditions v buffer m) (ringRefusal v buffer m)

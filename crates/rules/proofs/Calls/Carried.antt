@@ -2,7 +2,7 @@
 use mathlib.Core.Path.{_≡_, _∙_}
 use mathlib.Core.Logic.{_≢_}
 use mathlib.Core.List.{List}
-use Prim.Native.Nat.{ℕ, _%_, _<_}
+use Prim.Native.Nat.{ℕ, _*_, _%_, _<_}
 use native.Mathlib.Omega.{arith}
 use Rattle.rules.proofs.Loads.CageTests.{sizes-fit-is, corners-fit-is, coordinates-fit-is, sides-differ-is}
 use Rattle.rules.proofs.Calls.CallRefusals.{room-is, closed-even-is, ends-even, chain-counted}
@@ -58,7 +58,7 @@ pub record RefineFound (t : ℕ) (m : Mesh) : Type 0 where
   pub inUse : t < m .topology .triangles
   pub young : generation (m .topology) t < 20
   pub evenEnd : generation (m .topology) (chainEnd (m .topology) t) % 2 ≡ 0
-  pub room : RoomFor (splitsOf (m .topology) t) m
+  pub room : RoomFor (splitsOf (m .topology) t) (2 * splitsOf (m .topology) t) m
 
 pub refine-found : (t : ℕ) (m : Mesh) → refineRefusal t m ≡ 0 → RefineFound t m
 refine-found t m z =
@@ -72,7 +72,7 @@ refine-found t m z =
       young = omega arith;
       evenEnd = ends-even t m S u e;
       room =
-          stable (room-is (splitsOf (m .topology) t) m)
+          stable (room-is (splitsOf (m .topology) t) (2 * splitsOf (m .topology) t) m)
           (λ n. r (chainOdd (m .topology) t, chain-counted t m S u e, n));
     }
 
@@ -86,7 +86,7 @@ pub record StepFound (m : Mesh) : Type 0 where
   pub sound : Sound m
   pub closed : ClosedEven (m .topology)
   pub young : closed .common ≢ 20
-  pub room : RoomFor (m .topology .triangles) m
+  pub room : RoomFor (m .topology .triangles) (2 * m .topology .triangles) m
 
 pub step-found : (m : Mesh) → wholeStepRefusal m ≡ 0 → StepFound m
 step-found m z =
@@ -97,7 +97,7 @@ step-found m z =
       sound = S;
       closed = C;
       young = λ e. n (C .all 0 (S .someTriangle) ∙ e);
-      room = stable (room-is (m .topology .triangles) m) r;
+      room = stable (room-is (m .topology .triangles) (2 * m .topology .triangles) m) r;
     }
 
 pub found-step : {m : Mesh} (F : StepFound m) → StepMakes (F .closed .common) m (wholeStep m)

@@ -135,7 +135,8 @@ module _ (s : ℕ) (w : Work) (F : Manifold (reached w)) (K : BasesMeetIn nowher
 -- Where the base chain of t ends at an even triangle and there is room, refine is Kobbelt's procedure to any depth
 -- above the generation.
 pub refine-is-kobbelt : (t n : ℕ) (m : Mesh) → Sound m → t < m .topology .triangles
-    → generation (m .topology) (chainEnd (m .topology) t) % 2 ≡ 0 → RoomFor (splitsOf (m .topology) t) m
+    → generation (m .topology) (chainEnd (m .topology) t) % 2 ≡ 0
+    → RoomFor (splitsOf (m .topology) t) (2 * splitsOf (m .topology) t) m
     → generation (m .topology) t < n
     → refine t (atFirst m) ≡ kobbelt n t (atFirst m)
 unfolding refine

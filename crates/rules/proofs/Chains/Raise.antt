@@ -49,7 +49,7 @@ pub record Raised (t top s q : ℕ) (d e : Work) : Type 0 where
       → x < reached e .triangles → generation (reached e) x ≤ g
   pub still : Still (reached d) (reached e)
   pub past : (b : ℕ) → reached e .triangles ≤ b → Past b (reached d) (reached e)
-  pub odd : 2 * e .flips + odds (reached e) ≡ 2 * d .flips + odds (reached d) + 3 * s
+  pub odd : 2 * e .flips + odds (reached e) + 2 * q ≡ 2 * d .flips + odds (reached d) + 3 * s
   pub places : Places (d .mesh) (e .mesh)
 
 module _ (t top v : ℕ) (d : Work) (x : Splittable (reached d) v) (F : Manifold (reached d))

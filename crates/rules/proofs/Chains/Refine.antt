@@ -26,7 +26,7 @@ use Rattle.rules.specs.Tables.{Mesh, TablesAgree, generation, vertexSlot
 pub record Refined (t s q : ℕ) (m : Mesh) (w : Work) : Type 0 where
   pub sound : Sound (w .mesh)
   pub splits : w .splits ≡ s
-  pub odd : 2 * w .flips + odds (reached w) ≡ odds (m .topology) + 3 * s
+  pub odd : 2 * w .flips + odds (reached w) + 2 * q ≡ odds (m .topology) + 3 * s
   pub vertices : reached w .vertices ≡ m .topology .vertices + s + q
   pub triangles : reached w .triangles ≡ m .topology .triangles + 2 * s
   pub edges : edges (reached w) ≡ edges (m .topology) + 3 * s + q
@@ -39,7 +39,7 @@ pub record Refined (t s q : ℕ) (m : Mesh) (w : Work) : Type 0 where
   pub past : Past (reached w .triangles) (m .topology) (reached w)
   pub places : Places m (w .mesh)
 
-pub sound-room : {m : Mesh} (s : ℕ) → TablesAgree m → RoomFor s m → Room s (m .topology)
+pub sound-room : {m : Mesh} {v : ℕ} (s : ℕ) → TablesAgree m → RoomFor v (2 * s) m → Room s (m .topology)
 sound-room s A R = record {
   corners = omega (arith, A .corners, R .triangles);
   links = omega (arith, A .links, R .triangles);
@@ -111,32 +111,36 @@ module _ (t : ℕ) (m : Mesh) (S : Sound m) (b : t < m .topology .triangles) (yo
 
     -- A sound mesh is refined to a sound mesh, by as many splits as its chain has odd triangles before its end, and
     -- at least one.
-    refine-path : (k v : ℕ) → Path (m .topology) t v k → (x : Splittable (m .topology) v) → RoomFor (max 1 k) m
-        → m .topology .vertices + max 1 k + boundaryOf (m .topology) v x ≤ vertexSlots m
+    refine-path : (k v : ℕ) → Path (m .topology) t v k → (x : Splittable (m .topology) v)
+        → RoomFor (max 1 k + boundaryOf (m .topology) v x) (2 * max 1 k) m
         → Refined t (max 1 k) (boundaryOf (m .topology) v x) m (refine t (atFirst m))
     unfolding refine F K
-    refine-path zero v (ends _) x R i =
-        refined-of (topOf (m .topology) t x) 1 (boundaryOf (m .topology) t x) (low-top x) i (refine t (atFirst m))
+    refine-path zero v (ends _) x R =
+        refined-of (topOf (m .topology) t x) 1 (boundaryOf (m .topology) t x) (low-top x) (omega (arith, R .vertices))
+        (refine t (atFirst m))
         (raise-own (generation (m .topology) t) t (atFirst m) x F K b (sound-room 1 (S .tables) R))
-    refine-path (suc k) v p x R i =
+    refine-path (suc k) v p x R =
         let j : 2 * suc k ≤ generation (m .topology) t + 1 = path-short F K b p in
         let z : max 1 (suc k) ≡ suc k = omega arith in
-        let R′ : Room (suc k) (m .topology) = sound-room (suc k) (S .tables) (subst (λ (y : ℕ). RoomFor y m) z R) in
+        let R′ : RoomFor (suc k + boundaryOf (m .topology) v x) (2 * suc k) m =
+        subst (λ (y : ℕ). RoomFor (y + boundaryOf (m .topology) v x) (2 * y) m) z R in
         subst (λ (y : ℕ). Refined t y (boundaryOf (m .topology) v x) m (refine t (atFirst m))) (sym z)
-        (refined-of (generation (m .topology) t) (suc k) (boundaryOf (m .topology) v x) (omega arith) (omega arith)
-        (refine t (atFirst m))
-        (raise-chain k (suc (generation (m .topology) t)) t v (atFirst m) x F K b p (omega arith) R′))
+        (refined-of (generation (m .topology) t) (suc k) (boundaryOf (m .topology) v x) (omega arith)
+        (omega (arith, R′ .vertices)) (refine t (atFirst m))
+        (raise-chain k (suc (generation (m .topology) t)) t v (atFirst m) x F K b p (omega arith)
+        (sound-room (suc k) (S .tables) R′)))
 
     boundary-none-of : (v : ℕ) (x : Splittable (m .topology) v) → boundaryOf (m .topology) v x ≡ 0
     boundary-none-of v (isEven e) = refl
 
     -- Where the chain ends at an even triangle and there is room.
     pub refine-refined : generation (m .topology) (chainEnd (m .topology) t) % 2 ≡ 0
-        → RoomFor (splitsOf (m .topology) t) m
+        → RoomFor (splitsOf (m .topology) t) (2 * splitsOf (m .topology) t) m
         → Refined t (splitsOf (m .topology) t) 0 m (refine t (atFirst m))
     refine-refined e R =
         let p = chain-path t m S b e in
         let x = path-fit p in
         let z = boundary-none-of (chainEnd (m .topology) t) x in
         subst (λ (q : ℕ). Refined t (splitsOf (m .topology) t) q m (refine t (atFirst m))) z
-        (refine-path (chainOdd (m .topology) t) (chainEnd (m .topology) t) p x R (omega (arith, R .vertices)))
+        (refine-path (chainOdd (m .topology) t) (chainEnd (m .topology) t) p x
+        (record { vertices = omega (arith, R .vertices); triangles = R .triangles }))

@@ -217,7 +217,7 @@ pub record NextSplit (v : ℕ) (w : Work) : Type 0 where
   pub tables : TablesAgree (w .mesh)
   pub inUse : v < reached w .triangles
   pub young : generation (reached w) v < 20
-  pub room : RoomFor 1 (w .mesh)
+  pub room : RoomFor 1 2 (w .mesh)
 
 module _ {t : ℕ} {m : Mesh} (R : RefineFound t m) where
   ahead : Ahead (splitsOf (m .topology) t) (generation (m .topology) t) t (atFirst m)

@@ -1,5 +1,5 @@
 -- The face split with its flips.
-use mathlib.Core.Path.{_≡_, refl, ap, _∙_, subst}
+use mathlib.Core.Path.{_≡_, refl, sym, ap, _∙_, subst}
 use mathlib.Core.Logic.{_≢_, _⊎_, inl, inr}
 use mathlib.Core.Bool.{Bool, true, false}
 use mathlib.Core.List.{List, [], _∷_}
@@ -12,7 +12,7 @@ use Rattle.rules.proofs.Splits.Cut.{Cut, CutResult, Onto, Spread, cut-s
 use Rattle.rules.proofs.Splits.Edges.{split-boundary}
 use Rattle.rules.proofs.Links.Manifold.{Partnered, Manifold, Base, partnered, no-self}
 use Rattle.rules.proofs.Splits.Odds.{split-odds, settling-odds}
-use Rattle.rules.proofs.Splits.Places.{Places, places-new}
+use Rattle.rules.proofs.Splits.Places.{Places, places-stay, places-on, places-new}
 use Rattle.rules.proofs.Numbers.Rounding.{third-in-range}
 use Rattle.rules.proofs.Splits.Settled.{Settled, done, then, Among, Children, Distinct, children-on}
 use Rattle.rules.proofs.Links.Sides.{by-triangle, by-slot}
@@ -23,7 +23,7 @@ use Rattle.rules.proofs.Splits.SplitRead.{split-splits}
 use Rattle.rules.specs.Numbers.{InRange}
 use Rattle.rules.specs.Promises.{odds}
 use Rattle.rules.specs.Split.{Work, split, flip, withSplit, withFlip, centre, splitPlaced, settle, settleAll}
-use Rattle.rules.specs.Split.{faceSplit}
+use Rattle.rules.specs.Split.{faceSplit, thirdOf}
 use Rattle.rules.specs.Tables.{Topology, Mesh, withTopology, sides, origin, boundary, link, generation, isBase}
 use Rattle.rules.specs.Tables.{coordinate, putThree}
 
@@ -69,7 +69,7 @@ module _ (v : ℕ) (m n : Topology) (F : Manifold m) (b : v < m .triangles) (eve
         cornerRoom = S .cornerRoom;
         linkRoom = S .linkRoom;
         generationRoom = S .generationRoom;
-        boundaryCount = omega (arith, split-boundary v m n F b S);
+        boundaryCount = split-boundary v m n F b S;
         odd = o;
         high = omega arith;
         own = omega (arith, S .generationT);
@@ -191,6 +191,10 @@ settle-positions s w = go (isBase m (link m (3 * s)))
     go true = refl
     go false = refl
 
+settled-positions : (cs : List ℕ) (w : Work) → settleAll cs w .mesh .positions ≡ w .mesh .positions
+settled-positions [] w = refl
+settled-positions (c ∷ cs) w = settled-positions cs (settle c w) ∙ settle-positions c w
+
 -- A face split places its vertex at the centre, and no other.
 pub face-positions : (t : ℕ) (w : Work)
     → faceSplit t w .mesh .positions
@@ -201,51 +205,58 @@ face-positions t w = simp settle-positions
 
 -- ---- any split, with what is counted and placed
 
+-- The split of v into children of generation g, with p vertices and r boundary sides more. The face split has r = 0 and
+-- makes three odd triangles, the rim split r = 2 and makes one.
 pub record Splitting (v g p r : ℕ) (w x : Work) : Type 0 where
   pub result : CutResult v g p r (reached w) (reached x)
   pub splits : x .splits ≡ suc (w .splits)
-  pub odd : 2 * x .flips + odds (reached x) ≡ 2 * w .flips + odds (reached w) + 3
+  pub odd : 2 * x .flips + odds (reached x) + r ≡ 2 * w .flips + odds (reached w) + 3
   pub places : Places (w .mesh) (x .mesh)
 
--- The centre of a triangle in use is in range where the vertices are.
-centre-in-range : (m : Mesh) (t k : ℕ) → Manifold (m .topology) → t < m .topology .triangles → k < 3
-    → ((i : ℕ) → i < 3 * m .topology .vertices → InRange (getD (m .positions) i (pos 0))) → InRange (centre m t k)
-unfolding centre
-centre-in-range m t k F b l a =
-    let c = F .corner in
-    third-in-range (at (3 * t + 0) (omega arith)) (at (3 * t + 1) (omega arith)) (at (3 * t + 2) (omega arith))
+-- A cut whose new vertices are placed, counted and settled.
+splitting-of : (v g p r : ℕ) (cs : List ℕ) (w : Work) (k : Mesh) → Manifold (reached w) → v < reached w .triangles
+    → Cut v g cs p r (reached w) (k .topology) → odds (k .topology) + r ≡ odds (reached w) + 3 → Places (w .mesh) k
+    → Splitting v g p r w (settleAll cs (withSplit k w))
+splitting-of v g p r cs w k F b C o P =
+    let A = settles-all (reached w .vertices) g cs (withSplit k w) (C .manifold) (C .children) (C .distinct) in
+    let K = counted A in
+    let x : Work = settleAll cs (withSplit k w) in
+    let result = cut-settled v g cs p r (reached w) (k .topology) (reached x) F b C (settled-of A) in
+    record {
+      result = result;
+      splits = K .splits;
+      odd = omega (arith, K .odd);
+      places = places-on P (places-stay k (x .mesh) (settled-positions cs (withSplit k w))
+          (result .vertices ∙ sym (C .vertices)));
+    }
+
+-- A third of corners of a triangle in use is in range where the vertices are.
+third-fits : (h i j : ℕ) (m : Mesh) (t : ℕ) → Manifold (m .topology) → t < m .topology .triangles → h < 3 → i < 3
+    → j < 3
+    → ((i : ℕ) → i < 3 * m .topology .vertices → InRange (getD (m .positions) i (pos 0)))
+    → InRange (thirdOf h i j m t 0) × InRange (thirdOf h i j m t 1) × InRange (thirdOf h i j m t 2)
+third-fits h i j m t F b x y z a = (all 0 (omega arith), all 1 (omega arith), all 2 (omega arith))
   where
-    at : (h : ℕ) → h < sides (m .topology) → InRange (coordinate m (origin (m .topology) h) k)
-    at h i = a (3 * origin (m .topology) h + k) (omega (arith, F .corner h i))
+    at : (i k : ℕ) → i < 3 → k < 3 → InRange (coordinate m (origin (m .topology) (3 * t + i)) k)
+    at i k l q =
+        a (3 * origin (m .topology) (3 * t + i) + k) (omega (arith, F .corner (3 * t + i) (omega arith)))
+
+    all : (k : ℕ) → k < 3 → InRange (thirdOf h i j m t k)
+    all k q = third-in-range (at h k x q) (at i k y q) (at j k z q)
 
 module _ (v : ℕ) (w : Work) (F : Manifold (reached w)) (b : v < reached w .triangles) (R : Room 1 (reached w)) where
   pub face-splitting : generation (reached w) v % 2 ≡ 0
       → Splitting v (suc (generation (reached w) v)) 1 0 w (faceSplit v w)
-  unfolding faceSplit splitPlaced
+  unfolding faceSplit splitPlaced centre
   face-splitting even =
       let rc = R .corners in
       let rl = R .links in
       let rg = R .generations in
       let m : Topology = reached w in
-      let cs : List ℕ = v ∷ m .triangles ∷ (m .triangles + 1) ∷ [] in
       let S : Splits v m (split v m) = split-splits v m F b (omega arith) (omega arith) (omega arith) in
       let N : Manifold (split v m) =
       split-manifold v m (split v m) F b even S (omega arith) (omega arith) (omega arith) in
-      let C = face-cut v m (split v m) F b even S N in
-      let A =
-      settles-all (m .vertices) (suc (generation m v)) cs (withSplit (splitPlaced v (w .mesh)) w) N (C .children)
-      (C .distinct) in
-      let K = counted A in
-      let result =
-      cut-settled v (suc (generation m v)) cs 1 0 m (split v m) (reached (faceSplit v w)) F b C (settled-of A) in
-      record {
-        result = result;
-        splits = K .splits;
-        odd = omega (arith, K .odd, split-odds v m (split v m) b even S);
-        places = places-new (w .mesh) (faceSplit v w .mesh) _ (omega (arith, result .vertices)) (face-positions v w)
-            (λ a. (
-              centre-in-range (w .mesh) v 0 F b (omega arith) a,
-              centre-in-range (w .mesh) v 1 F b (omega arith) a,
-              centre-in-range (w .mesh) v 2 F b (omega arith) a,
-            ));
-      }
+      splitting-of v _ 1 0 _ w (splitPlaced v (w .mesh)) F b (face-cut v m (split v m) F b even S N)
+      (split-odds v m (split v m) b even S)
+      (places-new (w .mesh) (splitPlaced v (w .mesh)) _ (S .vertices) refl
+      (third-fits 0 1 2 (w .mesh) v F b (omega arith) (omega arith) (omega arith)))

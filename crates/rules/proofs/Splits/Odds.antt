@@ -1,5 +1,6 @@
 -- The number of odd triangles: a face split makes three, and a flip takes two away.
 use mathlib.Core.Path.{_≡_, sym, ap, _∙_}
+use mathlib.Core.Logic.{_≢_}
 use Prim.Native.Nat.{ℕ, suc, _+_, _*_, _%_, _<_}
 use native.Mathlib.Omega.{arith}
 use Rattle.rules.proofs.Splits.Bases.{Settling, kept, flipped, flipsOf}
@@ -11,31 +12,36 @@ use Rattle.rules.specs.Below.{total}
 use Rattle.rules.specs.Promises.{odds}
 use Rattle.rules.specs.Tables.{Topology, generation}
 
-odd-next : {t y : ℕ} → t % 2 ≡ 0 → y ≡ suc t → y % 2 ≡ 1
-odd-next e q = omega arith
-
-three-more : (n o x t y f e : ℕ) → x + t % 2 ≡ o + y % 2 → n ≡ x + f % 2 + e % 2 → t % 2 ≡ 0 → y ≡ suc t → f ≡ suc t
-    → e ≡ suc t → n ≡ o + 3
-three-more n o x t y f e a b c p q r =
-    let i = odd-next c p in
-    let j = odd-next c q in
-    let k = odd-next c r in
-    sum i j k a b c
-  where
-    sum : {y f e t : ℕ} → y ≡ 1 → f ≡ 1 → e ≡ 1 → x + t ≡ o + y → n ≡ x + f + e → t ≡ 0 → n ≡ o + 3
-    sum i j k a b c = omega arith
-
-pub split-odds : (t : ℕ) (m n : Topology) → t < m .triangles → generation m t % 2 ≡ 0 → Splits t m n
-    → odds n ≡ odds m + 3
+-- The three triangles in the place of t, and the others as they are.
+three-written : (t : ℕ) (m n : Topology) → t < m .triangles → n .triangles ≡ m .triangles + 2
+    → ((x : ℕ) → x < m .triangles → x ≢ t → generation n x ≡ generation m x)
+    → odds n + generation m t % 2
+    ≡ odds m + (generation n t % 2 + generation n (m .triangles) % 2 + generation n (m .triangles + 1) % 2)
 unfolding odds
-split-odds t m n b even S =
+three-written t m n b w same =
     let f : ℕ = m .triangles in
     let g : ℕ → ℕ = λ x. generation n x % 2 in
     let c : total f g + generation m t % 2 ≡ total f (λ x. generation m x % 2) + generation n t % 2 =
-    total-change f t (λ x. generation m x % 2) g b (λ x l i. sym (ap (λ (y : ℕ). y % 2) (S .generations x l i))) in
+    total-change f t (λ x. generation m x % 2) g b (λ x l i. sym (ap (λ (y : ℕ). y % 2) (same x l i))) in
     let d : total (n .triangles) g ≡ total f g + generation n f % 2 + generation n (f + 1) % 2 =
-    ap (λ (x : ℕ). total x g) (S .triangles) ∙ total-two f g in
-    three-more _ _ _ _ _ _ _ c d even (S .generationT) (S .generationF) (S .generationE)
+    ap (λ (x : ℕ). total x g) w ∙ total-two f g in
+    sum _ _ _ _ _ _ _ c d
+  where
+    sum : (n x t o y f e : ℕ) → x + t ≡ o + y → n ≡ x + f + e → n + t ≡ o + (y + f + e)
+    sum n x t o y f e a b = omega arith
+
+odd-next : {x y : ℕ} → x % 2 ≡ 0 → y ≡ suc x → y % 2 ≡ 1
+odd-next e q = omega arith
+
+sum-of : (n o t a b c : ℕ) {x y z w : ℕ} → n + t ≡ o + (a + b + c) → t ≡ x → a ≡ y → b ≡ z → c ≡ w
+    → n + x ≡ o + (y + z + w)
+sum-of n o t a b c e p q r s = omega arith
+
+pub split-odds : (t : ℕ) (m n : Topology) → t < m .triangles → generation m t % 2 ≡ 0 → Splits t m n
+    → odds n + 0 ≡ odds m + 3
+split-odds t m n b even S =
+    sum-of (odds n) (odds m) _ _ _ _ (three-written t m n b (S .triangles) (S .generations)) even
+    (odd-next even (S .generationT)) (odd-next even (S .generationF)) (odd-next even (S .generationE))
 
 pub flip-odds : (s u : ℕ) (m n : Topology) → BasesMeet s u m → Flips s u m n → odds n + 2 ≡ odds m
 unfolding odds

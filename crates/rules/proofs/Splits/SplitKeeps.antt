@@ -9,7 +9,7 @@ use Rattle.rules.proofs.Links.Manifold.{Manifold, level, Joined, level�
 use Rattle.rules.proofs.Links.Manifold.{target₂}
 use Rattle.rules.proofs.Links.Manifold.{rotate₀, rotate₁, rotate₂, pair-both, few, no-self}
 use Rattle.rules.proofs.Links.Renaming.{Renames, linked, fan-map}
-use Rattle.rules.proofs.Links.Sides.{previous-lt, by-triangle}
+use Rattle.rules.proofs.Links.Sides.{previous-lt, by-triangle, by-side}
 use Rattle.rules.proofs.Splits.SplitRead.{Splits, splitName, split-name₀, split-name₁, split-name₂}
 use Rattle.rules.proofs.Splits.SplitRead.{split-name-else}
 use Rattle.rules.specs.Sound.{OneFan, Turns, here, turn}
@@ -78,13 +78,7 @@ module _ (t : ℕ) (m n : Topology) (F : Manifold m) (b : t < m .triangles) (eve
       → (P (3 * m .triangles) × P (3 * m .triangles + 1) × P (3 * m .triangles + 2))
       → (P (3 * (m .triangles + 1)) × P (3 * (m .triangles + 1) + 1) × P (3 * (m .triangles + 1) + 2))
       → ((h : ℕ) → h < sides m → h / 3 ≢ t → P h) → (k : ℕ) → k < sides n → P k
-  by-new P x y z q =
-      let w = S .triangles in
-      by-triangle (λ k. k < sides n → P k) t (λ _. x .0) (λ _. x .1) (λ _. x .2) (λ h i.
-      by-triangle (λ k. k / 3 ≢ t → k < sides n → P k) (m .triangles) (λ _ _. y .0) (λ _ _. y .1) (λ _ _. y .2) (λ h j.
-      by-triangle (λ k. k / 3 ≢ m .triangles → k / 3 ≢ t → k < sides n → P k) (m .triangles + 1) (λ _ _ _. z .0)
-      (λ _ _ _. z .1) (λ _ _ _. z .2)
-      (λ h u v w′ l. q h (omega arith) w′) h j) h i)
+  by-new P = by-side t (m .triangles) (n .triangles) P (S .triangles)
 
   old : (h k : ℕ) → name h ≡ k → h < sides m → Joined n k
   old h k e l = rw e at (linked m n (λ _. Unit {0}) name renames h l tt (F .linked h l))

@@ -11,7 +11,8 @@ use Rattle.rules.proofs.Links.Past.{Past, drop-put, drop-told, joined-b
 use Rattle.rules.proofs.Links.Sides.{renameTwo, rename-a, rename-b, rename-else, Mutual, relinked, length-put}
 use Rattle.rules.proofs.Links.Sides.{put-else, Row, put-row, row-else}
 use Rattle.rules.specs.Split.{split}
-use Rattle.rules.specs.Tables.{Topology, sides, origin, boundary, link, generation, putThree}
+use Rattle.rules.specs.Tables.{Topology, sides, origin, boundary, link, generation, putThree, putTriangle, relink}
+use Rattle.rules.specs.Tables.{withCounts}
 
 -- The names of the old sides after the split of t: its sides 1 and 2 become the bases of the new slots f and f + 1.
 abbrev pub splitName : ℕ → ℕ → ℕ → ℕ
@@ -95,6 +96,33 @@ cells l d t f e a b c p q r =
       λ h i j k. simp getD-set-other,
     )
 
+-- Nothing is written past three triangles that take the place of t, with the links of its sides 1 and 2 told.
+pub past-three : (t : ℕ) (m : Topology) → Manifold m → t < m .triangles → (c : ℕ) (x y z x′ y′ z′ : ℕ × ℕ × ℕ)
+    (k₁ k₂ g₁ g₂ g₃ : ℕ) → m .triangles + 2 ≤ c
+    → {v n : ℕ} → Past c m (withCounts v n (putTriangle (m .triangles + 1) z z′ g₃ (putTriangle (m .triangles) y y′ g₂
+    (putTriangle t x x′ g₁ (relink (link m (3 * t + 2)) k₂ (relink (link m (3 * t + 1)) k₁ m))))))
+past-three t m F b c x y z x′ y′ z′ k₁ k₂ g₁ g₂ g₃ i =
+    let l : List ℕ = set (m .links) (link m (3 * t + 1)) k₁ in
+    record {
+      corners = drop-three (m .corners) x y z;
+      links =
+          drop-three (set l (link m (3 * t + 2)) k₂) x′ y′ z′
+          ∙ drop-told l c (link m (3 * t + 2)) k₂ (rw length-set (F .linkSlots))
+          (joined-below m c (3 * t + 2) (omega arith) (F .linked (3 * t + 2) (omega arith)))
+          ∙ drop-told (m .links) c (link m (3 * t + 1)) k₁ (F .linkSlots)
+          (joined-below m c (3 * t + 1) (omega arith) (F .linked (3 * t + 1) (omega arith)));
+      generations =
+          drop-set-lt c _ (m .triangles + 1) _ (omega arith) ∙ drop-set-lt c _ (m .triangles) _ (omega arith)
+          ∙ drop-set-lt c _ t _ (omega arith);
+    }
+  where
+    drop-three : (l : List ℕ) (x y z : ℕ × ℕ × ℕ)
+        → drop (3 * c) (putThree (m .triangles + 1) z (putThree (m .triangles) y (putThree t x l))) ≡ drop (3 * c) l
+    drop-three l x y z =
+        drop-put (putThree (m .triangles) y (putThree t x l)) (m .triangles + 1) c z (omega arith)
+        ∙ drop-put (putThree t x l) (m .triangles) c y (omega arith)
+        ∙ drop-put l t c x (omega arith)
+
 module _ (t : ℕ) (m : Topology) (F : Manifold m) (b : t < m .triangles)
     (cornerRoom : 3 * m .triangles + 6 ≤ length (m .corners)) (linkRoom : 3 * m .triangles + 6 ≤ length (m .links))
     (generationRoom : m .triangles + 2 ≤ length (m .generations)) where
@@ -139,34 +167,5 @@ module _ (t : ℕ) (m : Topology) (F : Manifold m) (b : t < m .triangles)
         cornerRoom = simp length-set;
         linkRoom = simp length-set;
         generationRoom = simp length-set;
-        past = past;
+        past = λ c i. past-three t m F b c _ _ _ _ _ _ (3 * f) (3 * e) g g g i;
       }
-    where
-      past : (b : ℕ) → m .triangles + 2 ≤ b → Past b m (split t m)
-      past c i =
-          let f : ℕ = m .triangles in
-          let e : ℕ = f + 1 in
-          let a₁ : ℕ = link m (3 * t + 1) in
-          let a₂ : ℕ = link m (3 * t + 2) in
-          let l₁ : List ℕ = set (m .links) a₁ (3 * f) in
-          let l₂ : List ℕ = set l₁ a₂ (3 * e) in
-          record {
-            corners = drop-three (m .corners) t c _ _ _ b i;
-            links =
-                drop-three l₂ t c _ _ _ b i
-                ∙ drop-told l₁ c a₂ (3 * e) (rw length-set (F .linkSlots))
-                (joined-below m c (3 * t + 2) (omega arith) (F .linked (3 * t + 2) (omega arith)))
-                ∙ drop-told (m .links) c a₁ (3 * f) (F .linkSlots)
-                (joined-below m c (3 * t + 1) (omega arith) (F .linked (3 * t + 1) (omega arith)));
-            generations =
-                drop-set-lt c _ e _ (omega arith) ∙ drop-set-lt c _ f _ (omega arith) ∙ drop-set-lt c _ t _
-                (omega arith);
-          }
-        where
-          drop-three : (l : List ℕ) (t c : ℕ) (x y z : ℕ × ℕ × ℕ) → t < m .triangles → m .triangles + 2 ≤ c
-              → drop (3 * c) (putThree (m .triangles + 1) z (putThree (m .triangles) y (putThree t x l)))
-              ≡ drop (3 * c) l
-          drop-three l t c x y z i j =
-              drop-put (putThree (m .triangles) y (putThree t x l)) (m .triangles + 1) c z (omega arith)
-              ∙ drop-put (putThree t x l) (m .triangles) c y (omega arith)
-              ∙ drop-put l t c x (omega arith)

@@ -3,7 +3,7 @@ use mathlib.Core.Path.{_≡_, refl}
 use mathlib.Core.Logic.{_≢_}
 use mathlib.Core.Bool.{Bool, true, not}
 use mathlib.Core.List.{[], _∷_}
-use Prim.Native.Nat.{ℕ}
+use Prim.Native.Nat.{ℕ, _*_}
 use lib.Dec.{eqb, ltb}
 use lib.ListN.{length}
 use Rattle.rules.proofs.Numbers.Decide.{is-true, is-same}
@@ -23,7 +23,8 @@ longRing m = any (m .topology .vertices) (λ v. ltb 12 (length (ring (m .topolog
 
 -- The refusal of a sound mesh by the answers of the later tests. A test that was not made stands for itself.
 pub step-by-tests : {m : Mesh} {c g r s : Bool} → Sound m → closedEven (m .topology) ≡ c
-    → eqb (generation (m .topology) 0) 20 ≡ g → longRing m ≡ r → roomFor (m .topology .triangles) m ≡ s
+    → eqb (generation (m .topology) 0) 20 ≡ g → longRing m ≡ r
+    → roomFor (m .topology .triangles) (2 * m .topology .triangles) m ≡ s
     → firstOf (12 if not c ∷ 9 if g ∷ 13 if r ∷ 11 if not s ∷ []) ≡ wholeStepRefusal m
 unfolding wholeStepRefusal
 step-by-tests {m} S c g r s =

@@ -4,6 +4,7 @@ use borrow.Author.Tests.{eq-eqb, ne-eqb, not-true, not-false}
 use native.Mathlib.Omega.{arith}
 use mathlib.Core.Bool.{true, false}
 use mathlib.Core.Path.{_≡_, refl, sym, _∙_}
+use Prim.Native.Nat.{_*_}
 use lib.Dec.{eqb}
 use Rattle.rules.proofs.Steps.StepRefusals.{longRing, step-by-tests}
 use Rattle.rules.specs.Calls.{closedEven, roomFor}
@@ -48,7 +49,7 @@ short c =
 -- What is told of the room for it.
 room-told : (c : tie.After-has-room) →
     let m = mesh (start (c .before .before .before .before .before .before .before)) in
-    c .has-room .result ≡ roomFor (m .topology .triangles) m
+    c .has-room .result ≡ roomFor (m .topology .triangles) (2 * m .topology .triangles) m
 room-told c =
     let m = mesh (start (c .before .before .before .before .before .before .before)) in
     c .has-room .ensures (m .topology .corners) (m .topology .links)
