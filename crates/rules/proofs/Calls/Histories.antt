@@ -21,7 +21,7 @@ use Rattle.rules.proofs.Loads.Load.{load-sound}
 use Rattle.rules.proofs.Links.Manifold.{partnered}
 use Rattle.rules.proofs.Chains.Refine.{Refined, chain-counts, chain-bound}
 use Rattle.rules.proofs.Soundness.Relaxed.{sound-manifold}
-use Rattle.rules.proofs.Splits.SplitRead.{mutual-links}
+use Rattle.rules.proofs.Splits.Parts.{mutual-links}
 use Rattle.rules.specs.Below.{all}
 use Rattle.rules.specs.Cage.{cageOf, loaded}
 use Rattle.rules.specs.Calls.{Outcome, worked, loadRefusal, refineCall}

@@ -8,7 +8,7 @@ use borrow.Author.Tests.{ne-eqb}
 use Rattle.rules.proofs.Splits.Bases.{reached}
 use Rattle.rules.proofs.Splits.Cut.{CutResult}
 use Rattle.rules.proofs.Numbers.Decide.{odd-test, even-test}
-use Rattle.rules.proofs.Splits.FaceSplit.{Room, Splitting, face-splitting}
+use Rattle.rules.proofs.Splits.Splitting.{Room, Splitting, face-splitting}
 use Rattle.rules.proofs.Links.Manifold.{Partnered, Manifold, level, BasesMeetIn, level₀, partnered}
 use Rattle.rules.proofs.Chains.Runs.{Splittable, isEven, even-of, cut}
 use Rattle.rules.proofs.Splits.Settled.{nowhere}

@@ -9,7 +9,7 @@ use Rattle.rules.proofs.Chains.Chain.{Path, ends, across, falls, path-e
 use Rattle.rules.proofs.Chains.Chain.{Shorter}
 use Rattle.rules.proofs.Chains.Chain.{stays, shortens}
 use Rattle.rules.proofs.Numbers.Decide.{odd-test, even-test}
-use Rattle.rules.proofs.Splits.FaceSplit.{Room, room-fewer, face-splitting}
+use Rattle.rules.proofs.Splits.Splitting.{Room, room-fewer, face-splitting}
 use Rattle.rules.proofs.Links.Manifold.{Manifold, BasesMeetIn}
 use Rattle.rules.proofs.Chains.Raise.{raise-stops, raise-splits, room-rest, raise-cuts}
 use Rattle.rules.proofs.Chains.Refine.{sound-room, chain-path, chain-bound}

@@ -10,7 +10,7 @@ use Rattle.rules.proofs.Chains.Chain.{path-high}
 use Rattle.rules.proofs.Chains.Chain.{shortens}
 use Rattle.rules.proofs.Splits.Cut.{CutResult}
 use Rattle.rules.proofs.Splits.Edges.{boundarySides}
-use Rattle.rules.proofs.Splits.FaceSplit.{Room, room-fewer}
+use Rattle.rules.proofs.Splits.Splitting.{Room, room-fewer}
 use Rattle.rules.proofs.Links.Manifold.{Manifold, BasesMeetIn}
 use Rattle.rules.proofs.Links.Past.{Past, past-on}
 use Rattle.rules.proofs.Splits.Places.{Places, places-on}

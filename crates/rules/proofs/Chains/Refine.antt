@@ -6,7 +6,7 @@ use lib.ListN.{length}
 use Rattle.rules.proofs.Splits.Bases.{reached}
 use Rattle.rules.proofs.Chains.Chain.{Path, ends, topOf, boundaryOf, path-short, path-fit, path-counts, way}
 use Rattle.rules.proofs.Splits.Edges.{edges-boundary}
-use Rattle.rules.proofs.Splits.FaceSplit.{Room}
+use Rattle.rules.proofs.Splits.Splitting.{Room}
 use Rattle.rules.proofs.Links.Manifold.{Manifold, BasesMeetIn}
 use Rattle.rules.proofs.Links.Past.{Past}
 use Rattle.rules.proofs.Splits.Places.{Places}

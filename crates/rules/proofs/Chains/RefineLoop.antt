@@ -10,7 +10,7 @@ use Rattle.rules.proofs.Calls.Carried.{RefineFound}
 use Rattle.rules.proofs.Chains.Chain.{Path, ends, across, path-end, topOf, path-use, path-high, path-fit}
 use Rattle.rules.proofs.Chains.Chain.{Shorter}
 use Rattle.rules.proofs.Chains.Chain.{shortens}
-use Rattle.rules.proofs.Splits.FaceSplit.{Room, Splitting, room-fewer, face-splitting}
+use Rattle.rules.proofs.Splits.Splitting.{Room, Splitting, room-fewer, face-splitting}
 use Rattle.rules.proofs.Links.Manifold.{Manifold, BasesMeetIn}
 use Rattle.rules.proofs.Chains.Raise.{raise-stops, raise-splits, room-rest}
 use Rattle.rules.proofs.Chains.Refine.{sound-room, chain-path, chain-bound}

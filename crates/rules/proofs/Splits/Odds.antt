@@ -1,47 +1,43 @@
 -- The number of odd triangles: a face split makes three, and a flip takes two away.
 use mathlib.Core.Path.{_≡_, sym, ap, _∙_}
-use mathlib.Core.Logic.{_≢_}
 use Prim.Native.Nat.{ℕ, suc, _+_, _*_, _%_, _<_}
 use native.Mathlib.Omega.{arith}
 use Rattle.rules.proofs.Splits.Bases.{Settling, kept, flipped, flipsOf}
 use Rattle.rules.proofs.Splits.FlipKeeps.{BasesMeet}
 use Rattle.rules.proofs.Splits.FlipRead.{Flips}
-use Rattle.rules.proofs.Splits.SplitRead.{Splits}
+use Rattle.rules.proofs.Splits.Parts.{Parts, Parted, faceParts}
 use Rattle.rules.proofs.Numbers.Sums.{total-change, total-change₂, total-two}
 use Rattle.rules.specs.Below.{total}
 use Rattle.rules.specs.Promises.{odds}
 use Rattle.rules.specs.Tables.{Topology, generation}
 
--- The three triangles in the place of t, and the others as they are.
-three-written : (t : ℕ) (m n : Topology) → t < m .triangles → n .triangles ≡ m .triangles + 2
-    → ((x : ℕ) → x < m .triangles → x ≢ t → generation n x ≡ generation m x)
+-- The three triangles in the place of t count for it.
+parted-odds : (t : ℕ) (p : Parts) (m n : Topology) → t < m .triangles → Parted t p m n
     → odds n + generation m t % 2
-    ≡ odds m + (generation n t % 2 + generation n (m .triangles) % 2 + generation n (m .triangles + 1) % 2)
+    ≡ odds m + (p .own .generation % 2 + p .second .generation % 2 + p .third .generation % 2)
 unfolding odds
-three-written t m n b w same =
+parted-odds t p m n b S =
     let f : ℕ = m .triangles in
     let g : ℕ → ℕ = λ x. generation n x % 2 in
     let c : total f g + generation m t % 2 ≡ total f (λ x. generation m x % 2) + generation n t % 2 =
-    total-change f t (λ x. generation m x % 2) g b (λ x l i. sym (ap (λ (y : ℕ). y % 2) (same x l i))) in
+    total-change f t (λ x. generation m x % 2) g b (λ x l i. sym (ap (λ (y : ℕ). y % 2) (S .generations x l i))) in
     let d : total (n .triangles) g ≡ total f g + generation n f % 2 + generation n (f + 1) % 2 =
-    ap (λ (x : ℕ). total x g) w ∙ total-two f g in
-    sum _ _ _ _ _ _ _ c d
+    ap (λ (x : ℕ). total x g) (S .triangles) ∙ total-two f g in
+    sum _ _ _ _ _ _ _ c d (ap (λ (y : ℕ). y % 2) (S .own .generation)) (ap (λ (y : ℕ). y % 2) (S .second .generation))
+    (ap (λ (y : ℕ). y % 2) (S .third .generation))
   where
-    sum : (n x t o y f e : ℕ) → x + t ≡ o + y → n ≡ x + f + e → n + t ≡ o + (y + f + e)
-    sum n x t o y f e a b = omega arith
+    sum : (n x t o y f e : ℕ) {y′ f′ e′ : ℕ} → x + t ≡ o + y → n ≡ x + f + e → y ≡ y′ → f ≡ f′ → e ≡ e′
+        → n + t ≡ o + (y′ + f′ + e′)
+    sum n x t o y f e a b p q r = omega arith
 
-odd-next : {x y : ℕ} → x % 2 ≡ 0 → y ≡ suc x → y % 2 ≡ 1
-odd-next e q = omega arith
+-- What they count, by the generation g of t.
+odd-three : (n o g : ℕ) → n + g % 2 ≡ o + (suc g % 2 + suc g % 2 + suc g % 2) → g % 2 ≡ 0 → n + 0 ≡ o + 3
+odd-three n o g e i = omega arith
 
-sum-of : (n o t a b c : ℕ) {x y z w : ℕ} → n + t ≡ o + (a + b + c) → t ≡ x → a ≡ y → b ≡ z → c ≡ w
-    → n + x ≡ o + (y + z + w)
-sum-of n o t a b c e p q r s = omega arith
-
-pub split-odds : (t : ℕ) (m n : Topology) → t < m .triangles → generation m t % 2 ≡ 0 → Splits t m n
+pub split-odds : (t : ℕ) (m n : Topology) → t < m .triangles → generation m t % 2 ≡ 0 → Parted t (faceParts t m) m n
     → odds n + 0 ≡ odds m + 3
 split-odds t m n b even S =
-    sum-of (odds n) (odds m) _ _ _ _ (three-written t m n b (S .triangles) (S .generations)) even
-    (odd-next even (S .generationT)) (odd-next even (S .generationF)) (odd-next even (S .generationE))
+    odd-three (odds n) (odds m) (generation m t) (parted-odds t (faceParts t m) m n b S) even
 
 pub flip-odds : (s u : ℕ) (m n : Topology) → BasesMeet s u m → Flips s u m n → odds n + 2 ≡ odds m
 unfolding odds

@@ -11,7 +11,7 @@ use Rattle.rules.proofs.Splits.Bases.{reached}
 use Rattle.rules.proofs.Chains.Chain.{falls}
 use Rattle.rules.proofs.Splits.Cut.{Spread}
 use Rattle.rules.proofs.Splits.Edges.{boundarySides, no-boundary}
-use Rattle.rules.proofs.Splits.FaceSplit.{Room, face-positions, face-splitting}
+use Rattle.rules.proofs.Splits.Splitting.{Room, face-positions, face-splitting}
 use Rattle.rules.proofs.Links.Manifold.{Manifold, BasesMeetIn}
 use Rattle.rules.proofs.Links.Past.{Past, past-same, past-on}
 use Rattle.rules.proofs.Splits.Places.{Places, places-same, places-on}

@@ -8,7 +8,7 @@ use lib.ListN.{length, getD}
 use lib.IntN.{pos}
 use Rattle.rules.proofs.Splits.Bases.{reached}
 use Rattle.rules.proofs.Splits.Edges.{edges-boundary, boundary-none}
-use Rattle.rules.proofs.Splits.FaceSplit.{Room}
+use Rattle.rules.proofs.Splits.Splitting.{Room}
 use Rattle.rules.proofs.Chains.Refine.{sound-room}
 use Rattle.rules.proofs.Soundness.Relaxed.{sound-manifold, sound-bases, manifold-sound, agree-on}
 use Rattle.rules.proofs.Rings.RingVertices.{ring-coordinates, ring-some}

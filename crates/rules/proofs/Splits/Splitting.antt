@@ -1,31 +1,29 @@
 -- The face split with its flips.
-use mathlib.Core.Path.{_≡_, refl, sym, ap, _∙_, subst}
-use mathlib.Core.Logic.{_≢_, _⊎_, inl, inr}
+use mathlib.Core.Path.{_≡_, refl, sym, _∙_}
+use mathlib.Core.Logic.{inl, inr}
 use mathlib.Core.Bool.{Bool, true, false}
 use mathlib.Core.List.{List, [], _∷_}
 use Prim.Native.Nat.{ℕ, suc, _+_, _*_, _/_, _%_, _≤_, _<_}
 use native.Mathlib.Omega.{arith}
 use lib.ListN.{length, getD}
 use lib.IntN.{pos}
-use Rattle.rules.proofs.Splits.Bases.{Settles, boundary-not-base, reached, settle-settles, settling-manifold}
-use Rattle.rules.proofs.Splits.Cut.{Cut, CutResult, Onto, Spread, cut-settled}
+use Rattle.rules.proofs.Splits.Bases.{Settles, reached, settle-settles, settling-manifold}
+use Rattle.rules.proofs.Splits.Cut.{Cut, CutResult, cut-settled}
 use Rattle.rules.proofs.Splits.Edges.{split-boundary}
-use Rattle.rules.proofs.Links.Manifold.{Partnered, Manifold, Base, partnered, no-self}
+use Rattle.rules.proofs.Links.Manifold.{Manifold}
 use Rattle.rules.proofs.Splits.Odds.{split-odds, settling-odds}
+use Rattle.rules.proofs.Splits.Parts.{Parts, Parted, faceParts, parted-is, split-is}
+use Rattle.rules.proofs.Splits.PartsCut.{child, cut-of}
 use Rattle.rules.proofs.Splits.Places.{Places, places-stay, places-on, places-new}
 use Rattle.rules.proofs.Numbers.Rounding.{third-in-range}
-use Rattle.rules.proofs.Splits.Settled.{Settled, done, then, Among, Children, Distinct, children-on}
-use Rattle.rules.proofs.Links.Sides.{by-triangle, by-slot}
+use Rattle.rules.proofs.Splits.Settled.{Settled, done, then, Children, Distinct, children-on}
 use Rattle.rules.proofs.Splits.SplitKeeps.{split-manifold}
-use Rattle.rules.proofs.Splits.SplitRead.{Splits, splitName, split-name₀, split-name₁, split-name₂}
-use Rattle.rules.proofs.Splits.SplitRead.{split-name-else}
-use Rattle.rules.proofs.Splits.SplitRead.{split-splits}
 use Rattle.rules.specs.Numbers.{InRange}
 use Rattle.rules.specs.Promises.{odds}
 use Rattle.rules.specs.Split.{Work, split, flip, withSplit, withFlip, centre, splitPlaced, settle, settleAll}
 use Rattle.rules.specs.Split.{faceSplit, thirdOf}
-use Rattle.rules.specs.Tables.{Topology, Mesh, withTopology, sides, origin, boundary, link, generation, isBase}
-use Rattle.rules.specs.Tables.{coordinate, putThree}
+use Rattle.rules.specs.Tables.{Topology, Mesh, withTopology, origin, link, generation, isBase, coordinate}
+use Rattle.rules.specs.Tables.{putThree}
 
 -- Room for 2k triangles more.
 pub record Room (k : ℕ) (m : Topology) : Type 0 where
@@ -36,107 +34,41 @@ pub record Room (k : ℕ) (m : Topology) : Type 0 where
 pub room-fewer : (s k : ℕ) (m : Topology) → Room s m → k ≤ s → Room k m
 room-fewer s k m R i = omega arith
 
--- What the base of a child meets has an old centre.
-other : (v : ℕ) (m n : Topology) → Manifold m → Manifold n
-    → ((h : ℕ) → h < sides m → h / 3 ≢ v → origin n h ≡ origin m h)
-    → (h k : ℕ) → h < sides m → h / 3 ≡ v → link n k ≡ link m h → Base n (link n k)
-    → origin n (3 * (link n k / 3) + 2) < m .vertices
-other v m n F N corners h k l i e c =
-    let r : link m h ≢ boundary = λ w. boundary-not-base n N (subst (λ (x : ℕ). Base n x) (e ∙ w) c) in
-    let M : Partnered m h = partnered (F .linked h l) r in
-    let s : link m h / 3 ≢ h / 3 = no-self m h F l M in
-    let u : ℕ = link m h / 3 in
-    let z : u < m .triangles = omega (arith, M .inUse) in
-    let y : origin n (3 * u + 2) ≡ origin m (3 * u + 2) = corners (3 * u + 2) (omega arith) (omega arith) in
-    let w : origin n (3 * (link n k / 3) + 2) ≡ origin n (3 * u + 2) = ap (λ (x : ℕ). origin n (3 * (x / 3) + 2)) e in
-    let o : origin m (3 * u + 2) < m .vertices = F .corner (3 * u + 2) (omega arith) in
-    omega arith
-
 -- ---- the face split
 
 module _ (v : ℕ) (m n : Topology) (F : Manifold m) (b : v < m .triangles) (even : generation m v % 2 ≡ 0)
-    (S : Splits v m n) (N : Manifold n) where
-  pub face-cut : Cut v (suc (generation m v)) (v ∷ m .triangles ∷ (m .triangles + 1) ∷ []) 1 0 m n
+    (S : Parted v (faceParts v m) m n) (N : Manifold n) where
+  face-cut : Cut v (suc (generation m v)) (v ∷ m .triangles ∷ (m .triangles + 1) ∷ []) 1 0 m n
   face-cut =
       let f : ℕ = m .triangles in
       let e : ℕ = f + 1 in
+      let p : Parts = faceParts v m in
       let o : suc (generation m v) % 2 ≡ 1 = omega arith in
       let w = S .triangles in
-      record {
-        manifold = N;
-        vertices = omega (arith, S .vertices);
-        triangles = w;
-        cornerRoom = S .cornerRoom;
-        linkRoom = S .linkRoom;
-        generationRoom = S .generationRoom;
-        boundaryCount = split-boundary v m n F b S;
+      cut-of v p m n F b S N (suc (generation m v)) 1 0 (f ∷ e ∷ []) (omega arith) (record {
         odd = o;
         high = omega arith;
-        own = omega (arith, S .generationT);
         children = (
-          record {
-            inUse = omega arith;
-            generations = S .generationT;
-            odd = o;
-            fresh = omega (arith, S .cornersT .2);
-            other = other v m n F N (S .corners) (3 * v) (3 * v) (omega arith) (omega arith) (S .linksT .0);
-          },
+          child v p m n F b S N (3 * v) (omega arith) (S .own .generation) o (omega (arith, S .own .corners .2))
+              (omega arith) (omega arith) (S .own .links .0),
           (
-            record {
-              inUse = omega arith;
-              generations = S .generationF;
-              odd = o;
-              fresh = omega (arith, S .cornersF .2);
-              other = other v m n F N (S .corners) (3 * v + 1) (3 * f) (omega arith) (omega arith) (S .linksF .0);
-            },
+            child v p m n F b S N (3 * v + 1) (omega arith) (S .second .generation) o
+                (omega (arith, S .second .corners .2)) (omega arith) (omega arith) (S .second .links .0),
             (
-              record {
-                inUse = omega arith;
-                generations = S .generationE;
-                odd = o;
-                fresh = omega (arith, S .cornersE .2);
-                other = other v m n F N (S .corners) (3 * v + 2) (3 * e) (omega arith) (omega arith) (S .linksE .0);
-              },
+              child v p m n F b S N (3 * v + 2) (omega arith) (S .third .generation) o
+                  (omega (arith, S .third .corners .2)) (omega arith) (omega arith) (S .third .links .0),
               tt,
             ),
           ),
         );
         distinct = ((omega arith, (omega arith, tt)), ((omega arith, tt), (tt, tt)));
-        mine = mine;
-        spread =
-            by-slot v f (n .triangles)
-            (Spread v (suc (generation m v)) m n) w
-            (inr (inl (S .generationT))) (inr (inl (S .generationF))) (inr (inl (S .generationE))) (λ x l i. inl
-            (l, i, S .generations x l i));
-        generations = S .generations;
-        corners = S .corners;
-        links = λ h l i j. S .links h l i ∙ split-name-else v f (link m h) (omega arith) (omega arith);
-        into =
-            λ h l i. by-triangle
-            (λ k. link m h ≡ k → k / 3 ≡ v → Onto (v ∷ m .triangles ∷ (m .triangles + 1) ∷ []) (link n h)) v
-            (λ q _. inl (renamed h l i q (split-name₀ v f)))
-            (λ q _. inr (inl (renamed h l i q (split-name₁ v f))))
-            (λ q _. inr (inr (inl (renamed h l i q (split-name₂ v f)))))
-            (λ k x _ y. absurd (x y)) (link m h) refl;
-        bases =
-            λ h l x. by-slot v f (n .triangles)
-            (λ y. h / 3 ≡ y → ((h < sides m) × (h / 3 ≢ v)) ⊎ Among (v ∷ m .triangles ∷ (m .triangles + 1) ∷ [])
-            (h / 3))
-            w
-            (λ q. inr (inl q)) (λ q. inr (inr (inl q))) (λ q. inr (inr (inr (inl q)))) (λ y i j q. inl
-            (omega arith, omega arith)) (h / 3) (omega arith) refl;
-        past = λ b i. S .past b (omega arith);
-      }
-    where
-      renamed : (h : ℕ) → h < sides m → h / 3 ≢ v → {k j : ℕ} → link m h ≡ k → splitName v (m .triangles) k ≡ j
-          → link n h ≡ j
-      renamed h l i q e = S .links h l i ∙ ap (splitName v (m .triangles)) q ∙ e
-
-      mine : (x : ℕ) → x < m .triangles → Among (v ∷ m .triangles ∷ (m .triangles + 1) ∷ []) x → x ≡ v
-      mine x l (inl q) = q
-      mine x l (inr (inl q)) = absurd (omega arith)
-      mine x l (inr (inr (inl q))) = absurd (omega arith)
-      mine x l (inr (inr (inr q))) = absurd q
+        later = (omega arith, (omega arith, tt));
+        second = inl (S .second .generation, inr (inl refl));
+        third = inl (S .third .generation, inr (inr (inl refl)));
+        onto₁ = inr (inl refl);
+        onto₂ = inr (inr (inl refl));
+        boundaryCount = split-boundary v m n F b S;
+      })
 
 -- ---- with the flips
 
@@ -253,7 +185,8 @@ module _ (v : ℕ) (w : Work) (F : Manifold (reached w)) (b : v < reached w .tri
       let rl = R .links in
       let rg = R .generations in
       let m : Topology = reached w in
-      let S : Splits v m (split v m) = split-splits v m F b (omega arith) (omega arith) (omega arith) in
+      let S : Parted v (faceParts v m) m (split v m) =
+      rw (split-is v m) (parted-is v (faceParts v m) m F b (omega arith) (omega arith) (omega arith)) in
       let N : Manifold (split v m) =
       split-manifold v m (split v m) F b even S (omega arith) (omega arith) (omega arith) in
       splitting-of v _ 1 0 _ w (splitPlaced v (w .mesh)) F b (face-cut v m (split v m) F b even S N)
