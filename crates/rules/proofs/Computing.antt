@@ -11,8 +11,8 @@ use Rattle.rules.specs.History.{after, outcomes, lastLoad, edges, cageEd
 use Rattle.rules.specs.Numbers.{numberAt, signed, floorDiv, nearestThird, halfUp, weights, weight, moved}
 use Rattle.rules.specs.Ring.{firstSide, fanFrom, fan, neighbours, ring}
 use Rattle.rules.specs.Sound.{isLinked, soundSide, hasOneFan, isSound}
-use Rattle.rules.specs.Split.{split, flip, centre, splitPlaced, settle, faceSplit, chainEndWithin, chainOddWithin}
-use Rattle.rules.specs.Split.{raise, refine}
+use Rattle.rules.specs.Split.{split, rimCut, flip, centre, firstThird, secondThird, splitPlaced, rimPlaced}
+use Rattle.rules.specs.Split.{settle, faceSplit, rimSplit, chainEndWithin, chainOddWithin, raise, refine}
 use Rattle.rules.specs.Step.{sumOver, movedCoordinate, moveVertices, refineFirst, wholeStep}
 use Rattle.rules.specs.Tables.{Mesh, topologyOf, meshOf, tablesAgree}
 
@@ -22,8 +22,8 @@ unfolding all any lowest total fill cageOf partner loaded sizesFit cornersFit co
     closedEven loadRefusal refineRefusal wholeStepRefusal ringRefusal positionRefusal loadCall refineCall
     wholeStepCall ringCall positionCall after outcomes lastLoad edges cageEdges numberAt signed floorDiv nearestThird
     halfUp weights weight moved firstSide fanFrom fan neighbours ring isLinked soundSide hasOneFan isSound split flip
-    centre splitPlaced settle faceSplit chainEndWithin chainOddWithin raise refine sumOver movedCoordinate
-    moveVertices refineFirst wholeStep tablesAgree
+    centre firstThird secondThird splitPlaced rimCut rimPlaced settle faceSplit rimSplit chainEndWithin chainOddWithin
+    raise refine sumOver movedCoordinate moveVertices refineFirst wholeStep tablesAgree
 computing = tt
 
 -- A store of v vertex and f triangle slots, without content.

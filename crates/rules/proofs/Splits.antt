@@ -2,6 +2,7 @@
 pub mod Parts
 pub mod PartsKeep
 pub mod SplitKeeps
+pub mod RimKeeps
 pub mod FlipRead
 pub mod FlipKeeps
 pub mod Bases

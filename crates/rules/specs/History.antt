@@ -1,5 +1,5 @@
 -- Lists of calls on one mesh, and what holds after every one of them. (Every history; the customer's third demand)
-use Prim.Native.Nat.{ℕ, _+_, _*_, _/_, _%_, _≤_, _<_}
+use Prim.Native.Nat.{ℕ, _+_, _-_, _*_, _/_, _%_, _≤_, _<_, max}
 use mathlib.Core.Bool.{Bool, true, false, _&&_, _||_}
 use mathlib.Core.List.{List, [], _∷_}
 use mathlib.Core.Logic.{_≢_, _⊎_}
@@ -9,7 +9,7 @@ use lib.IntN.{ℤ, pos, _+ℤ_, _-ℤ_}
 use Rattle.rules.specs.Below.{any, count, total}
 use Rattle.rules.specs.Cage.{Cage, cageOf}
 use Rattle.rules.specs.Calls.{Outcome, loadCall, refineCall, wholeStepCall, ringCall, positionCall}
-use Rattle.rules.specs.Conditions.{OddInChain}
+use Rattle.rules.specs.Conditions.{EndsAtBoundary, OddInChain}
 use Rattle.rules.specs.Tables.{Topology, Mesh, sides, link, boundary, generation, next}
 
 -- A call with its arguments: a cage's bytes, a triangle, none, a vertex and a ring buffer, a vertex. The buffer is a
@@ -100,9 +100,13 @@ pub record Near (g h : ℕ) : Type 0 where
   pub down : g ≤ h + 2
   pub even : (g % 2 ≡ 0) ⊎ (h % 2 ≡ 0) → (h ≤ g + 1) × (g ≤ h + 1)
 
--- What a refine of t that is carried out on m makes and reports.
+-- What a refine of t that is carried out on m makes and reports: for an odd t one split for each odd triangle of its
+-- base chain; where this ends at the boundary, rim and face splits together, one less, and one at least.
 pub record ReportsSplits (m : Mesh) (t : ℕ) (o : Outcome) : Type 0 where
-  pub odd : generation (m .topology) t % 2 ≡ 1 → OddInChain (m .topology) t (o .splits)
+  pub odd : generation (m .topology) t % 2 ≡ 1 → ¬ EndsAtBoundary (m .topology) t
+      → OddInChain (m .topology) t (o .splits)
+  pub atBoundary : EndsAtBoundary (m .topology) t
+      → (k : ℕ) × OddInChain (m .topology) t k × (o .splits ≡ max 1 (k - 1))
   pub bound : generation (m .topology) t % 2 ≡ 1 → o .splits ≤ (generation (m .topology) t + 1) / 2
   pub even : generation (m .topology) t % 2 ≡ 0 → o .splits ≡ 1
   pub made : o .mesh .topology .triangles ≡ m .topology .triangles + 2 * o .splits

@@ -12,7 +12,7 @@ use Rattle.rules.proofs.Splits.FlipKeeps.{BasesMeet, meet-back}
 use Rattle.rules.proofs.Splits.FlipRead.{Flips}
 use Rattle.rules.proofs.Links.Manifold.{Manifold, Joined, few, partnered-with, no-self}
 use Rattle.rules.proofs.Links.Sides.{renameTwo, by-rename}
-use Rattle.rules.proofs.Splits.Parts.{Parts, Parted, faceParts}
+use Rattle.rules.proofs.Splits.Parts.{Parts, Parted, faceParts, rimParts}
 use Rattle.rules.proofs.Numbers.Sums.{total-same, total-change, total-zero, total-add, total-swap, total-one}
 use Rattle.rules.proofs.Numbers.Sums.{total-const, total-change₂, row, row-same, total-rows, total-two}
 use Rattle.rules.proofs.Numbers.Sums.{zero-each}
@@ -116,7 +116,7 @@ module _ (m : Topology) (F : Manifold m) where
       let c = total-const n 1 in
       omega arith
 
--- ---- the boundary sides stay as many
+-- ---- the boundary sides: as many after a face split, two more after a rim split
 
 -- 1 for a side on the boundary.
 boundaryBit : Topology → ℕ → ℕ
@@ -136,6 +136,9 @@ same-bit m n h k e = ap (λ (x : ℕ). bit (eqb x boundary)) e
 
 linked-bit : (m : Topology) (h k : ℕ) → link m h ≡ k → k ≢ boundary → boundaryBit m h ≡ 0
 linked-bit m h k e n = boundary-bit m h k e ∙ bit-no (is-eq k boundary) n
+
+edge-bit : (m : Topology) (h : ℕ) → link m h ≡ boundary → boundaryBit m h ≡ 1
+edge-bit m h e = boundary-bit m h boundary e
 
 rename-boundary : (a a′ b b′ k : ℕ) → a ≢ b → a ≢ boundary → a′ ≢ boundary → b ≢ boundary → b′ ≢ boundary
     → bit (eqb (renameTwo a a′ b b′ k) boundary) ≡ bit (eqb k boundary)
@@ -196,6 +199,25 @@ split-boundary t m n F b S =
     let e₁ = linked-bit n (3 * e + 1) (3 * t + 2) (S .third .links .1) (omega arith) in
     let e₂ = linked-bit n (3 * e + 2) (3 * f + 1) (S .third .links .2) (omega arith) in
     parted-boundary t 0 (faceParts t m) m n F b S (omega arith) (omega arith) (omega arith)
+
+-- The base is a boundary side, and three of the new sides are.
+pub rim-boundary : (t : ℕ) (m n : Topology) → Manifold m → t < m .triangles → link m (3 * t) ≡ boundary
+    → Parted t (rimParts t m) m n → boundarySides n ≡ boundarySides m + 2
+rim-boundary t m n F b edge S =
+    let f : ℕ = m .triangles in
+    let e : ℕ = f + 1 in
+    let q : 3 * e + 2 < boundary = omega (arith, F .slots, F .generationRoom) in
+    let old = edge-bit m (3 * t) edge in
+    let t₀ = same-bit m n (3 * t) (3 * t + 2) (S .own .links .0) in
+    let t₁ = edge-bit n (3 * t + 1) (S .own .links .1) in
+    let t₂ = linked-bit n (3 * t + 2) (3 * f + 2) (S .own .links .2) (omega arith) in
+    let f₀ = edge-bit n (3 * f) (S .second .links .0) in
+    let f₁ = linked-bit n (3 * f + 1) (3 * e + 1) (S .second .links .1) (omega arith) in
+    let f₂ = linked-bit n (3 * f + 2) (3 * t + 2) (S .second .links .2) (omega arith) in
+    let e₀ = same-bit m n (3 * e) (3 * t + 1) (S .third .links .0) in
+    let e₁ = linked-bit n (3 * e + 1) (3 * f + 1) (S .third .links .1) (omega arith) in
+    let e₂ = edge-bit n (3 * e + 2) (S .third .links .2) in
+    parted-boundary t 2 (rimParts t m) m n F b S (omega arith) (omega arith) (omega arith)
 
 pub flip-boundary : (s u : ℕ) (m n : Topology) → Manifold m → BasesMeet s u m → Flips s u m n
     → boundarySides n ≡ boundarySides m

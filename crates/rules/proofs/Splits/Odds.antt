@@ -1,11 +1,11 @@
--- The number of odd triangles: a face split makes three, and a flip takes two away.
+-- The number of odd triangles: a face split makes three, a rim split two of one, and a flip takes two away.
 use mathlib.Core.Path.{_≡_, sym, ap, _∙_}
 use Prim.Native.Nat.{ℕ, suc, _+_, _*_, _%_, _<_}
 use native.Mathlib.Omega.{arith}
 use Rattle.rules.proofs.Splits.Bases.{Settling, kept, flipped, flipsOf}
 use Rattle.rules.proofs.Splits.FlipKeeps.{BasesMeet}
 use Rattle.rules.proofs.Splits.FlipRead.{Flips}
-use Rattle.rules.proofs.Splits.Parts.{Parts, Parted, faceParts}
+use Rattle.rules.proofs.Splits.Parts.{Parts, Parted, faceParts, rimParts}
 use Rattle.rules.proofs.Numbers.Sums.{total-change, total-change₂, total-two}
 use Rattle.rules.specs.Below.{total}
 use Rattle.rules.specs.Promises.{odds}
@@ -38,6 +38,14 @@ pub split-odds : (t : ℕ) (m n : Topology) → t < m .triangles → generation 
     → odds n + 0 ≡ odds m + 3
 split-odds t m n b even S =
     odd-three (odds n) (odds m) (generation m t) (parted-odds t (faceParts t m) m n b S) even
+
+odd-two : (n o g : ℕ) → n + g % 2 ≡ o + ((g + 2) % 2 + (g + 3) % 2 + (g + 2) % 2) → g % 2 ≡ 1 → n + 2 ≡ o + 3
+odd-two n o g e i = omega arith
+
+pub rim-odds : (t : ℕ) (m n : Topology) → t < m .triangles → generation m t % 2 ≡ 1 → Parted t (rimParts t m) m n
+    → odds n + 2 ≡ odds m + 3
+rim-odds t m n b odd S =
+    odd-two (odds n) (odds m) (generation m t) (parted-odds t (rimParts t m) m n b S) odd
 
 pub flip-odds : (s u : ℕ) (m n : Topology) → BasesMeet s u m → Flips s u m n → odds n + 2 ≡ odds m
 unfolding odds

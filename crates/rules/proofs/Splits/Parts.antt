@@ -9,7 +9,7 @@ use lib.Seq.{getD-set-same, getD-set-other, lt-length-set, drop-set-lt}
 use Rattle.rules.proofs.Links.Manifold.{Manifold, Joined}
 use Rattle.rules.proofs.Links.Past.{Past, drop-put, drop-told, joined-below}
 use Rattle.rules.proofs.Links.Sides.{renameTwo, Mutual, relinked, length-put, put-else, Row, put-row, row-else}
-use Rattle.rules.specs.Split.{split}
+use Rattle.rules.specs.Split.{split, rimCut}
 use Rattle.rules.specs.Tables.{Topology, sides, origin, boundary, link, generation, putThree, putTriangle, relink}
 use Rattle.rules.specs.Tables.{withCounts}
 
@@ -191,3 +191,28 @@ faceParts t m =
 pub split-is : (t : ℕ) (m : Topology) → split t m ≡ parted t (faceParts t m) m
 unfolding split
 split-is t m = refl
+
+-- ---- a rim split
+
+-- The triangles in the place of t = (A,B,P), with A' and B' for the new vertices.
+abbrev pub rimParts : ℕ → Topology → Parts
+rimParts t m =
+    let f = m .triangles in
+    let e = f + 1 in
+    let v = m .vertices in
+    let a = origin m (3 * t) in
+    let b = origin m (3 * t + 1) in
+    let p = origin m (3 * t + 2) in
+    let g = generation m t in
+    record {
+      own = record { corners = (p, a, v); links = (link m (3 * t + 2), boundary, 3 * f + 2); generation = g + 2 };
+      second = record { corners = (v, v + 1, p); links = (boundary, 3 * e + 1, 3 * t + 2); generation = g + 3 };
+      third = record { corners = (b, p, v + 1); links = (link m (3 * t + 1), 3 * f + 1, boundary); generation = g + 2 };
+      place₁ = 3 * e;
+      place₂ = 3 * t;
+      vertices = v + 2;
+    }
+
+pub rim-is : (t : ℕ) (m : Topology) → rimCut t m ≡ parted t (rimParts t m) m
+unfolding rimCut
+rim-is t m = refl

@@ -1,5 +1,5 @@
--- The face split with its flips.
-use mathlib.Core.Path.{_≡_, refl, sym, _∙_}
+-- The face split and the rim split, with their flips.
+use mathlib.Core.Path.{_≡_, refl, sym, _∙_, subst}
 use mathlib.Core.Logic.{inl, inr}
 use mathlib.Core.Bool.{Bool, true, false}
 use mathlib.Core.List.{List, [], _∷_}
@@ -9,21 +9,22 @@ use lib.ListN.{length, getD}
 use lib.IntN.{pos}
 use Rattle.rules.proofs.Splits.Bases.{Settles, reached, settle-settles, settling-manifold}
 use Rattle.rules.proofs.Splits.Cut.{Cut, CutResult, cut-settled}
-use Rattle.rules.proofs.Splits.Edges.{split-boundary}
+use Rattle.rules.proofs.Splits.Edges.{split-boundary, rim-boundary}
 use Rattle.rules.proofs.Links.Manifold.{Manifold}
-use Rattle.rules.proofs.Splits.Odds.{split-odds, settling-odds}
-use Rattle.rules.proofs.Splits.Parts.{Parts, Parted, faceParts, parted-is, split-is}
+use Rattle.rules.proofs.Splits.Odds.{split-odds, rim-odds, settling-odds}
+use Rattle.rules.proofs.Splits.Parts.{Parts, Parted, faceParts, parted-is, split-is, rimParts, rim-is}
 use Rattle.rules.proofs.Splits.PartsCut.{child, cut-of}
 use Rattle.rules.proofs.Splits.Places.{Places, places-stay, places-on, places-new}
 use Rattle.rules.proofs.Numbers.Rounding.{third-in-range}
 use Rattle.rules.proofs.Splits.Settled.{Settled, done, then, Children, Distinct, children-on}
+use Rattle.rules.proofs.Splits.RimKeeps.{rim-manifold}
 use Rattle.rules.proofs.Splits.SplitKeeps.{split-manifold}
 use Rattle.rules.specs.Numbers.{InRange}
 use Rattle.rules.specs.Promises.{odds}
 use Rattle.rules.specs.Split.{Work, split, flip, withSplit, withFlip, centre, splitPlaced, settle, settleAll}
-use Rattle.rules.specs.Split.{faceSplit, thirdOf}
-use Rattle.rules.specs.Tables.{Topology, Mesh, withTopology, origin, link, generation, isBase, coordinate}
-use Rattle.rules.specs.Tables.{putThree}
+use Rattle.rules.specs.Split.{faceSplit, thirdOf, firstThird, secondThird, rimCut, rimPlaced, rimSplit}
+use Rattle.rules.specs.Tables.{Topology, Mesh, meshOf, withTopology, origin, boundary, link, generation, isBase}
+use Rattle.rules.specs.Tables.{coordinate, putThree, withCounts}
 
 -- Room for 2k triangles more.
 pub record Room (k : ℕ) (m : Topology) : Type 0 where
@@ -68,6 +69,38 @@ module _ (v : ℕ) (m n : Topology) (F : Manifold m) (b : v < m .triangles) (eve
         onto₁ = inr (inl refl);
         onto₂ = inr (inr (inl refl));
         boundaryCount = split-boundary v m n F b S;
+      })
+
+-- ---- the rim split
+
+module _ (v : ℕ) (m n : Topology) (F : Manifold m) (b : v < m .triangles) (odd : generation m v % 2 ≡ 1)
+    (edge : link m (3 * v) ≡ boundary) (S : Parted v (rimParts v m) m n) (N : Manifold n) where
+  rim-cut : Cut v (generation m v + 2) (v ∷ (m .triangles + 1) ∷ []) 2 2 m n
+  rim-cut =
+      let f : ℕ = m .triangles in
+      let e : ℕ = f + 1 in
+      let p : Parts = rimParts v m in
+      let o : (generation m v + 2) % 2 ≡ 1 = omega arith in
+      let w = S .triangles in
+      cut-of v p m n F b S N (generation m v + 2) 2 2 (e ∷ []) refl (record {
+        odd = o;
+        high = omega arith;
+        children = (
+          child v p m n F b S N (3 * v + 2) (omega arith) (S .own .generation) o (omega (arith, S .own .corners .2))
+              (omega arith) (omega arith) (S .own .links .0),
+          (
+            child v p m n F b S N (3 * v + 1) (omega arith) (S .third .generation) o
+                (omega (arith, S .third .corners .2)) (omega arith) (omega arith) (S .third .links .0),
+            tt,
+          ),
+        );
+        distinct = ((omega arith, tt), (tt, tt));
+        later = (omega arith, tt);
+        second = inr (omega (arith, S .second .generation));
+        third = inl (S .third .generation, inr (inl refl));
+        onto₁ = inr (inl refl);
+        onto₂ = inl refl;
+        boundaryCount = rim-boundary v m n F b edge S;
       })
 
 -- ---- with the flips
@@ -193,3 +226,30 @@ module _ (v : ℕ) (w : Work) (F : Manifold (reached w)) (b : v < reached w .tri
       (split-odds v m (split v m) b even S)
       (places-new (w .mesh) (splitPlaced v (w .mesh)) _ (S .vertices) refl
       (third-fits 0 1 2 (w .mesh) v F b (omega arith) (omega arith) (omega arith)))
+
+  pub rim-splitting : generation (reached w) v % 2 ≡ 1 → link (reached w) (3 * v) ≡ boundary
+      → Splitting v (generation (reached w) v + 2) 2 2 w (rimSplit v w)
+  unfolding rimSplit rimPlaced firstThird secondThird
+  rim-splitting odd edge =
+      let rc = R .corners in
+      let rl = R .links in
+      let rg = R .generations in
+      let m : Topology = reached w in
+      let S : Parted v (rimParts v m) m (rimCut v m) =
+      rw (rim-is v m) (parted-is v (rimParts v m) m F b (omega arith) (omega arith) (omega arith)) in
+      let N : Manifold (rimCut v m) =
+      rim-manifold v m (rimCut v m) F b odd edge S (omega arith) (omega arith) (omega arith) in
+      -- With the first of the two vertices placed.
+      let k : Mesh =
+      meshOf (withCounts (m .vertices + 1) (m .triangles) m)
+      (putThree (m .vertices) (firstThird (w .mesh) v 0, firstThird (w .mesh) v 1, firstThird (w .mesh) v 2)
+      (w .mesh .positions)) in
+      let one : Places (w .mesh) k =
+      places-new (w .mesh) k _ (omega arith) refl
+      (third-fits 0 0 1 (w .mesh) v F b (omega arith) (omega arith) (omega arith)) in
+      let two : Places k (rimPlaced v (w .mesh)) =
+      places-new k (rimPlaced v (w .mesh)) _ (omega (arith, S .vertices)) refl
+      (λ a. third-fits 0 1 1 (w .mesh) v F b (omega arith) (omega arith) (omega arith)
+      (λ i l. subst InRange (one .old i l) (a i (omega arith)))) in
+      splitting-of v _ 2 2 _ w (rimPlaced v (w .mesh)) F b (rim-cut v m (rimCut v m) F b odd edge S N)
+      (rim-odds v m (rimCut v m) b odd S) (places-on one two)
