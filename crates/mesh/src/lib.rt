@@ -5,13 +5,14 @@ use tables::Counts;
 ghost use mathlib.Core.Path.{_≡_};
 ghost use mathlib.Core.List.{List, [], _∷_};
 ghost use mathlib.Core.Bool.{not};
-ghost use Prim.Native.Nat.{ℕ, _*_, max};
-ghost use lib.Dec.{eqb, leb};
-ghost use Rattle.rules.specs.Calls.{firstOf, _if_, roomFor, loadCall, refineCall, wholeStepCall};
+ghost use Prim.Native.Nat.{ℕ, _+_, _-_, _*_, max};
+ghost use lib.Dec.{leb};
+ghost use Rattle.rules.specs.Calls.{firstOf, _if_, roomFor, tooOld, loadCall, refineCall, wholeStepCall};
 ghost use Rattle.rules.specs.Calls.{ringCall, positionCall, positionRefusal};
 ghost use Rattle.rules.specs.Sound.{isSound};
-ghost use Rattle.rules.specs.Tables.{tablesAgree, generation, odd};
-ghost use Rattle.tables.specs.Lent.{meshNow};
+ghost use Rattle.rules.specs.Tables.{tablesAgree};
+ghost use Rattle.tables.specs.declared.Counts.{Counts};
+ghost use Rattle.tables.specs.Lent.{topologyNow, meshNow};
 ghost use Rattle.mesh.specs.Answers.{workedOutcome, FoundFor, ringOutcome, positionOutcome};
 
 // The answer of load, refine and the whole step: on a refusal all but its number and the counts is 0.
@@ -95,6 +96,15 @@ pub fn load(
     }
 }
 
+// Whether t may rise no more: it is of generation 20, or of 19 with its base on the boundary.
+fn too_old(links: &[u32], generations: &[u8], t: u32) -> bool
+    ensures { λ r. ⌜ ((n : Counts) (corners : List ℕ) →
+        r ≡ tooOld (topologyNow n corners (now (links .entry)) (now (generations .entry))) t) ⌝ }
+{
+    let g = tables::generation_at(generations, t);
+    g == 20 || (g == 19 && tables::base_link(links, t) == tables::BOUNDARY)
+}
+
 // The refusal of a refine by the mesh and the triangle, or 0.
 fn triangle_refusal(
     positions: &[i32],
@@ -107,7 +117,7 @@ fn triangle_refusal(
     ensures { λ r. ⌜ (let m = meshNow counts (now (positions .entry)) (now (corners .entry)) (now (links .entry))
         (now (generations .entry)) in
         r ≡ firstOf (1 if not (tablesAgree m) ∷ 7 if not (isSound m)
-        ∷ 8 if leb (m .topology .triangles) t ∷ 9 if eqb (generation (m .topology) t) 20 ∷ [])) ⌝ }
+        ∷ 8 if leb (m .topology .triangles) t ∷ 9 if tooOld (m .topology) t ∷ [])) ⌝ }
 {
     let bad = not_sound(positions, corners, links, generations, counts);
     if bad != 0 {
@@ -116,7 +126,7 @@ fn triangle_refusal(
     if counts.triangles <= t {
         return 8;
     }
-    if tables::generation_at(generations, t) == 20 {
+    if too_old(links, generations, t) {
         return 9;
     }
     0
@@ -126,13 +136,10 @@ fn triangle_refusal(
 fn chain_refusal(positions: &[i32], generations: &[u8], counts: Counts, chain: Chain) -> u32
     ensures { λ r. ⌜ ((corners links : List ℕ) →
         let m = meshNow counts (now (positions .entry)) corners links (now (generations .entry)) in
-        let s = max 1 (chain .odd) in
-        r ≡ firstOf (10 if odd (generation (m .topology) (chain .end)) ∷ 11 if not (roomFor s (2 * s) m) ∷ [])) ⌝ }
+        let s = max 1 (chain .odd - chain .rim) in
+        r ≡ firstOf (11 if not (roomFor (s + chain .rim) (2 * s) m) ∷ [])) ⌝ }
 {
-    if tables::generation_at(generations, chain.end) % 2 == 1 {
-        return 10;
-    }
-    if !tables::has_room(positions, generations, counts, chain.splits()) {
+    if !tables::has_room(positions, generations, counts, chain.splits(), chain.rim) {
         return 11;
     }
     0

@@ -1,4 +1,4 @@
--- The steps of flip, split and face split, put together.
+-- The steps of flip and of the splits, put together.
 use Prim.Native.Nat.{ℕ, _+_, _*_, _/_}
 use native.Mathlib.Numerals.{add-one}
 use mathlib.Core.Bool.{Bool, true, false}
@@ -8,12 +8,13 @@ use lib.IntN.{ℤ}
 use lib.ListN.{getD}
 use Rattle.points.specs.declared.Point.{Point}
 use Rattle.points.specs.Axes.{eachAxis, thirds}
-use Rattle.rules.specs.Split.{Work, thirdOf, centre, split, splitPlaced, flip, settle, faceSplit}
+use Rattle.rules.specs.Split.{Work, withSplit, thirdOf, centre, firstThird, secondThird, split, splitPlaced, rimCut}
+use Rattle.rules.specs.Split.{rimPlaced, flip, settle, settleAll}
 use Rattle.rules.specs.Tables.{Topology, Mesh, meshOf, withTopology, origin, link, isBase, coordinate, withCounts}
 use Rattle.rules.specs.Tables.{relink}
 use Rattle.tables.specs.declared.Triangle.{Triangle}
 use Rattle.tables.specs.Lent.{triangleAt, put, putPoint}
-use Rattle.split.specs.Made.{splitCounted, childrenOf, blank, replaced, flippedOf}
+use Rattle.split.specs.Made.{waiting, childrenOf, rimChildrenOf, blank, replaced, flippedOf}
 
 pub flip-steps : (s u : ℕ) (m a b c d : Topology) (x y none : Triangle) (r : List Triangle)
     → x ≡ triangleAt m s → y ≡ triangleAt m u → r ≡ flippedOf x y s u
@@ -57,12 +58,32 @@ pub face-cut-steps : (t : ℕ) (w : Work) (e : Topology) (p : Point) (positions 
       splits = w .splits + 1;
       flips = w .flips;
     })
-    (splitCounted t w)
+    (withSplit (splitPlaced t (w .mesh)) w)
 unfolding splitPlaced split centre
 face-cut-steps t w e p positions x r ep eq ex er ee =
     rw (ee, er, ex, eq, ep, splitPlaced, split, centre, add-one (w .splits), add-one (w .mesh .topology .vertices))
 
-pub face-split-steps : (t : ℕ) (w a b c d : Work) → a ≡ splitCounted t w → b ≡ settle t a
-    → c ≡ settle (w .mesh .topology .triangles) b → d ≡ settle (w .mesh .topology .triangles + 1) c → d ≡ faceSplit t w
-unfolding faceSplit
-face-split-steps t w a b c d ea eb ec ed = rw (ed, ec, eb, ea, faceSplit)
+pub rim-cut-steps : (t : ℕ) (w : Work) (e : Topology) (p q : Point) (one two : List ℤ) (x : Triangle)
+    (r : List Triangle)
+    → let m = w .mesh .topology in
+    p ≡ eachAxis (thirdOf 0 0 1 (w .mesh) t) → q ≡ eachAxis (thirdOf 0 1 1 (w .mesh) t)
+    → one ≡ putPoint (m .vertices) p (w .mesh .positions) → two ≡ putPoint (m .vertices + 1) q one
+    → x ≡ triangleAt m t → r ≡ rimChildrenOf x t (m .triangles) (m .vertices)
+    → e ≡ replaced t (m .triangles) x r (3 * (m .triangles + 1)) (3 * t) m
+    → _≡_ {A = Work} (record {
+      mesh = meshOf (withCounts (m .vertices + 2) (m .triangles + 2) e) two;
+      splits = w .splits + 1;
+      flips = w .flips;
+    })
+    (withSplit (rimPlaced t (w .mesh)) w)
+unfolding rimPlaced rimCut firstThird secondThird
+rim-cut-steps t w e p q one two x r ep eq eo et ex er ee =
+    rw (ee, er, ex, et, eo, eq, ep, rimPlaced, rimCut, firstThird, secondThird, add-one (w .splits))
+
+pub settle-three : (t f : ℕ) (w a b c : Work) (middle : Bool) → middle ≡ true → a ≡ settle t w → b ≡ settle f a
+    → c ≡ settle (f + 1) b → c ≡ settleAll (waiting middle t f) w
+settle-three t f w a b c middle em ea eb ec = rw (ec, eb, ea, em)
+
+pub settle-two : (t f : ℕ) (w a b : Work) (middle : Bool) → middle ≡ false → a ≡ settle t w → b ≡ settle (f + 1) a
+    → b ≡ settleAll (waiting middle t f) w
+settle-two t f w a b middle em ea eb = rw (eb, ea, em)

@@ -1,21 +1,22 @@
-// Face split, flip, the base chain and the refinement of one triangle, on the lent tables.
+// Face split, rim split, flip, the base chain and the refinement of one triangle, on the lent tables.
 use points::Point;
 use tables::Counts;
 use tables::Triangle;
 ghost use mathlib.Core.List.{List};
 ghost use mathlib.Core.Path.{_≡_};
-ghost use Prim.Native.Nat.{ℕ, _+_, _-_, _*_, _/_, _≤_, _<_, max};
+ghost use Prim.Native.Nat.{ℕ, _+_, _-_, _*_, _/_, _%_, _≤_, _<_, max};
 ghost use lib.IntN.{ℤ};
 ghost use lib.ListN.{length, getD};
 ghost use Rattle.points.specs.Axes.{eachAxis};
 ghost use Rattle.rules.proofs.Calls.Carried.{RefineFound};
-ghost use Rattle.rules.specs.Split.{flip, thirdOf, settle, faceSplit, atFirst, refine};
+ghost use Rattle.rules.specs.Split.{flip, thirdOf, settle, settleAll, splitAt, atFirst, refine};
 ghost use Rattle.rules.specs.Tables.{isBase};
 ghost use Rattle.tables.specs.declared.Counts.{Counts};
 ghost use Rattle.tables.specs.Lent.{topologyNow, meshNow, TrianglesAgree, VerticesAgree};
-ghost use Rattle.split.specs.Made.{workNow, splitCounted, MaySplit, childrenOf, replaced, flippedOf, BaseChain};
+ghost use Rattle.split.specs.Made.{workNow, MaySplit, waiting, Hands, childrenOf, rimChildrenOf, replaced};
+ghost use Rattle.split.specs.Made.{flippedOf, BaseChain};
 
-// The slots in use, and the face splits and flips made so far.
+// The slots in use, and the splits, face and rim, and flips made so far.
 pub struct Work {
     pub vertices: u32,
     pub triangles: u32,
@@ -23,20 +24,33 @@ pub struct Work {
     pub flips: u32,
 }
 
-// A base chain: its number of odd triangles, the slot of its last triangle, and the slots of the odd ones in order.
+// A base chain: its number of odd triangles, the slot of its last triangle, how it ends, and the slots of the odd ones
+// in order. Where it ends at the boundary its last triangle is odd, and `rim` is 1; else `rim` is 0.
 pub struct Chain {
     pub odd: u32,
     pub end: u32,
+    pub rim: u32,
     pub slots: [u32; 20],
 }
 
 impl Chain {
-    // The face splits that refining the chain's first triangle takes.
+    // The splits that refining the chain's first triangle takes, `rim` of them rim splits.
     pub fn splits(self) -> u32
-        ensures { λ r. ⌜ r ≡ max 1 (self .odd) ⌝ }
+        ensures { λ r. ⌜ r ≡ max 1 (self .odd - self .rim) ⌝ }
     {
-        if self.odd == 0 { 1 } else { self.odd }
+        if self.odd <= self.rim {
+            1
+        } else {
+            self.odd - self.rim
+        }
     }
+}
+
+// What a split hands to its flips: the work with a triangle cut in three, and whether the one in the middle, in the
+// first new slot, is odd too.
+struct Handed {
+    work: Work,
+    middle: bool,
 }
 
 // The triangles that take the place of x, of slot t: p is the new vertex, f the first free slot and e the next.
@@ -68,6 +82,41 @@ fn children(x: Triangle, t: u32, f: u32, p: u32) -> [Triangle; 3]
         Triangle {
             corners: [x.corners[2], x.corners[0], p],
             links: [x.links[2], 3 * t + 2, 3 * f + 1],
+            generation: g,
+        },
+    ]
+}
+
+// The triangles that take the place of x, of slot t with its base on the boundary: v and v + 1 are the new vertices, f
+// the first free slot and e the next.
+//
+//               P                            P
+//             .   .                       . / \ .
+//           .       .                   .  /   \  .
+//         .     t     .               .   /     \   .
+//       .               .           .  t /   f   \ e  .
+//      A-----------------B         A----v-------v+1----B
+fn rim_children(x: Triangle, t: u32, f: u32, v: u32) -> [Triangle; 3]
+    requires { ⌜ (t < 65536) × (f < 65536) × (v < 65536) × (x .generation ≤ 252) ⌝ }
+    ensures { λ r. ⌜ r ≡ rimChildrenOf x t f v ⌝ }
+{
+    let g = x.generation + 2;
+    let middle = x.generation + 3;
+    let e = f + 1;
+    [
+        Triangle {
+            corners: [x.corners[2], x.corners[0], v],
+            links: [x.links[2], tables::BOUNDARY, 3 * f + 2],
+            generation: g,
+        },
+        Triangle {
+            corners: [v, v + 1, x.corners[2]],
+            links: [tables::BOUNDARY, 3 * e + 1, 3 * t + 2],
+            generation: middle,
+        },
+        Triangle {
+            corners: [x.corners[1], x.corners[2], v + 1],
+            links: [x.links[1], 3 * f + 1, tables::BOUNDARY],
             generation: g,
         },
     ]
@@ -205,7 +254,7 @@ fn third_of(positions: &[i32], corners: &[u32], t: u32, h: usize, i: usize, j: u
     Point::thirds(a, b, c)
 }
 
-// The cut of the face split of t, with no flip yet: the new vertex is placed at the centre.
+// The cut of the face split of t: the new vertex is placed at the centre.
 fn face_cut(
     positions: &mut [i32],
     corners: &mut [u32],
@@ -213,12 +262,13 @@ fn face_cut(
     generations: &mut [u8],
     work: Work,
     t: u32,
-) -> Work
-    requires { ⌜ MaySplit t (workNow work (now positions) (now corners) (now links) (now generations)) ⌝ }
-    ensures { λ r. ⌜
-        workNow r (now (positions .exit)) (now (corners .exit)) (now (links .exit)) (now (generations .exit))
-        ≡ splitCounted t (workNow work
-        (now (positions .entry)) (now (corners .entry)) (now (links .entry)) (now (generations .entry))) ⌝ }
+) -> Handed
+    requires { ⌜ MaySplit t (workNow work (now positions) (now corners) (now links) (now generations))
+        × (getD (now generations) t 0 % 2 ≡ 0) ⌝ }
+    ensures { λ r. ⌜ Hands t
+        (workNow work (now (positions .entry)) (now (corners .entry)) (now (links .entry)) (now (generations .entry)))
+        (r .middle) (workNow (r .work)
+        (now (positions .exit)) (now (corners .exit)) (now (links .exit)) (now (generations .exit))) ⌝ }
 {
     let p = work.vertices;
     let f = work.triangles;
@@ -235,11 +285,104 @@ fn face_cut(
     let x = tables::triangle_at(corners, links, generations, t);
     let three = children(x, t, f, p);
     replace(corners, links, generations, t, f, x, three, to_f, to_e);
-    after
+    Handed {
+        work: after,
+        middle: true,
+    }
 }
 
-// The face split of t, with its flips.
-pub fn face_split(
+// The cut of the rim split of t: the two new vertices are placed at the thirds of its base.
+fn rim_cut(
+    positions: &mut [i32],
+    corners: &mut [u32],
+    links: &mut [u32],
+    generations: &mut [u8],
+    work: Work,
+    t: u32,
+) -> Handed
+    requires { ⌜ MaySplit t (workNow work (now positions) (now corners) (now links) (now generations))
+        × (getD (now generations) t 0 % 2 ≡ 1) ⌝ }
+    ensures { λ r. ⌜ Hands t
+        (workNow work (now (positions .entry)) (now (corners .entry)) (now (links .entry)) (now (generations .entry)))
+        (r .middle) (workNow (r .work)
+        (now (positions .exit)) (now (corners .exit)) (now (links .exit)) (now (generations .exit))) ⌝ }
+{
+    let v = work.vertices;
+    let w = v + 1;
+    let f = work.triangles;
+    let after = Work {
+        vertices: v + 2,
+        triangles: f + 2,
+        splits: work.splits + 1,
+        flips: work.flips,
+    };
+    let to_t = 3 * t;
+    let to_e = 3 * (f + 1);
+    let first = third_of(positions, corners, t, 0, 0, 1);
+    let second = third_of(positions, corners, t, 0, 1, 1);
+    tables::store_point(positions, v, first);
+    tables::store_point(positions, w, second);
+    let x = tables::triangle_at(corners, links, generations, t);
+    let three = rim_children(x, t, f, v);
+    replace(corners, links, generations, t, f, x, three, to_e, to_t);
+    Handed {
+        work: after,
+        middle: false,
+    }
+}
+
+// The cut of the split of t: of a face split where it is even, else of a rim split.
+fn cut(
+    positions: &mut [i32],
+    corners: &mut [u32],
+    links: &mut [u32],
+    generations: &mut [u8],
+    work: Work,
+    t: u32,
+) -> Handed
+    requires { ⌜ MaySplit t (workNow work (now positions) (now corners) (now links) (now generations)) ⌝ }
+    ensures { λ r. ⌜ Hands t
+        (workNow work (now (positions .entry)) (now (corners .entry)) (now (links .entry)) (now (generations .entry)))
+        (r .middle) (workNow (r .work)
+        (now (positions .exit)) (now (corners .exit)) (now (links .exit)) (now (generations .exit))) ⌝ }
+{
+    if tables::generation_at(generations, t) % 2 == 0 {
+        face_cut(positions, corners, links, generations, work, t)
+    } else {
+        rim_cut(positions, corners, links, generations, work, t)
+    }
+}
+
+// The triangles that a cut leaves are settled: t, f where it is odd, and f + 1.
+fn settle_all(
+    corners: &mut [u32],
+    links: &mut [u32],
+    generations: &mut [u8],
+    cut: Handed,
+    t: u32,
+    f: u32,
+) -> Work
+    requires { ⌜ TrianglesAgree (now corners) (now links) (now generations) × (t < length (now generations))
+        × (f + 2 ≤ length (now generations)) × (getD (now generations) t 0 < 23) × (getD (now generations) f 0 < 23)
+        × (getD (now generations) (f + 1) 0 < 23) × (cut .work .flips + 3 ≤ 4294967295) ⌝ }
+    ensures { λ r. ⌜ ((positions : List ℤ) →
+        workNow r positions (now (corners .exit)) (now (links .exit)) (now (generations .exit))
+        ≡ settleAll (waiting (cut .middle) t f)
+        (workNow (cut .work) positions (now (corners .entry)) (now (links .entry)) (now (generations .entry)))) ⌝ }
+{
+    let e = f + 1;
+    let work = cut.work;
+    let one = settle(corners, links, generations, work, t);
+    if cut.middle {
+        let two = settle(corners, links, generations, one, f);
+        settle(corners, links, generations, two, e)
+    } else {
+        settle(corners, links, generations, one, e)
+    }
+}
+
+// The split of t, with its flips: the face split of an even triangle, the rim split of an odd one.
+pub fn split_at(
     positions: &mut [i32],
     corners: &mut [u32],
     links: &mut [u32],
@@ -250,15 +393,12 @@ pub fn face_split(
     requires { ⌜ MaySplit t (workNow work (now positions) (now corners) (now links) (now generations)) ⌝ }
     ensures { λ r. ⌜
         workNow r (now (positions .exit)) (now (corners .exit)) (now (links .exit)) (now (generations .exit))
-        ≡ faceSplit t (workNow work
+        ≡ splitAt t (workNow work
         (now (positions .entry)) (now (corners .entry)) (now (links .entry)) (now (generations .entry))) ⌝ }
 {
     let f = work.triangles;
-    let e = f + 1;
-    let cut = face_cut(positions, corners, links, generations, work, t);
-    let one = settle(corners, links, generations, cut, t);
-    let two = settle(corners, links, generations, one, f);
-    settle(corners, links, generations, two, e)
+    let left = cut(positions, corners, links, generations, work, t);
+    settle_all(corners, links, generations, left, t, f)
 }
 
 // The base chain of t: from an odd triangle on to the one across its base, until an even one or the boundary. Its steps
@@ -286,7 +426,13 @@ pub fn base_chain(links: &[u32], generations: &[u8], t: u32) -> Chain
         end = across / 3;
         steps -= 1;
     }
-    Chain { odd, end, slots }
+    let rim = tables::generation_at(generations, end) as u32 % 2;
+    Chain {
+        odd,
+        end,
+        rim,
+        slots,
+    }
 }
 
 // The triangle across the base of the last of so many odd triangles of a chain.
@@ -328,7 +474,7 @@ pub fn refine(
     let mut left = chain.splits();
     let mut end = chain.end;
     while 0 < left {
-        work = face_split(positions, corners, links, generations, work, end);
+        work = split_at(positions, corners, links, generations, work, end);
         left -= 1;
         if 0 < left {
             end = across_last(links, &slots, left);

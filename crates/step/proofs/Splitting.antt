@@ -1,4 +1,4 @@
--- What the next face split of the whole step asks.
+-- What the next split of the whole step asks.
 use mathlib.Core.Path.{_≡_}
 use Prim.Native.Nat.{ℕ, _≤_, _<_}
 use native.Mathlib.Omega.{arith}

@@ -235,7 +235,7 @@ fn split_all(
         flips: 0,
     };
     while t < f {
-        work = split::face_split(positions, corners, links, generations, work, t);
+        work = split::split_at(positions, corners, links, generations, work, t);
         t += 1;
     }
     work
@@ -280,7 +280,7 @@ fn refusal(
     if !moves(positions, corners, counts, moved) {
         return 13;
     }
-    if !tables::has_room(positions, generations, counts, f) {
+    if !tables::has_room(positions, generations, counts, f, 0) {
         return 11;
     }
     0

@@ -32,7 +32,7 @@ module _ (c : tie.After-chain-refusal) where
   refusal-is : c .chain-refusal .result ≡ refineRefusal (start .args .t) (mesh-of start)
   refusal-is =
       refine-chain (start .args .t) (mesh-of start) _ (at-if1 .before .triangle-refusal .ensures) (at-if1 .if1 .left) _
-      (rw (← chain-is .odd, ← chain-is .end)
+      (rw (← chain-is .odd, ← chain-is .rim)
       (c .chain-refusal .ensures (start .args .corners .now) (start .args .links .now)))
 
 triangle-refusal-requires : tie.Need-triangle-refusal-requires

@@ -1,6 +1,6 @@
 -- `mesh::triangle_refusal` meets its contract.
 use borrow.Author.Needs.{needs}
-use borrow.Author.Tests.{le-leb, lt-leb, eq-eqb, ne-eqb}
+use borrow.Author.Tests.{le-leb, lt-leb}
 use mathlib.Core.Path.{sym, _∙_}
 use Rattle.rules.specs.Tables.{Mesh}
 use Rattle.tables.specs.Lent.{meshNow}
@@ -28,8 +28,8 @@ returns-2 c =
     triangle-eight (start .args .t) (mesh-of start) _ (at-if1 .before .not-sound .ensures) (at-if1 .if1 .left)
     (le-leb _ _ (c .if2 .taken))
 
-generation-at-requires : tie.Need-generation-at-requires
-generation-at-requires c κs = search needs
+too-old-requires : tie.Need-too-old-requires
+too-old-requires c κs = search needs
 
 returns-3 : tie.Need-returns-3
 returns-3 c =
@@ -37,7 +37,8 @@ returns-3 c =
     let at-if1 = at-if2 .before .before in
     let start = at-if1 .before .before .before .before .before in
     triangle-nine (start .args .t) (mesh-of start) _ (at-if1 .before .not-sound .ensures) (at-if1 .if1 .left)
-    (lt-leb _ _ (at-if2 .if2 .left)) (eq-eqb _ _ (sym (c .before .generation-at .ensures) ∙ c .if3 .taken))
+    (lt-leb _ _ (at-if2 .if2 .left))
+    (sym (c .before .too-old .ensures (start .args .counts) (start .args .corners .now)) ∙ c .if3 .taken)
 
 returns-4 : tie.Need-returns-4
 returns-4 c =
@@ -45,9 +46,10 @@ returns-4 c =
     let at-if1 = at-if2 .before .before in
     let start = at-if1 .before .before .before .before .before in
     triangle-none (start .args .t) (mesh-of start) _ (at-if1 .before .not-sound .ensures) (at-if1 .if1 .left)
-    (lt-leb _ _ (at-if2 .if2 .left)) (ne-eqb _ _ (λ e. c .if3 .left (c .before .generation-at .ensures ∙ e)))
+    (lt-leb _ _ (at-if2 .if2 .left))
+    (sym (c .before .too-old .ensures (start .args .counts) (start .args .corners .now)) ∙ c .if3 .left)
 
 pub triangle-refusal-spec : {M : Type 1} → statement M
 triangle-refusal-spec =
     tie.close
-    (tie.spec not-sound-requires returns returns-2 generation-at-requires returns-3 returns-4)
+    (tie.spec not-sound-requires returns returns-2 too-old-requires returns-3 returns-4)

@@ -3,6 +3,7 @@ use borrow.Author.Needs.{needs}
 use native.Mathlib.Omega.{arith}
 use mathlib.Core.Path.{ap}
 use Rattle.split.specs.Made.{countsOf}
+use Rattle.split.proofs.Bounds.{face-hands}
 use Rattle.split.proofs.Steps.{face-cut-steps}
 use Rattle.split.proofs.face_cut.Statement.{statement}
 use Rattle.split.proofs.face_cut.Tie as tie
@@ -66,11 +67,13 @@ returns c =
     let at-triangle-at = at-children .before in
     let at-store-point = at-triangle-at .before .before .before .before .before in
     let at-third-of = at-store-point .before .before in
-    let args = at-third-of .before .before .before .before .before .before .before .args in
+    let at-start = at-third-of .before .before .before .before .before .before .before in
+    let args = at-start .args in
     let n = countsOf (args .work) in
-    face-cut-steps _ _ _ _ _ _ _ (at-third-of .third-of .ensures n (args .links .now) (args .generations .now))
+    face-hands _ _ _ (at-start .pre .0 .young)
+    (face-cut-steps _ _ _ _ _ _ _ (at-third-of .third-of .ensures n (args .links .now) (args .generations .now))
     (at-store-point .store-point .ensures) (at-triangle-at .triangle-at .ensures n) (at-children .children .ensures)
-    (at-replace .replace .ensures n)
+    (at-replace .replace .ensures n)) (at-start .pre .1)
 
 pub face-cut-spec : {M : Type 1} → statement M
 face-cut-spec =

@@ -3,8 +3,9 @@ use borrow.Author.Needs.{needs}
 use borrow.Author.Tests.{eq-eqb, ne-eqb, not-true, not-false}
 use native.Mathlib.Omega.{arith}
 use mathlib.Core.Bool.{true, false}
-use mathlib.Core.Path.{_≡_, refl, sym, _∙_}
+use mathlib.Core.Path.{_≡_, refl, sym, ap, _∙_}
 use Prim.Native.Nat.{_*_}
+use native.Mathlib.Nat.{add-zero}
 use lib.Dec.{eqb}
 use Rattle.rules.proofs.Steps.StepRefusals.{longRing, step-by-tests}
 use Rattle.rules.specs.Calls.{closedEven, roomFor}
@@ -52,7 +53,8 @@ room-told : (c : tie.After-has-room) →
     c .has-room .result ≡ roomFor (m .topology .triangles) (2 * m .topology .triangles) m
 room-told c =
     let m = mesh (start (c .before .before .before .before .before .before .before)) in
-    c .has-room .ensures (m .topology .corners) (m .topology .links)
+    let f = m .topology .triangles in
+    c .has-room .ensures (m .topology .corners) (m .topology .links) ∙ ap (λ v. roomFor v (2 * f) m) (add-zero f)
 
 closed-even-requires : tie.Need-closed-even-requires
 closed-even-requires c κs =

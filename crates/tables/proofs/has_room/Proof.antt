@@ -26,6 +26,9 @@ cast-vertices c = search needs
 add-vertices : tie.Need-add-vertices
 add-vertices c = search needs
 
+add-vertices-2 : tie.Need-add-vertices-2
+add-vertices-2 c = search needs
+
 cast-triangles : tie.Need-cast-triangles
 cast-triangles c = search needs
 
@@ -38,13 +41,13 @@ add-triangles c = search needs
 returns : tie.Need-returns
 returns c corners links =
     let args = c .before .before .before .args in
-    room-by-triangles (args .splits) (2 * args .splits)
+    room-by-triangles (args .splits + args .rim) (2 * args .splits)
     (meshNow (args .counts) (args .positions .now) corners links (args .generations .now)) (c .if1 .taken)
 
 returns-2 : tie.Need-returns-2
 returns-2 c corners links =
     let args = c .before .before .before .args in
-    no-room (args .splits) (2 * args .splits)
+    no-room (args .splits + args .rim) (2 * args .splits)
     (meshNow (args .counts) (args .positions .now) corners links (args .generations .now)) (c .if1 .left)
 
 pub has-room-spec : {M : Type 1} → statement M
@@ -53,6 +56,7 @@ has-room-spec =
     (tie.spec
     cast-vertices
     add-vertices
+    add-vertices-2
     cast-triangles
     mul-triangles
     add-triangles
