@@ -1,5 +1,5 @@
 -- The first refusal of a call, found test by test.
-use borrow.Author.Tests.{not-true, not-false, leb-false, le-leb, lt-leb, lt-ltb, le-ltb}
+use borrow.Author.Tests.{not-true, not-false, leb-false, le-leb, lt-leb, lt-ltb, le-ltb, eq-eqb, ne-eqb}
 use mathlib.Core.Bool.{Bool, true, false, not}
 use mathlib.Core.List.{List, [], _∷_}
 use mathlib.Core.Logic.{_≢_}
@@ -15,13 +15,13 @@ use Rattle.rules.proofs.Calls.FirstThatHolds.{refuses, carries, Judged, carried
 use Rattle.rules.proofs.Soundness.SoundTest.{tables-agree-is, sound-is}
 use Rattle.rules.specs.Below.{any}
 use Rattle.rules.specs.Calls.{Test, _if_, firstOf, Outcome, answerOf, noRoom, ringRoom, outcomeOf, zeroPoint}
-use Rattle.rules.specs.Calls.{refusedWith, splitsOf, roomFor, worked, loadCall}
-use Rattle.rules.specs.Calls.{refineRefusal, refineCall, closedEven, wholeStepRefusal, limitRefusal, ringRefusal, ringRead, ringCall}
-use Rattle.rules.specs.Calls.{positionRefusal, positionRead, positionCall}
+use Rattle.rules.specs.Calls.{refusedWith, splitsOf, roomFor, worked, loadCall, refineRefusal, refineCall, closedEven}
+use Rattle.rules.specs.Calls.{wholeStepRefusal, limitRefusal, ringRefusal, ringRead, ringCall, positionRefusal}
+use Rattle.rules.specs.Calls.{positionRead, positionCall, verticesOf, trianglesOf, tooOld}
 use Rattle.rules.specs.Ring.{ring}
 use Rattle.rules.specs.Sound.{Sound, isSound}
 use Rattle.rules.specs.Split.{chainEnd, atFirst, refine}
-use Rattle.rules.specs.Tables.{Mesh, TablesAgree, tablesAgree, generation, odd}
+use Rattle.rules.specs.Tables.{Mesh, TablesAgree, tablesAgree, generation, odd, Topology, boundary, link}
 use Rattle.mesh.specs.Answers.{standing}
 
 -- Where one of the first two tests refuses, the later ones do not matter; where none does, they decide.
@@ -82,46 +82,44 @@ module _ (t : ℕ) (m : Mesh) where
       1 if not (tablesAgree m)
       ∷ 7 if not (isSound m)
       ∷ 8 if leb (m .topology .triangles) t
-      ∷ 9 if eqb (generation (m .topology) t) 20
+      ∷ 9 if tooOld (m .topology) t
       ∷ []
       )
 
   pub triangle-standing : (r : ℕ) → r ≡ standing m → r ≢ 0 → r ≡ triangleRefusal
   triangle-standing r =
       two-kept (not (tablesAgree m)) (not (isSound m))
-      (8 if leb (m .topology .triangles) t ∷ 9 if eqb (generation (m .topology) t) 20 ∷ []) r
+      (8 if leb (m .topology .triangles) t ∷ 9 if tooOld (m .topology) t ∷ []) r
 
   -- The refusal by the answers of the tests. A test that was not made stands for itself.
   module _ (r : ℕ) (s : r ≡ standing m) (z : r ≡ 0) where
-    triangle-by-tests : {a b : Bool} → leb (m .topology .triangles) t ≡ a → eqb (generation (m .topology) t) 20 ≡ b
+    triangle-by-tests : {a b : Bool} → leb (m .topology .triangles) t ≡ a → tooOld (m .topology) t ≡ b
         → firstOf (8 if a ∷ 9 if b ∷ []) ≡ triangleRefusal
     triangle-by-tests a b =
         sym (two-passed (not (tablesAgree m)) (not (isSound m))
-        (8 if leb (m .topology .triangles) t ∷ 9 if eqb (generation (m .topology) t) 20 ∷ []) r s z ∙ rw (b, a))
+        (8 if leb (m .topology .triangles) t ∷ 9 if tooOld (m .topology) t ∷ []) r s z ∙ rw (b, a))
 
     pub triangle-eight : leb (m .topology .triangles) t ≡ true → 8 ≡ triangleRefusal
     triangle-eight a = triangle-by-tests a refl
 
     module _ (a : leb (m .topology .triangles) t ≡ false) where
-      pub triangle-nine : eqb (generation (m .topology) t) 20 ≡ true → 9 ≡ triangleRefusal
+      pub triangle-nine : tooOld (m .topology) t ≡ true → 9 ≡ triangleRefusal
       triangle-nine b = triangle-by-tests a b
 
-      pub triangle-none : eqb (generation (m .topology) t) 20 ≡ false → 0 ≡ triangleRefusal
+      pub triangle-none : tooOld (m .topology) t ≡ false → 0 ≡ triangleRefusal
       triangle-none b = triangle-by-tests a b
 
-  -- The tests of the base chain come after them.
+  -- The test of the base chain comes after them.
   abbrev chainTests : List Test
   chainTests =
-      10 if odd (generation (m .topology) (chainEnd (m .topology) t))
-      ∷ 11 if not (roomFor (splitsOf (m .topology) t) m)
-      ∷ []
+      11 if not (roomFor (verticesOf (m .topology) t) (trianglesOf (m .topology) t) m) ∷ []
 
   module _ (r : ℕ) (e : r ≡ triangleRefusal) where
     pub refine-triangle : r ≢ 0 → r ≡ refineRefusal t m
     unfolding refineRefusal
     refine-triangle =
         four-kept (not (tablesAgree m)) (not (isSound m)) (leb (m .topology .triangles) t)
-        (eqb (generation (m .topology) t) 20) chainTests r e
+        (tooOld (m .topology) t) chainTests r e
 
     module _ (z : r ≡ 0) where
       pub refine-chain : (q : ℕ) → q ≡ firstOf chainTests → q ≡ refineRefusal t m
@@ -129,7 +127,7 @@ module _ (t : ℕ) (m : Mesh) where
       refine-chain q f =
           f
           ∙ sym (four-passed (not (tablesAgree m)) (not (isSound m)) (leb (m .topology .triangles) t)
-          (eqb (generation (m .topology) t) 20) chainTests r e z)
+          (tooOld (m .topology) t) chainTests r e z)
 
       -- The base chain of t is then no longer than there are generations.
       pub refine-young : generation (m .topology) t ≤ 20
@@ -140,7 +138,7 @@ module _ (t : ℕ) (m : Mesh) where
               1 if not a
               ∷ 7 if not b
               ∷ 8 if d
-              ∷ 9 if eqb (generation (m .topology) t) 20
+              ∷ 9 if tooOld (m .topology) t
               ∷ []
               ) ≡ 0
               → generation (m .topology) t ≤ 20
@@ -149,20 +147,25 @@ module _ (t : ℕ) (m : Mesh) where
           go true false s d f q = absurd (omega arith)
           go false b s d f q = absurd (omega arith)
 
--- The answers of the two tests of a chain.
-module _ (m : Mesh) (v s : ℕ) where
-  abbrev chainRefusal : ℕ
-  chainRefusal = firstOf (10 if odd (generation (m .topology) v) ∷ 11 if not (roomFor s m) ∷ [])
+-- The answers of the test of age, by the generation g and what the base links to.
+module _ (m : Topology) (t g : ℕ) (e : g ≡ generation m t) where
+  pub old-twenty : g ≡ 20 → eqb g 20 ≡ tooOld m t
+  old-twenty q = eq-eqb _ _ q ∙ rw (eq-eqb _ _ (sym e ∙ q), tooOld)
 
-  pub chain-ten : odd (generation (m .topology) v) ≡ true → 10 ≡ chainRefusal
-  chain-ten a = rw a
+  pub old-none : g ≢ 20 → g ≢ 19 → eqb g 19 ≡ tooOld m t
+  old-none n k = ne-eqb _ _ k ∙ rw (ne-eqb _ _ (λ q. n (e ∙ q)), ne-eqb _ _ (λ q. k (e ∙ q)), tooOld)
 
-  module _ (a : odd (generation (m .topology) v) ≡ false) where
-    pub chain-eleven : roomFor s m ≡ false → 11 ≡ chainRefusal
-    chain-eleven b = rw (a, b)
+pub old-nineteen : (m : Topology) (t g h : ℕ) → g ≡ generation m t → g ≢ 20 → g ≡ 19 → h ≡ link m (3 * t)
+    → eqb h boundary ≡ tooOld m t
+old-nineteen m t g h e n q l = rw (l, ne-eqb _ _ (λ z. n (e ∙ z)), eq-eqb _ _ (sym e ∙ q), tooOld)
 
-    pub chain-none : roomFor s m ≡ true → 0 ≡ chainRefusal
-    chain-none b = rw (a, b)
+-- The answer of the test of a chain.
+module _ (v f : ℕ) (m : Mesh) where
+  pub chain-eleven : roomFor v f m ≡ false → 11 ≡ firstOf (11 if not (roomFor v f m) ∷ [])
+  chain-eleven b = rw b
+
+  pub chain-none : roomFor v f m ≡ true → 0 ≡ firstOf (11 if not (roomFor v f m) ∷ [])
+  chain-none b = rw b
 
 -- ---- whole step and limit positions
 
@@ -173,7 +176,7 @@ step-standing m r =
     12 if not (closedEven (m .topology))
     ∷ 9 if eqb (generation (m .topology) 0) 20
     ∷ 13 if any (m .topology .vertices) (λ v. ltb 12 (length (ring (m .topology) v)))
-    ∷ 11 if not (roomFor (m .topology .triangles) m)
+    ∷ 11 if not (roomFor (m .topology .triangles) (2 * m .topology .triangles) m)
     ∷ []
     ) r
 

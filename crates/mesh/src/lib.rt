@@ -6,15 +6,16 @@ use tables::Worked;
 ghost use mathlib.Core.Path.{_≡_};
 ghost use mathlib.Core.List.{List, [], _∷_};
 ghost use mathlib.Core.Bool.{not};
-ghost use Prim.Native.Nat.{ℕ, max};
-ghost use lib.Dec.{eqb, leb};
+ghost use Prim.Native.Nat.{ℕ, _+_, _-_, _*_, max};
+ghost use lib.Dec.{leb};
 ghost use lib.IntN.{ℤ};
-ghost use Rattle.rules.specs.Calls.{firstOf, _if_, roomFor, loadCall, refineCall, wholeStepCall};
+ghost use Rattle.rules.specs.Calls.{firstOf, _if_, roomFor, tooOld, loadCall, refineCall, wholeStepCall};
 ghost use Rattle.rules.specs.Calls.{limitCall, ringCall, positionCall, positionRefusal};
 ghost use Rattle.rules.specs.Sound.{isSound};
-ghost use Rattle.rules.specs.Tables.{tablesAgree, generation, odd};
+ghost use Rattle.rules.specs.Tables.{tablesAgree};
 ghost use Rattle.tables.specs.Answers.{workedOutcome};
-ghost use Rattle.tables.specs.Lent.{meshNow};
+ghost use Rattle.tables.specs.Lent.{topologyNow, meshNow};
+ghost use Rattle.tables.specs.declared.Counts.{Counts};
 ghost use Rattle.mesh.specs.Answers.{standing, limitOutcome, noRing, FoundFor, ringOutcome, positionOutcome};
 
 // The answer of ring.
@@ -96,13 +97,22 @@ pub fn load(
     }
 }
 
+// Whether t may rise no more: it is of generation 20, or of 19 with its base on the boundary.
+fn too_old(links: &[u32], generations: &[u8], t: u32) -> bool
+    ensures { λ r. ⌜ ((n : Counts) (corners : List ℕ) →
+        r ≡ tooOld (topologyNow n corners (now (links .entry)) (now (generations .entry))) t) ⌝ }
+{
+    let g = tables::generation_at(generations, t);
+    g == 20 || (g == 19 && tables::base_link(links, t) == tables::BOUNDARY)
+}
+
 // The refusal of a refine by the mesh, whose own first refusal is `bad`, and the triangle; or 0.
-fn triangle_refusal(generations: &[u8], counts: Counts, t: u32, bad: u32) -> u32
-    ensures { λ r. ⌜ ((positions : List ℤ) (corners links : List ℕ) →
-        let m = meshNow counts positions corners links (now (generations .entry)) in
+fn triangle_refusal(links: &[u32], generations: &[u8], counts: Counts, t: u32, bad: u32) -> u32
+    ensures { λ r. ⌜ ((positions : List ℤ) (corners : List ℕ) →
+        let m = meshNow counts positions corners (now (links .entry)) (now (generations .entry)) in
         bad ≡ standing m
         → r ≡ firstOf (1 if not (tablesAgree m) ∷ 7 if not (isSound m)
-        ∷ 8 if leb (m .topology .triangles) t ∷ 9 if eqb (generation (m .topology) t) 20 ∷ [])) ⌝ }
+        ∷ 8 if leb (m .topology .triangles) t ∷ 9 if tooOld (m .topology) t ∷ [])) ⌝ }
 {
     if bad != 0 {
         return bad;
@@ -110,7 +120,7 @@ fn triangle_refusal(generations: &[u8], counts: Counts, t: u32, bad: u32) -> u32
     if counts.triangles <= t {
         return 8;
     }
-    if tables::generation_at(generations, t) == 20 {
+    if too_old(links, generations, t) {
         return 9;
     }
     0
@@ -120,13 +130,10 @@ fn triangle_refusal(generations: &[u8], counts: Counts, t: u32, bad: u32) -> u32
 fn chain_refusal(positions: &[i32], generations: &[u8], counts: Counts, chain: Chain) -> u32
     ensures { λ r. ⌜ ((corners links : List ℕ) →
         let m = meshNow counts (now (positions .entry)) corners links (now (generations .entry)) in
-        r ≡ firstOf (10 if odd (generation (m .topology) (chain .end))
-        ∷ 11 if not (roomFor (max 1 (chain .odd)) m) ∷ [])) ⌝ }
+        let s = max 1 (chain .odd - chain .rim) in
+        r ≡ firstOf (11 if not (roomFor (s + chain .rim) (2 * s) m) ∷ [])) ⌝ }
 {
-    if tables::generation_at(generations, chain.end) % 2 == 1 {
-        return 10;
-    }
-    if !tables::has_room(positions, generations, counts, chain.splits()) {
+    if !tables::has_room(positions, generations, counts, chain.splits(), chain.rim) {
         return 11;
     }
     0
@@ -148,7 +155,7 @@ fn refine_known(
         ≡ refineCall t (meshNow counts (now (positions .entry)) (now (corners .entry)) (now (links .entry))
         (now (generations .entry))) ⌝ }
 {
-    let refused = triangle_refusal(generations, counts, t, bad);
+    let refused = triangle_refusal(links, generations, counts, t, bad);
     if refused != 0 {
         return Worked {
             refusal: refused,

@@ -1,7 +1,6 @@
 -- The base chain falls and its count is exact; refine raises its triangle, and is Kobbelt's procedure.
 pub mod Runs
 pub mod Chain
-pub mod ChainEnd
 pub mod Remembered
 pub mod Raise
 pub mod Refine

@@ -12,7 +12,7 @@ use Rattle.rules.specs.Numbers.{numberAt, signed, floorDiv, nearestThird
 use Rattle.rules.specs.Ring.{firstSide, fanFrom, fan, neighbours, ring}
 use Rattle.rules.specs.Sound.{isLinked, soundSide, hasOneFan, isSound}
 use Rattle.rules.specs.Split.{split, flip, centre, splitPlaced, settle, faceSplit, chainEndWithin, chainOddWithin}
-use Rattle.rules.specs.Split.{raise, refine}
+use Rattle.rules.specs.Split.{raise, refine, rimCut, firstThird, secondThird, rimPlaced, rimSplit}
 use Rattle.rules.specs.Step.{sumOver, movedCoordinate, moveVertices, refineFirst, wholeStep, limitCoordinate}
 use Rattle.rules.specs.Step.{limitPositions}
 use Rattle.rules.specs.Tables.{Mesh, topologyOf, meshOf, tablesAgree}
@@ -23,7 +23,8 @@ unfolding all any lowest total fill cageOf partner loaded sizesFit cornersFit co
     closedEven loadRefusal refineRefusal wholeStepRefusal ringRefusal positionRefusal loadCall refineCall
     wholeStepCall ringCall positionCall after outcomes lastLoad edges cageEdges numberAt signed floorDiv nearestThird
     halfUp weights weight moved firstSide fanFrom fan neighbours ring isLinked soundSide hasOneFan isSound split flip
-    limit limitCoordinate limitPositions limitRefusal limitCall centre splitPlaced settle faceSplit chainEndWithin chainOddWithin raise refine sumOver movedCoordinate
+    limit limitCoordinate limitPositions limitRefusal limitCall centre firstThird secondThird splitPlaced rimCut
+    rimPlaced settle faceSplit rimSplit chainEndWithin chainOddWithin raise refine sumOver movedCoordinate
     moveVertices refineFirst wholeStep tablesAgree
 computing = tt
 

@@ -1,12 +1,13 @@
 -- The twelve facts of the tetrahedron run, computed from the rules. (The tetrahedron run)
-use Prim.Native.Nat.{ℕ, _+_, _*_}
-use mathlib.Core.List.{List, [], _∷_, map}
+use Prim.Native.Nat.{ℕ, zero, suc, _+_, _-_, _*_}
+use mathlib.Core.List.{List, [], _∷_, _++_, map}
 use mathlib.Core.Path.{_≡_, refl}
 use lib.IntN.{ℤ, pos}
-use Rattle.rules.proofs.Computing.{computing, made, madeEach, fresh, tetrahedron}
-use Rattle.rules.specs.Calls.{Outcome}
+use Rattle.rules.proofs.Computing.{computing, made, madeEach, fresh, tetrahedron, bytes}
+use Rattle.rules.specs.Calls.{Outcome, refineCall}
 use Rattle.rules.specs.History.{Change, loads, refines, steps}
-use Rattle.rules.specs.Tables.{Mesh, origin, generation, coordinate}
+use Rattle.rules.specs.Tables.{Mesh, origin, generation, coordinate, topologyOf, meshOf, boundary}
+use lib.ListN.{replicate}
 
 -- ---- what the facts speak of
 
@@ -63,3 +64,125 @@ tetrahedron-run = record {
   p12₀ = refl;
   p12₁ = refl;
 }
+
+-- ---- one triangle, whose three sides are on the boundary, becomes the nine of Figure 8 (request b)
+
+unfoldable pub oneTriangle : List ℕ
+unfolding bytes
+oneTriangle = bytes (3 ∷ 1 ∷ 0 ∷ 0 ∷ 0 ∷ 9 ∷ 0 ∷ 0 ∷ 0 ∷ 9 ∷ 0 ∷ 0 ∷ 1 ∷ 2 ∷ [])
+
+unfoldable pub nineRun : List Change
+nineRun = loads oneTriangle ∷ refines 0 ∷ refines 0 ∷ refines 1 ∷ refines 2 ∷ []
+
+-- A second run: the seventh refine meets a chain of four odd triangles that ends at the boundary.
+unfoldable pub deepRun : List Change
+deepRun =
+    loads oneTriangle ∷ refines 0 ∷ refines 0 ∷ refines 0 ∷ refines 0 ∷ refines 0 ∷ refines 0 ∷ refines 0 ∷ refines 0
+    ∷ refines 0 ∷ []
+
+unfoldable pub shellStore : Mesh
+shellStore = fresh 64 128
+
+pub record NineTable : Type 0 where
+  pub lines : map lineOf (madeEach nineRun shellStore) ≡
+      (0 ∷ 0 ∷ 0 ∷ 3 ∷ 1 ∷ [])
+      ∷ (0 ∷ 1 ∷ 0 ∷ 4 ∷ 3 ∷ [])
+      ∷ (0 ∷ 1 ∷ 0 ∷ 6 ∷ 5 ∷ [])
+      ∷ (0 ∷ 1 ∷ 1 ∷ 8 ∷ 7 ∷ [])
+      ∷ (0 ∷ 1 ∷ 2 ∷ 10 ∷ 9 ∷ [])
+      ∷ []
+  -- The nine triangles, all of generation 4.
+  pub triangles : map (triangleOf (made nineRun shellStore)) (0 ∷ 1 ∷ 2 ∷ 3 ∷ 4 ∷ 5 ∷ 6 ∷ 7 ∷ 8 ∷ []) ≡
+      (3 ∷ 9 ∷ 4 ∷ 4 ∷ [])
+      ∷ (3 ∷ 5 ∷ 6 ∷ 4 ∷ [])
+      ∷ (3 ∷ 7 ∷ 8 ∷ 4 ∷ [])
+      ∷ (4 ∷ 5 ∷ 3 ∷ 4 ∷ [])
+      ∷ (1 ∷ 6 ∷ 5 ∷ 4 ∷ [])
+      ∷ (6 ∷ 7 ∷ 3 ∷ 4 ∷ [])
+      ∷ (2 ∷ 8 ∷ 7 ∷ 4 ∷ [])
+      ∷ (8 ∷ 9 ∷ 3 ∷ 4 ∷ [])
+      ∷ (0 ∷ 4 ∷ 9 ∷ 4 ∷ [])
+      ∷ []
+  -- A' of the first rim split is nearer to A, B' to B.
+  pub first : pointOf (made nineRun shellStore) 4 ≡ pos 3 ∷ pos 0 ∷ pos 0 ∷ []
+  pub second : pointOf (made nineRun shellStore) 5 ≡ pos 6 ∷ pos 0 ∷ pos 0 ∷ []
+  pub deep : map lineOf (madeEach deepRun shellStore) ≡
+      (0 ∷ 0 ∷ 0 ∷ 3 ∷ 1 ∷ [])
+      ∷ (0 ∷ 1 ∷ 0 ∷ 4 ∷ 3 ∷ [])
+      ∷ (0 ∷ 1 ∷ 0 ∷ 6 ∷ 5 ∷ [])
+      ∷ (0 ∷ 1 ∷ 1 ∷ 8 ∷ 7 ∷ [])
+      ∷ (0 ∷ 1 ∷ 0 ∷ 9 ∷ 9 ∷ [])
+      ∷ (0 ∷ 1 ∷ 1 ∷ 10 ∷ 11 ∷ [])
+      ∷ (0 ∷ 1 ∷ 0 ∷ 11 ∷ 13 ∷ [])
+      ∷ (0 ∷ 3 ∷ 4 ∷ 15 ∷ 19 ∷ [])
+      ∷ (0 ∷ 1 ∷ 0 ∷ 16 ∷ 21 ∷ [])
+      ∷ (0 ∷ 3 ∷ 3 ∷ 19 ∷ 27 ∷ [])
+      ∷ []
+
+pub nine-triangles : NineTable
+unfolding computing nineRun deepRun shellStore fresh oneTriangle
+nine-triangles = record { lines = refl; triangles = refl; first = refl; second = refl; deep = refl }
+
+-- ---- base chains of 1 to 10 odd triangles that end at the boundary (request b)
+
+-- n triangles from slot j on, round vertex 0: the base of each is side 1 of the one before, the first base is on the
+-- boundary, and so are the other sides.
+unfoldable pub chainCorners : ℕ → ℕ → List ℕ
+chainCorners zero j = []
+chainCorners (suc n) j = (j + 1) ∷ 0 ∷ (j + 2) ∷ chainCorners n (j + 1)
+
+unfoldable pub chainLinks : ℕ → ℕ → ℕ → List ℕ
+chainLinks zero j base = []
+chainLinks (suc zero) j base = base ∷ boundary ∷ boundary ∷ []
+chainLinks (suc (suc n)) j base = base ∷ (3 * (j + 1)) ∷ boundary ∷ chainLinks (suc n) (j + 1) (3 * j + 1)
+
+unfoldable pub chainGenerations : ℕ → ℕ → List ℕ
+chainGenerations zero j = []
+chainGenerations (suc n) j = (2 * j + 1) ∷ chainGenerations n (j + 1)
+
+-- Such a chain of n, with v and f slots more.
+unfoldable pub chainOf : ℕ → ℕ → ℕ → Mesh
+unfolding chainCorners chainLinks chainGenerations
+chainOf n v f =
+    meshOf (topologyOf (n + 2) n
+    (chainCorners n 0 ++ replicate (3 * f) 0)
+    (chainLinks n 0 boundary ++ replicate (3 * f) 0)
+    (chainGenerations n 0 ++ replicate f 0))
+    (replicate (3 * (n + 2 + v)) (pos 0))
+
+-- Its last triangle refined: with room for v vertices and f triangles more.
+unfoldable pub lastRefined : ℕ × ℕ × ℕ → List ℕ
+unfolding chainOf
+lastRefined (n, v, f) = lineOf (refineCall (n - 1) (chainOf n v f))
+
+pub record ChainTable : Type 0 where
+  -- V + 2 and F + 2 for one odd triangle; V + n and F + 2 (n - 1) for n of them.
+  pub enough :
+      map lastRefined (
+      (1, 2, 2) ∷ (2, 2, 2) ∷ (3, 3, 4) ∷ (4, 4, 6) ∷ (5, 5, 8) ∷ (6, 6, 10) ∷ (7, 7, 12) ∷ (8, 8, 14) ∷ (9, 9, 16)
+      ∷ [])
+      ≡ (0 ∷ 1 ∷ 0 ∷ 5 ∷ 3 ∷ [])
+      ∷ (0 ∷ 1 ∷ 1 ∷ 6 ∷ 4 ∷ [])
+      ∷ (0 ∷ 2 ∷ 2 ∷ 8 ∷ 7 ∷ [])
+      ∷ (0 ∷ 3 ∷ 3 ∷ 10 ∷ 10 ∷ [])
+      ∷ (0 ∷ 4 ∷ 4 ∷ 12 ∷ 13 ∷ [])
+      ∷ (0 ∷ 5 ∷ 5 ∷ 14 ∷ 16 ∷ [])
+      ∷ (0 ∷ 6 ∷ 6 ∷ 16 ∷ 19 ∷ [])
+      ∷ (0 ∷ 7 ∷ 7 ∷ 18 ∷ 22 ∷ [])
+      ∷ (0 ∷ 8 ∷ 8 ∷ 20 ∷ 25 ∷ [])
+      ∷ []
+  pub ten : lastRefined (10, 10, 18) ≡ 0 ∷ 9 ∷ 9 ∷ 22 ∷ 28 ∷ []
+  -- One slot less is too few.
+  pub tooFew :
+      map lastRefined ((1, 1, 2) ∷ (1, 2, 1) ∷ (2, 1, 2) ∷ (2, 2, 1) ∷ (10, 9, 18) ∷ (10, 10, 17) ∷ [])
+      ≡ (11 ∷ 0 ∷ 0 ∷ 3 ∷ 1 ∷ [])
+      ∷ (11 ∷ 0 ∷ 0 ∷ 3 ∷ 1 ∷ [])
+      ∷ (11 ∷ 0 ∷ 0 ∷ 4 ∷ 2 ∷ [])
+      ∷ (11 ∷ 0 ∷ 0 ∷ 4 ∷ 2 ∷ [])
+      ∷ (11 ∷ 0 ∷ 0 ∷ 12 ∷ 10 ∷ [])
+      ∷ (11 ∷ 0 ∷ 0 ∷ 12 ∷ 10 ∷ [])
+      ∷ []
+
+pub chains : ChainTable
+unfolding computing chainOf lastRefined
+chains = record { enough = refl; ten = refl; tooFew = refl }

@@ -6,7 +6,8 @@ use lib.IntN.{pos}
 use lib.ListN.{replicate, take}
 use Rattle.rules.proofs.Computing.{computing, made, fresh, bytes, tetrahedron}
 use Rattle.rules.specs.History.{Change, loads, refines, steps, ringOf, limitsOf, Call, changes, asks, outcome}
-use Rattle.rules.specs.Tables.{Mesh, topologyOf, meshOf}
+use Rattle.rules.specs.History.{after}
+use Rattle.rules.specs.Tables.{Mesh, topologyOf, meshOf, boundary}
 
 -- The refusal of the last call, on a mesh, after the others.
 abbrev pub refusalAfter : List Change → Call → Mesh → ℕ
@@ -40,6 +41,12 @@ grown =
     meshOf (topologyOf 3 2 (0 ∷ 1 ∷ 2 ∷ 0 ∷ 2 ∷ 1 ∷ []) (5 ∷ 4 ∷ 3 ∷ 2 ∷ 1 ∷ 0 ∷ []) (20 ∷ 20 ∷ []))
     (replicate 9 (pos 0))
 
+-- One triangle of generation g with its three sides on the boundary, and room for a rim split.
+unfoldable pub shell : ℕ → Mesh
+shell g =
+    let links = boundary ∷ boundary ∷ boundary ∷ replicate 6 0 in
+    meshOf (topologyOf 3 1 (0 ∷ 1 ∷ 2 ∷ replicate 6 0) links (g ∷ 0 ∷ 0 ∷ [])) (replicate 15 (pos 0))
+
 -- The first k pairs of triangles of a double pyramid on n sides: its apexes are n and n + 1.
 unfoldable pub pyramids : ℕ → ℕ → List ℕ
 pyramids n zero = []
@@ -59,7 +66,11 @@ pub record Table : Type 0 where
   pub n7 : refusalAfter [] (changes (refines 0)) small ≡ 7
   pub n8 : refusalAfter (loads tetrahedron ∷ []) (changes (refines 4)) small ≡ 8
   pub n9 : refusalAfter [] (changes (refines 0)) grown ≡ 9
-  pub n10 : refusalAfter (loads triangle ∷ refines 0 ∷ []) (changes (refines 0)) small ≡ 10
+  -- Generation 19 with its base on the boundary, and 17.
+  pub n9AtBoundary : refusalAfter [] (changes (refines 0)) (shell 19) ≡ 9
+  pub seventeenIsAllowed : refusalAfter [] (changes (refines 0)) (shell 17) ≡ 0
+  -- The outline's example of 10 is refined.
+  pub not10 : refusalAfter (loads triangle ∷ refines 0 ∷ []) (changes (refines 0)) small ≡ 0
   pub n11 : refusalAfter (loads tetrahedron ∷ []) (changes (refines 0)) (fresh 6 5) ≡ 11
   pub n12 : refusalAfter (loads tetrahedron ∷ refines 0 ∷ []) (changes steps) small ≡ 12
   pub n13 : refusalAfter (loads (doublePyramid 13) ∷ []) (changes steps) (fresh 15 26) ≡ 13
@@ -71,7 +82,7 @@ pub record Table : Type 0 where
   pub twentyIsAnswered : refusalAfter [] (asks (limitsOf (replicate 9 (pos 7)))) grown ≡ 0
 
 pub refusals : Table
-unfolding computing fresh small uneven tetrahedron cageAtOrigin triangle tooFar grown doublePyramid
+unfolding computing fresh small uneven tetrahedron cageAtOrigin triangle tooFar grown shell doublePyramid
 refusals = record {
   n1 = refl;
   n2 = refl;
@@ -82,7 +93,9 @@ refusals = record {
   n7 = refl;
   n8 = refl;
   n9 = refl;
-  n10 = refl;
+  n9AtBoundary = refl;
+  seventeenIsAllowed = refl;
+  not10 = refl;
   n11 = refl;
   n12 = refl;
   n13 = refl;

@@ -2,27 +2,30 @@
 use mathlib.Core.Path.{_≡_}
 use mathlib.Core.Logic.{_≢_, _↔_}
 use mathlib.Core.List.{List, []}
-use Prim.Native.Nat.{ℕ, _*_, _%_, _≤_, _<_}
+use Prim.Native.Nat.{ℕ, _-_, _*_, _%_, _≤_, _<_}
 use lib.ListN.{length, getD}
 use lib.Dec.{T}
 use lib.IntN.{ℤ, pos, natAbs, _-ℤ_, _*ℤ_}
 use Rattle.rules.proofs.Calls.CallRefusals.{load-refusal, refine-refusal, whole-step-refusal, ring-refusal}
-use Rattle.rules.proofs.Calls.CallRefusals.{position-refusal, limit-refusal, refused-leaves, chain-counted}
+use Rattle.rules.proofs.Calls.CallRefusals.{position-refusal, limit-refusal, refused-leaves}
+use Rattle.rules.proofs.Calls.CallRefusals.{no-ten, taken-at-boundary}
 use Rattle.rules.proofs.Calls.Histories.{every-history, history-sound}
 use Rattle.rules.proofs.Loads.Load.{links-are}
 use Rattle.rules.proofs.Calls.Outcomes.{load-makes, refine-makes, chain-falls, refine-is-split}
 use Rattle.rules.proofs.Calls.Outcomes.{whole-step-makes, limit-makes, ring-reads, position-reads, half-up-nearest}
 use Rattle.rules.proofs.Calls.Outcomes.{half-up-alone}
+use Rattle.rules.proofs.Chains.Refine.{chain-counts, chain-takes}
 use Rattle.rules.proofs.Rings.RingTheory.{ring-makes}
 use Rattle.rules.proofs.Numbers.Rounding.{nearest-third, nearest-third-only}
 use Rattle.rules.proofs.Soundness.SoundTest.{sound-is}
 use Rattle.rules.specs.Below.{fill}
 use Rattle.rules.specs.Cage.{Cage, cageOf, loaded}
 use Rattle.rules.specs.Calls.{refusedWith, worked, loadCall, refineCall, wholeStepCall, ringRead, ringCall}
-use Rattle.rules.specs.Calls.{positionRead, positionCall, limitRead, limitCall}
+use Rattle.rules.specs.Calls.{positionRead, positionCall, limitRead, limitCall, splitsOf}
+use Rattle.rules.specs.Calls.{rimSplitsOf, verticesOf, trianglesOf}
 use Rattle.rules.specs.Conditions.{SidesDiffer, EndsAtBoundary, OddInChain, First, loadConditions}
-use Rattle.rules.specs.Conditions.{refineConditions, wholeStepConditions}
-use Rattle.rules.specs.Conditions.{limitConditions, ringConditions, positionConditions}
+use Rattle.rules.specs.Conditions.{refineConditions, wholeStepConditions, limitConditions, ringConditions}
+use Rattle.rules.specs.Conditions.{positionConditions, Takes}
 use Rattle.rules.specs.History.{Call, outcome, lent, after, lastLoad, nothing, cage, EveryHistory}
 use Rattle.rules.specs.Numbers.{nearestThird, halfUp}
 use Rattle.rules.specs.Promises.{Nearest, Matches, Loaded, ChainFalls, RefineMakes, StepMakes, LimitMakes, RingMakes}
@@ -81,6 +84,10 @@ ring-returns = ring-refusal
 pub position-returns : (v : ℕ) (m : Mesh) → First (positionConditions v m) (positionCall v m .answer .refusal)
 position-returns = position-refusal
 
+-- No call returns 10, on any content of the tables: a base chain that ends at the boundary is split there. (Request b)
+pub never-ten : (c : Call) (m : Mesh) → outcome c m .answer .refusal ≢ 10
+never-ten = no-ten
+
 -- A refused call answers its number with zeros and V and F as they stood, and leaves the mesh and its room.
 pub refusal-leaves : (c : Call) (m : Mesh) → outcome c m .answer .refusal ≢ 0
     → outcome c m ≡ refusedWith (outcome c m .answer .refusal) m (lent c)
@@ -107,10 +114,23 @@ pub refine-carried : (t : ℕ) (m : Mesh) → refineCall t m .answer .refusal �
     (refineCall t m ≡ worked w) × RefineMakes t m w
 refine-carried = refine-makes
 
--- The odd triangles of a base chain that does not end at the boundary are counted, all of them.
-pub chain-whole : (t : ℕ) (m : Mesh) → Sound m → t < m .topology .triangles → ¬ EndsAtBoundary (m .topology) t
+-- The odd triangles of a base chain are counted, all of them.
+pub chain-whole : (t : ℕ) (m : Mesh) → Sound m → t < m .topology .triangles
     → OddInChain (m .topology) t (chainOdd (m .topology) t)
-chain-whole = chain-counted
+chain-whole = chain-counts
+
+-- The splits and rim splits that are computed are those that a refine takes.
+pub splits-taken : (t : ℕ) (m : Mesh) → Sound m → t < m .topology .triangles
+    → Takes (m .topology) t (splitsOf (m .topology) t) (rimSplitsOf (m .topology) t)
+splits-taken = chain-takes
+
+-- Where its base chain, of k odd triangles, ends at the boundary, a refine takes two vertices and two triangles for one
+-- of them, and k vertices and 2 (k - 1) triangles for more. (Request b; Refused inputs, 11)
+pub boundary-taken : (t k : ℕ) (m : Mesh) → Sound m → t < m .topology .triangles → OddInChain (m .topology) t k
+    → EndsAtBoundary (m .topology) t
+    → (k ≡ 1 → (verticesOf (m .topology) t ≡ 2) × (trianglesOf (m .topology) t ≡ 2))
+    × (2 ≤ k → (verticesOf (m .topology) t ≡ k) × (trianglesOf (m .topology) t ≡ 2 * (k - 1)))
+boundary-taken = taken-at-boundary
 
 -- From an odd triangle of a sound mesh the base chain goes on two generations below, or ends one below.
 pub chain-steps : (m : Mesh) → Sound m → (t : ℕ) → t < m .topology .triangles → generation (m .topology) t % 2 ≡ 1

@@ -1,6 +1,6 @@
 -- The calls: what each refuses, answers and writes. (Refused inputs)
-use Prim.Native.Nat.{ℕ, zero, suc, _+_, _*_, max}
-use mathlib.Core.Bool.{Bool, true, false, not, _&&_}
+use Prim.Native.Nat.{ℕ, zero, suc, _+_, _-_, _*_, _%_, max}
+use mathlib.Core.Bool.{Bool, true, false, not, _&&_, _||_}
 use mathlib.Core.List.{List, [], _∷_}
 use lib.Dec.{eqb, ltb, leb}
 use lib.IntN.{ℤ, pos}
@@ -87,14 +87,31 @@ abbrev pub firstOf : List Test → ℕ
 firstOf [] = 0
 firstOf (n if holds ∷ rest) = elim holds [ true ↦ n | false ↦ firstOf rest ]
 
--- Slots for s face splits. (Refused inputs, 11)
-abbrev pub roomFor : ℕ → Mesh → Bool
-roomFor s m = leb (m .topology .vertices + s) (vertexSlots m) && leb (m .topology .triangles + 2 * s) (triangleSlots m)
+-- Slots for v vertices and f triangles more. (Refused inputs, 11)
+abbrev pub roomFor : ℕ → ℕ → Mesh → Bool
+roomFor v f m = leb (m .topology .vertices + v) (vertexSlots m) && leb (m .topology .triangles + f) (triangleSlots m)
 
--- The face splits that refining t takes: one for each odd triangle of its base chain, and one where t is even, as its
--- chain has none. (Refine one triangle)
+-- The rim splits that refining t takes: one where its base chain ends at the boundary, at an odd triangle. (Change
+-- request b)
+abbrev pub rimSplitsOf : Topology → ℕ → ℕ
+rimSplitsOf m t = generation m (chainEnd m t) % 2
+
+-- The splits, face and rim, that refining t takes: one for each odd triangle of its base chain, but one less at the
+-- boundary, where a rim split flips the triangle before too; and one at least. (Refine one triangle; request b)
 abbrev pub splitsOf : Topology → ℕ → ℕ
-splitsOf m t = max 1 (chainOdd m t)
+splitsOf m t = max 1 (chainOdd m t - rimSplitsOf m t)
+
+-- The vertices and the triangles that refining t makes: a rim split makes a vertex more than a face split.
+abbrev pub verticesOf : Topology → ℕ → ℕ
+verticesOf m t = splitsOf m t + rimSplitsOf m t
+
+abbrev pub trianglesOf : Topology → ℕ → ℕ
+trianglesOf m t = 2 * splitsOf m t
+
+-- Refining t would make a triangle above generation 20: t is of generation 20, or of 19 with its base on the boundary,
+-- where a rim split raises it by two. (Refused inputs, 9; request b)
+abbrev pub tooOld : Topology → ℕ → Bool
+tooOld m t = eqb (generation m t) 20 || (eqb (generation m t) 19 && eqb (link m (3 * t)) boundary)
 
 -- No side is on the boundary, and all triangles are of one even generation. (Whole step)
 unfoldable pub closedEven : Topology → Bool
@@ -124,9 +141,8 @@ refineRefusal t m =
     1 if not (tablesAgree m)
     ∷ 7 if not (isSound m)
     ∷ 8 if leb (tri .triangles) t
-    ∷ 9 if eqb (generation tri t) 20
-    ∷ 10 if odd (generation tri (chainEnd tri t))
-    ∷ 11 if not (roomFor (splitsOf tri t) m)
+    ∷ 9 if tooOld tri t
+    ∷ 11 if not (roomFor (verticesOf tri t) (trianglesOf tri t) m)
     ∷ []
     )
 
@@ -139,7 +155,7 @@ wholeStepRefusal m =
     ∷ 12 if not (closedEven tri)
     ∷ 9 if eqb (generation tri 0) 20
     ∷ 13 if any (tri .vertices) (λ v. ltb 12 (length (ring tri v)))
-    ∷ 11 if not (roomFor (tri .triangles) m)
+    ∷ 11 if not (roomFor (tri .triangles) (2 * tri .triangles) m)
     ∷ []
     )
 

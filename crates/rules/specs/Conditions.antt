@@ -1,7 +1,7 @@
 -- The conditions of the refusals as statements, which the tests that the calls compute decide. (Refused inputs)
-use Prim.Native.Nat.{ℕ, suc, _+_, _*_, _/_, _%_, _≤_, _<_, max}
+use Prim.Native.Nat.{ℕ, suc, _+_, _-_, _*_, _/_, _%_, _≤_, _<_, max}
 use mathlib.Core.List.{List, [], _∷_}
-use mathlib.Core.Logic.{_≢_}
+use mathlib.Core.Logic.{_≢_, _⊎_}
 use mathlib.Core.Path.{_≡_}
 use lib.IntN.{ℤ}
 use lib.ListN.{length}
@@ -45,7 +45,11 @@ FansFit c m = (v : ℕ) → v < c .vertices → OneFan (loaded c m .topology) v
 
 -- ---- a mesh
 
--- 10: the base chain of t ends at the boundary.
+-- 9, of a refine: t is of generation 20, or of generation 19 with its base on the boundary. (Request b)
+abbrev pub TooOld : Topology → ℕ → Type 0
+TooOld m t = (generation m t ≡ 20) ⊎ ((generation m t ≡ 19) × (link m (3 * t) ≡ boundary))
+
+-- The base chain of t ends at the boundary. It is split there, so that no call returns 10. (Request b)
 pub data EndsAtBoundary (m : Topology) : ℕ → Type 0 where
   stops : {t : ℕ} → generation m t % 2 ≡ 1 → link m (3 * t) ≡ boundary → EndsAtBoundary m t
   goesOn : {t : ℕ} → generation m t % 2 ≡ 1 → link m (3 * t) ≢ boundary → EndsAtBoundary m (link m (3 * t) / 3)
@@ -58,15 +62,21 @@ pub data OddInChain (m : Topology) : ℕ → ℕ → Type 0 where
   onward : {t k : ℕ} → generation m t % 2 ≡ 1 → link m (3 * t) ≢ boundary → OddInChain m (link m (3 * t) / 3) k
       → OddInChain m t (suc k)
 
--- There are slots for s face splits.
-pub record RoomFor (s : ℕ) (m : Mesh) : Type 0 where
-  pub vertices : m .topology .vertices + s ≤ vertexSlots m
-  pub triangles : m .topology .triangles + 2 * s ≤ triangleSlots m
+-- Refining t takes s splits, q of them rim splits: a split for each odd triangle of its base chain, one less where this
+-- ends at the boundary, and one at least. (Refine one triangle; request b)
+pub data Takes (m : Topology) (t : ℕ) : ℕ → ℕ → Type 0 where
+  evenEnd : {k : ℕ} → OddInChain m t k → ¬ EndsAtBoundary m t → Takes m t (max 1 k) 0
+  boundaryEnd : {k : ℕ} → OddInChain m t k → EndsAtBoundary m t → Takes m t (max 1 (k - 1)) 1
 
--- 11, of a refine: there are too few slots for a split for each odd triangle in the base chain of t, or for one split
--- where t is even.
+-- There are slots for v vertices and f triangles more.
+pub record RoomFor (v f : ℕ) (m : Mesh) : Type 0 where
+  pub vertices : m .topology .vertices + v ≤ vertexSlots m
+  pub triangles : m .topology .triangles + f ≤ triangleSlots m
+
+-- 11, of a refine: there are too few slots for the splits that it takes. Each makes two triangles, a face split one
+-- vertex and a rim split two.
 abbrev pub TooFewSlots : ℕ → Mesh → Type 0
-TooFewSlots t m = (k : ℕ) × OddInChain (m .topology) t k × (¬ RoomFor (max 1 k) m)
+TooFewSlots t m = (s : ℕ) × (q : ℕ) × Takes (m .topology) t s q × (¬ RoomFor (s + q) (2 * s) m)
 
 -- Not 12: no side is on the boundary, and all triangles are of one even generation.
 pub record ClosedEven (m : Topology) : Type 0 where
@@ -110,8 +120,7 @@ refineConditions t m =
     1 when (¬ TablesAgree m)
     ∷ 7 when (¬ Sound m)
     ∷ 8 when (¬ (t < m .topology .triangles))
-    ∷ 9 when (generation (m .topology) t ≡ 20)
-    ∷ 10 when EndsAtBoundary (m .topology) t
+    ∷ 9 when TooOld (m .topology) t
     ∷ 11 when TooFewSlots t m
     ∷ []
 
@@ -122,7 +131,7 @@ wholeStepConditions m =
     ∷ 12 when (¬ ClosedEven (m .topology))
     ∷ 9 when (generation (m .topology) 0 ≡ 20)
     ∷ 13 when LongRing (m .topology)
-    ∷ 11 when (¬ RoomFor (m .topology .triangles) m)
+    ∷ 11 when (¬ RoomFor (m .topology .triangles) (2 * m .topology .triangles) m)
     ∷ []
 
 abbrev pub limitConditions : List ℤ → Mesh → List Condition

@@ -1,5 +1,5 @@
 -- Lists of calls on one mesh, and what holds after every one of them. (Every history; the customer's third demand)
-use Prim.Native.Nat.{ℕ, _+_, _*_, _/_, _%_, _≤_, _<_}
+use Prim.Native.Nat.{ℕ, _+_, _-_, _*_, _/_, _%_, _≤_, _<_, max}
 use mathlib.Core.Bool.{Bool, true, false, _&&_, _||_}
 use mathlib.Core.List.{List, [], _∷_}
 use mathlib.Core.Logic.{_≢_, _⊎_}
@@ -8,9 +8,9 @@ use lib.Dec.{eqb, ltb}
 use lib.IntN.{ℤ, pos, _+ℤ_, _-ℤ_}
 use Rattle.rules.specs.Below.{any, count, total}
 use Rattle.rules.specs.Cage.{Cage, cageOf}
-use Rattle.rules.specs.Calls.{Room, noRoom, ringRoom, tableRoom, Outcome, loadCall, refineCall}
-use Rattle.rules.specs.Calls.{wholeStepCall, ringCall, positionCall, limitCall}
-use Rattle.rules.specs.Conditions.{OddInChain}
+use Rattle.rules.specs.Calls.{Room, noRoom, ringRoom, tableRoom, Outcome, loadCall, refineCall, wholeStepCall}
+use Rattle.rules.specs.Calls.{ringCall, positionCall, limitCall}
+use Rattle.rules.specs.Conditions.{OddInChain, EndsAtBoundary}
 use Rattle.rules.specs.Tables.{Topology, Mesh, sides, link, boundary, generation, next}
 
 -- A call that may change the mesh, with its arguments: a cage's bytes, a triangle, none.
@@ -116,9 +116,13 @@ pub record Near (g h : ℕ) : Type 0 where
   pub down : g ≤ h + 2
   pub even : (g % 2 ≡ 0) ⊎ (h % 2 ≡ 0) → (h ≤ g + 1) × (g ≤ h + 1)
 
--- What a refine of t that is carried out on m makes and reports.
+-- What a refine of t that is carried out on m makes and reports: for an odd t one split for each odd triangle of its
+-- base chain; where this ends at the boundary, rim and face splits together, one less, and one at least.
 pub record ReportsSplits (m : Mesh) (t : ℕ) (o : Outcome) : Type 0 where
-  pub odd : generation (m .topology) t % 2 ≡ 1 → OddInChain (m .topology) t (o .answer .splits)
+  pub odd : generation (m .topology) t % 2 ≡ 1 → ¬ EndsAtBoundary (m .topology) t
+      → OddInChain (m .topology) t (o .answer .splits)
+  pub atBoundary : EndsAtBoundary (m .topology) t
+      → (k : ℕ) × OddInChain (m .topology) t k × (o .answer .splits ≡ max 1 (k - 1))
   pub bound : generation (m .topology) t % 2 ≡ 1 → o .answer .splits ≤ (generation (m .topology) t + 1) / 2
   pub even : generation (m .topology) t % 2 ≡ 0 → o .answer .splits ≡ 1
   pub made : o .mesh .topology .triangles ≡ m .topology .triangles + 2 * o .answer .splits

@@ -4,18 +4,18 @@ use mathlib.Core.Bool.{true, false}
 use mathlib.Core.List.{List, [], _∷_}
 use mathlib.Core.Logic.{_≢_, _⊎_, _↔_}
 use mathlib.Core.Path.{_≡_}
-use lib.Dec.{eqb}
+use lib.Dec.{eqb, ltb}
 use lib.IntN.{ℤ, pos, natAbs, _+ℤ_, _-ℤ_, _*ℤ_}
 use lib.ListN.{length, getD, drop}
 use lib.Signed.{_≤ℤ_, _<ℤ_}
 use Rattle.rules.specs.Below.{count, total}
-use Rattle.rules.specs.Calls.{splitsOf, worked}
+use Rattle.rules.specs.Calls.{splitsOf, rimSplitsOf, worked}
 use Rattle.rules.specs.Cage.{Cage}
 use Rattle.rules.specs.History.{ReportsSplits, edges, cageEdges}
 use Rattle.rules.specs.Numbers.{InRange, weight}
 use Rattle.rules.specs.Ring.{firstSide, fan, ring}
 use Rattle.rules.specs.Sound.{Sound}
-use Rattle.rules.specs.Split.{Work, centre, faceSplit}
+use Rattle.rules.specs.Split.{Work, centre, faceSplit, rimSplit}
 use Rattle.rules.specs.Step.{sumOver, movedCoordinate}
 use Rattle.rules.specs.Tables.{Topology, Mesh, sides, next, previous, origin, target, boundary, link, rotate}
 use Rattle.rules.specs.Tables.{generation, odd, coordinate}
@@ -95,18 +95,27 @@ pub record Still (m n : Topology) : Type 0 where
 unfoldable pub odds : Topology → ℕ
 odds m = total (m .triangles) (λ t. generation m t % 2)
 
+-- By how much t rises from m to n: an even triangle by one with its split, and one more where this flips it; an odd one
+-- by one with its flip; with its base on the boundary by two with its rim split, and one more where this flips it.
+pub record RisesBy (t : ℕ) (m n : Topology) : Type 0 where
+  pub even : generation m t % 2 ≡ 0 → (generation n t ≡ generation m t + 1) ⊎ (generation n t ≡ generation m t + 2)
+  pub odd : generation m t % 2 ≡ 1 → link m (3 * t) ≢ boundary → generation n t ≡ generation m t + 1
+  pub atBoundary : generation m t % 2 ≡ 1 → link m (3 * t) ≡ boundary
+      → (generation n t ≡ generation m t + 2) ⊎ (generation n t ≡ generation m t + 3)
+
 -- What a refine of triangle t makes of a mesh; `reports` says how many splits, and that F grows by twice as many.
 pub record RefineMakes (t : ℕ) (m : Mesh) (w : Work) : Type 0 where
   pub sound : Sound (w .mesh)
   pub reports : ReportsSplits m t (worked w)
   pub needed : w .splits ≡ splitsOf (m .topology) t
-  -- A split makes three odd triangles, and a flip takes two away.
-  pub flips : 2 * w .flips + odds (w .mesh .topology) ≡ odds (m .topology) + 3 * w .splits
-  pub vertices : w .mesh .topology .vertices ≡ m .topology .vertices + w .splits
-  pub edges : edges (w .mesh .topology) ≡ edges (m .topology) + 3 * w .splits
+  -- A face split makes three odd triangles, a rim split makes two of one, and a flip takes two away.
+  pub flips :
+      2 * w .flips + odds (w .mesh .topology) + 2 * rimSplitsOf (m .topology) t
+      ≡ odds (m .topology) + 3 * w .splits
+  pub vertices : w .mesh .topology .vertices ≡ m .topology .vertices + w .splits + rimSplitsOf (m .topology) t
+  pub edges : edges (w .mesh .topology) ≡ edges (m .topology) + 3 * w .splits + rimSplitsOf (m .topology) t
   pub rises : generation (m .topology) t < generation (w .mesh .topology) t
-  pub oddByOne : generation (m .topology) t % 2 ≡ 1
-      → generation (w .mesh .topology) t ≡ suc (generation (m .topology) t)
+  pub risesBy : RisesBy t (m .topology) (w .mesh .topology)
   pub still : Still (m .topology) (w .mesh .topology)
   pub oldVertices : (i : ℕ) → i < 3 * m .topology .vertices
       → getD (w .mesh .positions) i (pos 0) ≡ getD (m .positions) i (pos 0)
@@ -116,17 +125,22 @@ pub record RefineMakes (t : ℕ) (m : Mesh) (w : Work) : Type 0 where
 abbrev pub mate : ℕ → Work → ℕ
 mate t w = link (w .mesh .topology) (3 * t) / 3
 
--- The procedure split(T) of Kobbelt's paper, section 4, to a depth of at most n, with the face split and its flips as
--- the outline fixes them. An even triangle is split. For an odd one its mate is split, which flips the two; a mate two
--- generations below is first raised by the same procedure, and the mate read again.
+-- The procedure split(T) of Kobbelt's paper, section 4, to a depth of at most n, with the splits and their flips as the
+-- outline fixes them. An even triangle is split, and so is an odd one whose base is on the boundary. For another odd
+-- one its mate is split, which flips the two; a mate two generations below is first raised by the same procedure, and
+-- the mate read again, unless a rim split of it flipped the triangle already.
 unfoldable pub kobbelt : ℕ → ℕ → Work → Work
 kobbelt zero t w = w
 kobbelt (suc n) t w = elim (odd (generation (w .mesh .topology) t)) [
   | false ↦ faceSplit t w
-  | true ↦
-      let far = eqb (generation (w .mesh .topology) (mate t w) + 2) (generation (w .mesh .topology) t) in
-      let w′ : Work = elim far [ true ↦ kobbelt n (mate t w) w | false ↦ w ] in
-      kobbelt n (mate t w′) w′
+  | true ↦ elim (eqb (link (w .mesh .topology) (3 * t)) boundary) [
+    | true ↦ rimSplit t w
+    | false ↦
+        let g = generation (w .mesh .topology) t in
+        let far = eqb (generation (w .mesh .topology) (mate t w) + 2) g in
+        let w′ : Work = elim far [ true ↦ kobbelt n (mate t w) w | false ↦ w ] in
+        elim (ltb g (generation (w′ .mesh .topology) t)) [ true ↦ w′ | false ↦ kobbelt n (mate t w′) w′ ]
+  ]
 ]
 
 -- ---- whole step (Whole step)

@@ -1,4 +1,5 @@
--- Face split, flip, the base chain and the refinement of one triangle. (Face split and flip; Refine one triangle)
+-- Face split, rim split, flip, the base chain and the refinement of one triangle. (Face split and flip; Refine one
+-- triangle; request b)
 use Prim.Native.Nat.{ℕ, zero, suc, _+_, _*_, _/_}
 use mathlib.Core.Bool.{true, false}
 use mathlib.Core.List.{List, [], _∷_}
@@ -37,6 +38,34 @@ split t m =
     let three = putTriangle e (c, a, p) (ca, 3 * t + 2, 3 * f + 1) g two in
     withCounts (suc p) (f + 2) three
 
+-- The 1-to-3 split of an odd t = (A,B,P) whose base A→B is on the boundary (the paper's rim), with no flip yet. A' and
+-- B' are the new vertices V and V + 1; the new slots are f = F and e = F + 1. The base goes, and the other two sides
+-- become bases: P→A moves to side 0 of t, B→P to slot e, and their partners' links name the new places. (Change
+-- request b)
+--
+--               P                            P
+--             .   .                       . / \ .
+--           .       .                   .  /   \  .
+--         .     t     .               .   /     \   .
+--       .               .           .  t /   f   \ e  .
+--      A-----------------B         A----A'-------B'----B
+unfoldable pub rimCut : ℕ → Topology → Topology
+rimCut t m =
+    let f = m .triangles in
+    let e = f + 1 in
+    let v = m .vertices in
+    let a = origin m (3 * t) in
+    let b = origin m (3 * t + 1) in
+    let p = origin m (3 * t + 2) in
+    let bp = link m (3 * t + 1) in
+    let pa = link m (3 * t + 2) in
+    let g = generation m t in
+    let told = relink pa (3 * t) (relink bp (3 * e) m) in
+    let one = putTriangle t (p, a, v) (pa, boundary, 3 * f + 2) (g + 2) told in
+    let two = putTriangle f (v, v + 1, p) (boundary, 3 * e + 1, 3 * t + 2) (g + 3) one in
+    let three = putTriangle e (b, p, v + 1) (bp, 3 * f + 1, boundary) (g + 2) two in
+    withCounts (v + 2) (f + 2) three
+
 -- The flip (edge flip) of s = (A,B,P) and u = (B,A,Q), whose bases meet; in sound tables both are then of one odd
 -- generation.
 -- B→P moves to side 0 of u and A→Q to side 0 of s; P→A and Q→B stay.
@@ -65,8 +94,8 @@ flip s u m =
 
 -- ---- counted work
 
--- A mesh with the face splits and flips made so far, counted as they are made. The rules build it by the four functions
--- below alone.
+-- A mesh with the splits, face and rim, and the flips made so far, counted as they are made. The rules build it by the
+-- four functions below alone.
 pub record Work : Type 0 where
   pub mesh : Mesh
   pub splits : ℕ
@@ -85,19 +114,36 @@ withFlip m w = record { mesh = m; splits = w .splits; flips = suc (w .flips) }
 abbrev pub withMesh : Mesh → Work → Work
 withMesh m w = record { mesh = m; splits = w .splits; flips = w .flips }
 
--- ---- the face split with its flips
+-- ---- the splits with their flips
 
--- Coordinate k of the centre of t: the nearest third of the sum of its corners.
+-- Coordinate k of the nearest third of the sum of the corners h, i and j of t.
+abbrev pub thirdOf : ℕ → ℕ → ℕ → Mesh → ℕ → ℕ → ℤ
+thirdOf h i j m t k =
+    let at : ℕ → ℤ = λ corner. coordinate m (origin (m .topology) (3 * t + corner)) k in
+    nearestThird (at h +ℤ at i +ℤ at j)
+
+-- Coordinate k of the centre of t; of the nearer third of its base A→B, (2A + B) / 3; and of the other, (A + 2B) / 3.
 unfoldable pub centre : Mesh → ℕ → ℕ → ℤ
-centre m t k =
-    let at : ℕ → ℤ = λ i. coordinate m (origin (m .topology) (3 * t + i)) k in
-    nearestThird (at 0 +ℤ at 1 +ℤ at 2)
+centre = thirdOf 0 1 2
+
+unfoldable pub firstThird : Mesh → ℕ → ℕ → ℤ
+firstThird = thirdOf 0 0 1
+
+unfoldable pub secondThird : Mesh → ℕ → ℕ → ℤ
+secondThird = thirdOf 0 1 1
 
 -- The split with the new vertex placed at the centre.
 unfoldable pub splitPlaced : ℕ → Mesh → Mesh
 splitPlaced t m =
     let v = m .topology .vertices in
     meshOf (split t (m .topology)) (putThree v (centre m t 0, centre m t 1, centre m t 2) (m .positions))
+
+-- The cut of the rim split with A' and B' placed at the thirds of the base.
+unfoldable pub rimPlaced : ℕ → Mesh → Mesh
+rimPlaced t m =
+    let v = m .topology .vertices in
+    let one = putThree v (firstThird m t 0, firstThird m t 1, firstThird m t 2) (m .positions) in
+    meshOf (rimCut t (m .topology)) (putThree (v + 1) (secondThird m t 0, secondThird m t 1, secondThird m t 2) one)
 
 -- Where the base of s, a triangle just made by a split, meets a base: flip the two. The boundary is no base: it reads
 -- as a side of a slot past the table, whose generation is 0.
@@ -117,6 +163,26 @@ unfoldable pub faceSplit : ℕ → Work → Work
 faceSplit t w =
     let f = w .mesh .topology .triangles in
     settleAll (t ∷ f ∷ (f + 1) ∷ []) (withSplit (splitPlaced t (w .mesh)) w)
+
+-- The rim split of an odd t whose base is on the boundary: the cut, and then a flip wherever the base of t or F + 1, in
+-- this order, meets a base. Slot F is even and has none. After the face split of a cage of one triangle, three rim
+-- splits and their flips make nine triangles of it (Figure 8).
+--
+--             2                     2                     2
+--            / \                   /|\                   / \
+--           /   \                 / | \                 8---7
+--          /     \               /  |  \               / \ / \
+--         /       \             /  .3.  \             9---3---6
+--        /         \           / .     . \           / \ / \ / \
+--       0-----------1         0-----------1         0---4---5---1
+unfoldable pub rimSplit : ℕ → Work → Work
+rimSplit t w =
+    let f = w .mesh .topology .triangles in
+    settleAll (t ∷ (f + 1) ∷ []) (withSplit (rimPlaced t (w .mesh)) w)
+
+-- The split of the last triangle of a base chain: the face split of an even one, the rim split of an odd one.
+abbrev pub splitAt : ℕ → Work → Work
+splitAt t w = elim (odd (generation (w .mesh .topology) t)) [ false ↦ faceSplit t w | true ↦ rimSplit t w ]
 
 -- ---- the base chain: from an odd triangle on to the one across its base, until an even triangle or the boundary
 
@@ -146,17 +212,18 @@ chainOdd m t = chainOddWithin (generation m t) m t
 
 -- ---- refining a triangle
 
--- At most n face splits, each at the end of the base chain of t, until the generation of t is above g.
+-- At most n splits, each at the end of the base chain of t, until the generation of t is above g.
 unfoldable pub raise : ℕ → ℕ → ℕ → Work → Work
 raise zero g t w = w
 raise (suc n) g t w = elim (ltb g (generation (w .mesh .topology) t)) [
   | true ↦ w
-  | false ↦ raise n g t (faceSplit (chainEnd (w .mesh .topology) t) w)
+  | false ↦ raise n g t (splitAt (chainEnd (w .mesh .topology) t) w)
 ]
 
--- Face splits from the even end of the base chain of t upwards, until t has risen: by its own split where t is even,
--- by its flip where t is odd. What lies across a base is read from the links each time, as a flip may move it to
--- another slot. The bound g + 1 on the splits is never reached short of that.
+-- Splits from the end of the base chain of t upwards, until t has risen: by its own split where t is that end, else by
+-- its flip. Only the first can be a rim split, and this flips the odd triangle before it too. What lies across a base
+-- is read from the links each time, as a flip may move it to another slot. The bound g + 1 on the splits is never
+-- reached short of that.
 unfoldable pub refine : ℕ → Work → Work
 refine t w =
     let g = generation (w .mesh .topology) t in

@@ -72,8 +72,8 @@ link m h = getD (m .links) h 0
 abbrev pub rotate : Topology → ℕ → ℕ
 rotate m h = link m (previous h)
 
--- The generation of triangle t. A cage's triangles are of generation 0. An odd triangle is a third of an even one and
--- waits for its flip, with which it becomes even.
+-- The generation of triangle t. A cage's triangles are of generation 0. An odd triangle waits for its flip, with which
+-- it becomes even; one whose base is on the boundary waits for its rim split.
 abbrev pub generation : Topology → ℕ → ℕ
 generation m t = getD (m .generations) t 0
 
@@ -81,8 +81,8 @@ generation m t = getD (m .generations) t 0
 abbrev pub odd : ℕ → Bool
 odd g = eqb (g % 2) 1
 
--- Side h is the base of an odd triangle: its side 0, across from the centre, its corner 2, that made it. (The cage and
--- the lent tables)
+-- Side h is the base of an odd triangle: its side 0, across from its corner 2, the vertex that its split placed. That
+-- is a centre, or after a rim split a third of a base. (The cage and the lent tables; request b)
 abbrev pub isBase : Topology → ℕ → Bool
 isBase m h = eqb (h % 3) 0 && odd (generation m (h / 3))
 

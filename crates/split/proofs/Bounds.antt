@@ -1,18 +1,21 @@
--- Bounds that keep a face split within the tables, a byte and its counts.
-use Prim.Native.Nat.{ℕ, suc, _+_, _*_, _/_, _≤_, _<_}
+-- What a split hands to its flips, and bounds that keep it within the tables, a byte and its counts.
+use Prim.Native.Nat.{ℕ, suc, _+_, _*_, _/_, _%_, _≤_, _<_}
 use native.Mathlib.Decide.{ℕ-discrete, decLt}
 use native.Mathlib.Omega.{arith}
+use native.Mathlib.Nat.{le-trans}
 use mathlib.Core.Bool.{Bool, true, false}
 use mathlib.Core.List.{List}
-use mathlib.Core.Path.{_≡_}
+use mathlib.Core.Path.{_≡_, refl, sym}
 use lib.ListN.{length, getD, set, List·getD-eq-default}
 use lib.Seq.{getD-set-same, getD-set-other, set-out}
 use Rattle.rules.proofs.Splits.Bases.{base-is}
 use Rattle.rules.proofs.Numbers.Decide.{when-true}
 use Rattle.rules.proofs.Chains.RefineLoop.{settle-counts}
-use Rattle.rules.specs.Split.{Work, split, flip, withFlip, splitPlaced, settle}
+use Rattle.rules.proofs.Chains.Runs.{split-even, split-odd}
+use Rattle.rules.specs.Split.{Work, withSplit, split, rimCut, flip, withFlip, splitPlaced, rimPlaced, settle, faceSplit}
+use Rattle.rules.specs.Split.{rimSplit}
 use Rattle.rules.specs.Tables.{Topology, withTopology, link, generation, isBase}
-use Rattle.split.specs.Made.{splitCounted}
+use Rattle.split.specs.Made.{Hands}
 
 -- A base is a side of a triangle within the table.
 pub base-within : (m : Topology) (h : ℕ) → isBase m h ≡ true → h / 3 < length (m .generations)
@@ -39,7 +42,59 @@ kept-at-most l i v x k b j = go (ℕ-discrete x i)
     go (no n) = rw (getD-set-other l i x v 0 n) b
     go (yes e) = let w = written-at-most l i v in rw e (omega arith)
 
--- ---- the settlings of a face split
+-- ---- what is left to be settled
+
+-- Three slots written with k at most.
+three-low : (l : List ℕ) (t f e a b c k : ℕ) → a ≤ k → b ≤ k → c ≤ k →
+    let n = set (set (set l t a) f b) e c in
+    (getD n t 0 ≤ k) × (getD n f 0 ≤ k) × (getD n e 0 ≤ k)
+three-low l t f e a b c k i j h =
+    let one : List ℕ = set l t a in
+    let two : List ℕ = set one f b in
+    let at-t = kept-at-most one f b t k (le-trans (written-at-most l t a) i) j in (
+      kept-at-most two e c t k at-t h,
+      kept-at-most two e c f k (le-trans (written-at-most one f b) j) h,
+      le-trans (written-at-most two e c) h,
+    )
+
+module _ (t : ℕ) (w a : Work) (young : generation (w .mesh .topology) t < 20) where
+  -- A face split leaves three triangles one above t.
+  pub face-hands : a ≡ withSplit (splitPlaced t (w .mesh)) w → generation (w .mesh .topology) t % 2 ≡ 0
+      → Hands t w true a
+  unfolding faceSplit splitPlaced split
+  face-hands ea even =
+      let m : Topology = w .mesh .topology in
+      let g : ℕ = suc (generation m t) in
+      let low =
+      three-low (m .generations) t (m .triangles) (m .triangles + 1) g g g 20 (omega arith) (omega arith)
+      (omega arith) in
+      rw ea (record {
+        settled = sym (split-even t w even);
+        own = omega (arith, low .0);
+        second = omega (arith, low .1);
+        third = omega (arith, low .2);
+        flips = refl;
+      })
+
+  -- A rim split leaves the outer two of its three triangles.
+  pub rim-hands : a ≡ withSplit (rimPlaced t (w .mesh)) w → generation (w .mesh .topology) t % 2 ≡ 1
+      → Hands t w false a
+  unfolding rimSplit rimPlaced rimCut
+  rim-hands ea odd =
+      let m : Topology = w .mesh .topology in
+      let g : ℕ = generation m t in
+      let low =
+      three-low (m .generations) t (m .triangles) (m .triangles + 1) (g + 2) (g + 3) (g + 2) 22 (omega arith)
+      (omega arith) (omega arith) in
+      rw ea (record {
+        settled = sym (split-odd t w odd);
+        own = omega (arith, low .0);
+        second = omega (arith, low .1);
+        third = omega (arith, low .2);
+        flips = refl;
+      })
+
+-- ---- the settlings
 
 -- The children in the slots t, f and e are of generation k at most, with n flips counted at most.
 pub record Low (t f e k n : ℕ) (w : Work) : Type 0 where
@@ -47,25 +102,6 @@ pub record Low (t f e k n : ℕ) (w : Work) : Type 0 where
   pub at-f : generation (w .mesh .topology) f ≤ k
   pub at-e : generation (w .mesh .topology) e ≤ k
   pub flips : w .flips ≤ n
-
--- A split makes children one above t.
-pub low-split : (t : ℕ) (w a : Work) → a ≡ splitCounted t w →
-    let m = w .mesh .topology in
-    Low t (m .triangles) (m .triangles + 1) (suc (generation m t)) (w .flips) a
-unfolding splitPlaced split
-low-split t w a ea =
-    let m : Topology = w .mesh .topology in
-    let f : ℕ = m .triangles in
-    let g : ℕ = suc (generation m t) in
-    let one : List ℕ = set (m .generations) t g in
-    let two : List ℕ = set one f g in
-    let at-t = kept-at-most one f g t g (written-at-most (m .generations) t g) (omega arith) in
-    rw ea (record {
-      at-t = kept-at-most two (f + 1) g t g at-t (omega arith);
-      at-f = kept-at-most two (f + 1) g f g (written-at-most one f g) (omega arith);
-      at-e = written-at-most two (f + 1) g;
-      flips = omega arith;
-    })
 
 -- Settling s raises it by one, and brings another to the same generation.
 settle-young : (s x k : ℕ) (w : Work) → generation (w .mesh .topology) s ≤ k → generation (w .mesh .topology) x ≤ k

@@ -1,6 +1,5 @@
--- The steps of flip, split and face split, put together.
+-- The steps of flip and of the splits, put together.
 use Prim.Native.Nat.{ℕ, _+_, _*_, _/_}
-use native.Mathlib.Nat.{add-zero}
 use native.Mathlib.Numerals.{add-one}
 use mathlib.Core.Bool.{Bool, true, false}
 use mathlib.Core.List.{List}
@@ -9,12 +8,13 @@ use lib.IntN.{ℤ}
 use lib.ListN.{getD}
 use Rattle.points.specs.declared.Point.{Point}
 use Rattle.points.specs.Axes.{eachAxis, thirds}
-use Rattle.rules.specs.Split.{Work, centre, split, splitPlaced, flip, settle, faceSplit}
+use Rattle.rules.specs.Split.{Work, withSplit, thirdOf, centre, firstThird, secondThird, split, splitPlaced, rimCut}
+use Rattle.rules.specs.Split.{rimPlaced, flip, settle, settleAll}
 use Rattle.rules.specs.Tables.{Topology, Mesh, meshOf, withTopology, origin, link, isBase, coordinate, withCounts}
 use Rattle.rules.specs.Tables.{relink}
 use Rattle.tables.specs.declared.Triangle.{Triangle}
 use Rattle.tables.specs.Lent.{triangleAt, put, putPoint}
-use Rattle.split.specs.Made.{splitCounted, childrenOf, flippedOf}
+use Rattle.split.specs.Made.{waiting, childrenOf, rimChildrenOf, blank, replaced, flippedOf}
 
 pub flip-steps : (s u : ℕ) (m a b c d : Topology) (x y none : Triangle) (r : List Triangle)
     → x ≡ triangleAt m s → y ≡ triangleAt m u → r ≡ flippedOf x y s u
@@ -23,22 +23,17 @@ pub flip-steps : (s u : ℕ) (m a b c d : Topology) (x y none : Triangle) (r : L
 unfolding flip
 flip-steps s u m a b c d x y none r ex ey er ea eb ec ed = rw (ed, ec, eb, ea, er, ey, ex)
 
-pub split-steps : (t : ℕ) (m a b c d e : Topology) (x none : Triangle) (r : List Triangle) → x ≡ triangleAt m t
-    → r ≡ childrenOf x t (m .triangles) (m .vertices)
-    → a ≡ relink (getD (x .links) 1 0) (3 * m .triangles) m
-    → b ≡ relink (getD (x .links) 2 0) (3 * (m .triangles + 1)) a
-    → c ≡ put t (getD r 0 none) b → d ≡ put (m .triangles) (getD r 1 none) c
-    → e ≡ put (m .triangles + 1) (getD r 2 none) d
-    → withCounts (m .vertices + 1) (m .triangles + 2) e ≡ split t m
-unfolding split
-split-steps t m a b c d e x none r ex er ea eb ec ed ee = rw (ee, ed, ec, eb, ea, er, ex, add-one (m .vertices))
+pub replace-steps : (t f h k : ℕ) (m a b c d e : Topology) (x : Triangle) (three : List Triangle)
+    → a ≡ relink (getD (x .links) 1 0) h m → b ≡ relink (getD (x .links) 2 0) k a → c ≡ put t (getD three 0 blank) b
+    → d ≡ put f (getD three 1 blank) c → e ≡ put (f + 1) (getD three 2 blank) d → e ≡ replaced t f x three h k m
+replace-steps t f h k m a b c d e x three ea eb ec ed ee = rw (ee, ed, ec, eb, ea)
 
-pub centre-steps : (m : Mesh) (t : ℕ) (a b c r : Point)
-    → a ≡ eachAxis (coordinate m (origin (m .topology) (3 * t)))
-    → b ≡ eachAxis (coordinate m (origin (m .topology) (3 * t + 1)))
-    → c ≡ eachAxis (coordinate m (origin (m .topology) (3 * t + 2))) → r ≡ thirds a b c → r ≡ eachAxis (centre m t)
-unfolding centre
-centre-steps m t a b c r ea eb ec er = rw (er, ec, eb, ea, centre, add-zero (3 * t))
+pub third-steps : (m : Mesh) (t h i j : ℕ) (a b c r : Point)
+    → a ≡ eachAxis (coordinate m (origin (m .topology) (3 * t + h)))
+    → b ≡ eachAxis (coordinate m (origin (m .topology) (3 * t + i)))
+    → c ≡ eachAxis (coordinate m (origin (m .topology) (3 * t + j))) → r ≡ thirds a b c
+    → r ≡ eachAxis (thirdOf h i j m t)
+third-steps m t h i j a b c r ea eb ec er = rw (er, ec, eb, ea)
 
 module _ (s : ℕ) (w : Work) (b : Bool) (e : b ≡ isBase (w .mesh .topology) (link (w .mesh .topology) (3 * s))) where
   pub settle-flips : (n : Topology) → b ≡ true
@@ -52,15 +47,43 @@ module _ (s : ℕ) (w : Work) (b : Bool) (e : b ≡ isBase (w .mesh .topology) (
   unfolding settle
   settle-keeps met = rw (settle, ← e, met)
 
-pub split-placed-steps : (t : ℕ) (w : Work) (n : Topology) (p : Point) (positions : List ℤ)
-    → p ≡ eachAxis (centre (w .mesh) t) → positions ≡ putPoint (w .mesh .topology .vertices) p (w .mesh .positions)
-    → n ≡ split t (w .mesh .topology)
-    → _≡_ {A = Work} (record { mesh = meshOf n positions; splits = w .splits + 1; flips = w .flips })
-    (splitCounted t w)
-unfolding splitPlaced
-split-placed-steps t w n p positions ep eq en = rw (en, eq, ep, splitPlaced, add-one (w .splits))
+pub face-cut-steps : (t : ℕ) (w : Work) (e : Topology) (p : Point) (positions : List ℤ) (x : Triangle)
+    (r : List Triangle)
+    → let m = w .mesh .topology in
+    p ≡ eachAxis (thirdOf 0 1 2 (w .mesh) t) → positions ≡ putPoint (m .vertices) p (w .mesh .positions)
+    → x ≡ triangleAt m t → r ≡ childrenOf x t (m .triangles) (m .vertices)
+    → e ≡ replaced t (m .triangles) x r (3 * m .triangles) (3 * (m .triangles + 1)) m
+    → _≡_ {A = Work} (record {
+      mesh = meshOf (withCounts (m .vertices + 1) (m .triangles + 2) e) positions;
+      splits = w .splits + 1;
+      flips = w .flips;
+    })
+    (withSplit (splitPlaced t (w .mesh)) w)
+unfolding splitPlaced split centre
+face-cut-steps t w e p positions x r ep eq ex er ee =
+    rw (ee, er, ex, eq, ep, splitPlaced, split, centre, add-one (w .splits), add-one (w .mesh .topology .vertices))
 
-pub face-split-steps : (t : ℕ) (w a b c d : Work) → a ≡ splitCounted t w → b ≡ settle t a
-    → c ≡ settle (w .mesh .topology .triangles) b → d ≡ settle (w .mesh .topology .triangles + 1) c → d ≡ faceSplit t w
-unfolding faceSplit
-face-split-steps t w a b c d ea eb ec ed = rw (ed, ec, eb, ea, faceSplit)
+pub rim-cut-steps : (t : ℕ) (w : Work) (e : Topology) (p q : Point) (one two : List ℤ) (x : Triangle)
+    (r : List Triangle)
+    → let m = w .mesh .topology in
+    p ≡ eachAxis (thirdOf 0 0 1 (w .mesh) t) → q ≡ eachAxis (thirdOf 0 1 1 (w .mesh) t)
+    → one ≡ putPoint (m .vertices) p (w .mesh .positions) → two ≡ putPoint (m .vertices + 1) q one
+    → x ≡ triangleAt m t → r ≡ rimChildrenOf x t (m .triangles) (m .vertices)
+    → e ≡ replaced t (m .triangles) x r (3 * (m .triangles + 1)) (3 * t) m
+    → _≡_ {A = Work} (record {
+      mesh = meshOf (withCounts (m .vertices + 2) (m .triangles + 2) e) two;
+      splits = w .splits + 1;
+      flips = w .flips;
+    })
+    (withSplit (rimPlaced t (w .mesh)) w)
+unfolding rimPlaced rimCut firstThird secondThird
+rim-cut-steps t w e p q one two x r ep eq eo et ex er ee =
+    rw (ee, er, ex, et, eo, eq, ep, rimPlaced, rimCut, firstThird, secondThird, add-one (w .splits))
+
+pub settle-three : (t f : ℕ) (w a b c : Work) (middle : Bool) → middle ≡ true → a ≡ settle t w → b ≡ settle f a
+    → c ≡ settle (f + 1) b → c ≡ settleAll (waiting middle t f) w
+settle-three t f w a b c middle em ea eb ec = rw (ec, eb, ea, em)
+
+pub settle-two : (t f : ℕ) (w a b : Work) (middle : Bool) → middle ≡ false → a ≡ settle t w → b ≡ settle (f + 1) a
+    → b ≡ settleAll (waiting middle t f) w
+settle-two t f w a b middle em ea eb = rw (eb, ea, em)

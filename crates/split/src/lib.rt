@@ -1,21 +1,22 @@
-// Face split, flip, the base chain and the refinement of one triangle, on the lent tables.
+// Face split, rim split, flip, the base chain and the refinement of one triangle, on the lent tables.
 use points::Point;
 use tables::Counts;
 use tables::Triangle;
 ghost use mathlib.Core.List.{List};
 ghost use mathlib.Core.Path.{_≡_};
-ghost use Prim.Native.Nat.{ℕ, _+_, _-_, _*_, _/_, _≤_, _<_, max};
+ghost use Prim.Native.Nat.{ℕ, _+_, _-_, _*_, _/_, _%_, _≤_, _<_, max};
 ghost use lib.IntN.{ℤ};
 ghost use lib.ListN.{length, getD};
 ghost use Rattle.points.specs.Axes.{eachAxis};
 ghost use Rattle.rules.proofs.Calls.Carried.{RefineFound};
-ghost use Rattle.rules.specs.Split.{split, flip, centre, settle, faceSplit, atFirst, refine};
+ghost use Rattle.rules.specs.Split.{flip, thirdOf, settle, settleAll, splitAt, atFirst, refine};
 ghost use Rattle.rules.specs.Tables.{isBase};
 ghost use Rattle.tables.specs.declared.Counts.{Counts};
 ghost use Rattle.tables.specs.Lent.{topologyNow, meshNow, TrianglesAgree, VerticesAgree};
-ghost use Rattle.split.specs.Made.{workNow, splitCounted, MaySplit, childrenOf, flippedOf, BaseChain};
+ghost use Rattle.split.specs.Made.{workNow, MaySplit, waiting, Hands, childrenOf, rimChildrenOf, replaced};
+ghost use Rattle.split.specs.Made.{flippedOf, BaseChain};
 
-// The slots in use, and the face splits and flips made so far.
+// The slots in use, and the splits, face and rim, and flips made so far.
 pub struct Work {
     pub vertices: u32,
     pub triangles: u32,
@@ -23,20 +24,33 @@ pub struct Work {
     pub flips: u32,
 }
 
-// A base chain: its number of odd triangles, the slot of its last triangle, and the slots of the odd ones in order.
+// A base chain: its number of odd triangles, the slot of its last triangle, how it ends, and the slots of the odd ones
+// in order. Where it ends at the boundary its last triangle is odd, and `rim` is 1; else `rim` is 0.
 pub struct Chain {
     pub odd: u32,
     pub end: u32,
+    pub rim: u32,
     pub slots: [u32; 20],
 }
 
 impl Chain {
-    // The face splits that refining the chain's first triangle takes.
+    // The splits that refining the chain's first triangle takes, `rim` of them rim splits.
     pub fn splits(self) -> u32
-        ensures { λ r. ⌜ r ≡ max 1 (self .odd) ⌝ }
+        ensures { λ r. ⌜ r ≡ max 1 (self .odd - self .rim) ⌝ }
     {
-        if self.odd == 0 { 1 } else { self.odd }
+        if self.odd <= self.rim {
+            1
+        } else {
+            self.odd - self.rim
+        }
     }
+}
+
+// What a split hands to its flips: the work with a triangle cut in three, and whether the one in the middle, in the
+// first new slot, is odd too.
+struct Handed {
+    work: Work,
+    middle: bool,
 }
 
 // The triangles that take the place of x, of slot t: p is the new vertex, f the first free slot and e the next.
@@ -68,6 +82,41 @@ fn children(x: Triangle, t: u32, f: u32, p: u32) -> [Triangle; 3]
         Triangle {
             corners: [x.corners[2], x.corners[0], p],
             links: [x.links[2], 3 * t + 2, 3 * f + 1],
+            generation: g,
+        },
+    ]
+}
+
+// The triangles that take the place of x, of slot t with its base on the boundary: v and v + 1 are the new vertices, f
+// the first free slot and e the next.
+//
+//               P                            P
+//             .   .                       . / \ .
+//           .       .                   .  /   \  .
+//         .     t     .               .   /     \   .
+//       .               .           .  t /   f   \ e  .
+//      A-----------------B         A----v-------v+1----B
+fn rim_children(x: Triangle, t: u32, f: u32, v: u32) -> [Triangle; 3]
+    requires { ⌜ (t < 65536) × (f < 65536) × (v < 65536) × (x .generation ≤ 252) ⌝ }
+    ensures { λ r. ⌜ r ≡ rimChildrenOf x t f v ⌝ }
+{
+    let g = x.generation + 2;
+    let middle = x.generation + 3;
+    let e = f + 1;
+    [
+        Triangle {
+            corners: [x.corners[2], x.corners[0], v],
+            links: [x.links[2], tables::BOUNDARY, 3 * f + 2],
+            generation: g,
+        },
+        Triangle {
+            corners: [v, v + 1, x.corners[2]],
+            links: [tables::BOUNDARY, 3 * e + 1, 3 * t + 2],
+            generation: middle,
+        },
+        Triangle {
+            corners: [x.corners[1], x.corners[2], v + 1],
+            links: [x.links[1], 3 * f + 1, tables::BOUNDARY],
             generation: g,
         },
     ]
@@ -160,88 +209,180 @@ fn settle(
     }
 }
 
-// The split of t with no flip yet.
-fn split(
+// Three triangles in the place of x, which is in slot t: in slots t, f and f + 1. The partners of the sides 1 and 2
+// of x are told their new places.
+fn replace(
     corners: &mut [u32],
     links: &mut [u32],
     generations: &mut [u8],
-    n: Counts,
     t: u32,
-) -> Counts
+    f: u32,
+    x: Triangle,
+    three: [Triangle; 3],
+    to_1: u32,
+    to_2: u32,
+)
     requires { ⌜ TrianglesAgree (now corners) (now links) (now generations) × (t < length (now generations))
-        × (n .triangles + 2 ≤ length (now generations)) × (n .vertices < 32768) × (getD (now generations) t 0 < 255) ⌝ }
-    ensures { λ r. ⌜ topologyNow r (now (corners .exit)) (now (links .exit)) (now (generations .exit))
-        ≡ split t (topologyNow n (now (corners .entry)) (now (links .entry)) (now (generations .entry))) ⌝ }
+        × (f + 2 ≤ length (now generations)) ⌝ }
+    ensures { λ r. ⌜ ((n : Counts) →
+        topologyNow n (now (corners .exit)) (now (links .exit)) (now (generations .exit))
+        ≡ replaced t f x three to_1 to_2
+        (topologyNow n (now (corners .entry)) (now (links .entry)) (now (generations .entry)))) ⌝ }
 {
-    let p = n.vertices;
-    let f = n.triangles;
     let e = f + 1;
-    let to_f = 3 * f;
-    let to_e = 3 * e;
-    let after = Counts {
-        vertices: p + 1,
-        triangles: f + 2,
-    };
-    let x = tables::triangle_at(corners, links, generations, t);
-    let three = children(x, t, f, p);
     let at_t = three[0];
     let at_f = three[1];
     let at_e = three[2];
-    tables::relink(links, x.links[1], to_f);
-    tables::relink(links, x.links[2], to_e);
+    tables::relink(links, x.links[1], to_1);
+    tables::relink(links, x.links[2], to_2);
     tables::store(corners, links, generations, t, at_t);
     tables::store(corners, links, generations, f, at_f);
     tables::store(corners, links, generations, e, at_e);
-    after
 }
 
-// The centre of t.
-fn centre(positions: &[i32], corners: &[u32], t: u32) -> Point
-    requires { ⌜ VerticesAgree (now positions) × (3 * t + 2 < length (now corners)) ⌝ }
+// The nearest third of the sum of the corners h, i and j of t.
+fn third_of(positions: &[i32], corners: &[u32], t: u32, h: usize, i: usize, j: usize) -> Point
+    requires { ⌜ VerticesAgree (now positions) × (3 * t + 2 < length (now corners)) × (h < 3) × (i < 3) × (j < 3) ⌝ }
     ensures { λ r. ⌜ ((n : Counts) (links generations : List ℕ) →
-        r ≡ eachAxis (centre (meshNow n (now (positions .entry)) (now (corners .entry)) links generations) t)) ⌝ }
+        r ≡ eachAxis (thirdOf h i j
+        (meshNow n (now (positions .entry)) (now (corners .entry)) links generations) t)) ⌝ }
 {
-    let i = 3 * (t as usize);
-    let a = tables::point_at(positions, corners[i]);
-    let b = tables::point_at(positions, corners[i + 1]);
-    let c = tables::point_at(positions, corners[i + 2]);
+    let first = 3 * (t as usize);
+    let a = tables::point_at(positions, corners[first + h]);
+    let b = tables::point_at(positions, corners[first + i]);
+    let c = tables::point_at(positions, corners[first + j]);
     Point::thirds(a, b, c)
 }
 
-// The split of t with the new vertex placed at the centre.
-fn split_placed(
+// The cut of the face split of t: the new vertex is placed at the centre.
+fn face_cut(
     positions: &mut [i32],
     corners: &mut [u32],
     links: &mut [u32],
     generations: &mut [u8],
     work: Work,
     t: u32,
-) -> Work
-    requires { ⌜ MaySplit t (workNow work (now positions) (now corners) (now links) (now generations)) ⌝ }
-    ensures { λ r. ⌜
-        workNow r (now (positions .exit)) (now (corners .exit)) (now (links .exit)) (now (generations .exit))
-        ≡ splitCounted t (workNow work
-        (now (positions .entry)) (now (corners .entry)) (now (links .entry)) (now (generations .entry))) ⌝ }
+) -> Handed
+    requires { ⌜ MaySplit t (workNow work (now positions) (now corners) (now links) (now generations))
+        × (getD (now generations) t 0 % 2 ≡ 0) ⌝ }
+    ensures { λ r. ⌜ Hands t
+        (workNow work (now (positions .entry)) (now (corners .entry)) (now (links .entry)) (now (generations .entry)))
+        (r .middle) (workNow (r .work)
+        (now (positions .exit)) (now (corners .exit)) (now (links .exit)) (now (generations .exit))) ⌝ }
 {
-    let v = work.vertices;
-    let before = Counts {
-        vertices: v,
-        triangles: work.triangles,
-    };
-    let splits = work.splits + 1;
-    let p = centre(positions, corners, t);
-    tables::store_point(positions, v, p);
-    let after = split(corners, links, generations, before, t);
-    Work {
-        vertices: after.vertices,
-        triangles: after.triangles,
-        splits,
+    let p = work.vertices;
+    let f = work.triangles;
+    let after = Work {
+        vertices: p + 1,
+        triangles: f + 2,
+        splits: work.splits + 1,
         flips: work.flips,
+    };
+    let to_f = 3 * f;
+    let to_e = 3 * (f + 1);
+    let centre = third_of(positions, corners, t, 0, 1, 2);
+    tables::store_point(positions, p, centre);
+    let x = tables::triangle_at(corners, links, generations, t);
+    let three = children(x, t, f, p);
+    replace(corners, links, generations, t, f, x, three, to_f, to_e);
+    Handed {
+        work: after,
+        middle: true,
     }
 }
 
-// The face split of t, with its flips.
-pub fn face_split(
+// The cut of the rim split of t: the two new vertices are placed at the thirds of its base.
+fn rim_cut(
+    positions: &mut [i32],
+    corners: &mut [u32],
+    links: &mut [u32],
+    generations: &mut [u8],
+    work: Work,
+    t: u32,
+) -> Handed
+    requires { ⌜ MaySplit t (workNow work (now positions) (now corners) (now links) (now generations))
+        × (getD (now generations) t 0 % 2 ≡ 1) ⌝ }
+    ensures { λ r. ⌜ Hands t
+        (workNow work (now (positions .entry)) (now (corners .entry)) (now (links .entry)) (now (generations .entry)))
+        (r .middle) (workNow (r .work)
+        (now (positions .exit)) (now (corners .exit)) (now (links .exit)) (now (generations .exit))) ⌝ }
+{
+    let v = work.vertices;
+    let w = v + 1;
+    let f = work.triangles;
+    let after = Work {
+        vertices: v + 2,
+        triangles: f + 2,
+        splits: work.splits + 1,
+        flips: work.flips,
+    };
+    let to_t = 3 * t;
+    let to_e = 3 * (f + 1);
+    let first = third_of(positions, corners, t, 0, 0, 1);
+    let second = third_of(positions, corners, t, 0, 1, 1);
+    tables::store_point(positions, v, first);
+    tables::store_point(positions, w, second);
+    let x = tables::triangle_at(corners, links, generations, t);
+    let three = rim_children(x, t, f, v);
+    replace(corners, links, generations, t, f, x, three, to_e, to_t);
+    Handed {
+        work: after,
+        middle: false,
+    }
+}
+
+// The cut of the split of t: of a face split where it is even, else of a rim split.
+fn cut(
+    positions: &mut [i32],
+    corners: &mut [u32],
+    links: &mut [u32],
+    generations: &mut [u8],
+    work: Work,
+    t: u32,
+) -> Handed
+    requires { ⌜ MaySplit t (workNow work (now positions) (now corners) (now links) (now generations)) ⌝ }
+    ensures { λ r. ⌜ Hands t
+        (workNow work (now (positions .entry)) (now (corners .entry)) (now (links .entry)) (now (generations .entry)))
+        (r .middle) (workNow (r .work)
+        (now (positions .exit)) (now (corners .exit)) (now (links .exit)) (now (generations .exit))) ⌝ }
+{
+    if tables::generation_at(generations, t) % 2 == 0 {
+        face_cut(positions, corners, links, generations, work, t)
+    } else {
+        rim_cut(positions, corners, links, generations, work, t)
+    }
+}
+
+// The triangles that a cut leaves are settled: t, f where it is odd, and f + 1.
+fn settle_all(
+    corners: &mut [u32],
+    links: &mut [u32],
+    generations: &mut [u8],
+    cut: Handed,
+    t: u32,
+    f: u32,
+) -> Work
+    requires { ⌜ TrianglesAgree (now corners) (now links) (now generations) × (t < length (now generations))
+        × (f + 2 ≤ length (now generations)) × (getD (now generations) t 0 < 23) × (getD (now generations) f 0 < 23)
+        × (getD (now generations) (f + 1) 0 < 23) × (cut .work .flips + 3 ≤ 4294967295) ⌝ }
+    ensures { λ r. ⌜ ((positions : List ℤ) →
+        workNow r positions (now (corners .exit)) (now (links .exit)) (now (generations .exit))
+        ≡ settleAll (waiting (cut .middle) t f)
+        (workNow (cut .work) positions (now (corners .entry)) (now (links .entry)) (now (generations .entry)))) ⌝ }
+{
+    let e = f + 1;
+    let work = cut.work;
+    let one = settle(corners, links, generations, work, t);
+    if cut.middle {
+        let two = settle(corners, links, generations, one, f);
+        settle(corners, links, generations, two, e)
+    } else {
+        settle(corners, links, generations, one, e)
+    }
+}
+
+// The split of t, with its flips: the face split of an even triangle, the rim split of an odd one.
+pub fn split_at(
     positions: &mut [i32],
     corners: &mut [u32],
     links: &mut [u32],
@@ -252,15 +393,12 @@ pub fn face_split(
     requires { ⌜ MaySplit t (workNow work (now positions) (now corners) (now links) (now generations)) ⌝ }
     ensures { λ r. ⌜
         workNow r (now (positions .exit)) (now (corners .exit)) (now (links .exit)) (now (generations .exit))
-        ≡ faceSplit t (workNow work
+        ≡ splitAt t (workNow work
         (now (positions .entry)) (now (corners .entry)) (now (links .entry)) (now (generations .entry))) ⌝ }
 {
     let f = work.triangles;
-    let e = f + 1;
-    let cut = split_placed(positions, corners, links, generations, work, t);
-    let one = settle(corners, links, generations, cut, t);
-    let two = settle(corners, links, generations, one, f);
-    settle(corners, links, generations, two, e)
+    let left = cut(positions, corners, links, generations, work, t);
+    settle_all(corners, links, generations, left, t, f)
 }
 
 // The base chain of t: from an odd triangle on to the one across its base, until an even one or the boundary. Its steps
@@ -288,7 +426,13 @@ pub fn base_chain(links: &[u32], generations: &[u8], t: u32) -> Chain
         end = across / 3;
         steps -= 1;
     }
-    Chain { odd, end, slots }
+    let rim = tables::generation_at(generations, end) as u32 % 2;
+    Chain {
+        odd,
+        end,
+        rim,
+        slots,
+    }
 }
 
 // The triangle across the base of the last of so many odd triangles of a chain.
@@ -330,7 +474,7 @@ pub fn refine(
     let mut left = chain.splits();
     let mut end = chain.end;
     while 0 < left {
-        work = face_split(positions, corners, links, generations, work, end);
+        work = split_at(positions, corners, links, generations, work, end);
         left -= 1;
         if 0 < left {
             end = across_last(links, &slots, left);

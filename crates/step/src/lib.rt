@@ -94,7 +94,7 @@ fn split_all(
         flips: 0,
     };
     while t < f {
-        work = split::face_split(positions, corners, links, generations, work, t);
+        work = split::split_at(positions, corners, links, generations, work, t);
         t += 1;
     }
     work
@@ -144,7 +144,7 @@ fn refusal(
     if !rings::sums::ring_sums(positions, corners, counts, lengths, sums) {
         return 13;
     }
-    if !tables::has_room(positions, generations, counts, f) {
+    if !tables::has_room(positions, generations, counts, f, 0) {
         return 11;
     }
     0

@@ -154,12 +154,20 @@ pub fn store_point(positions: &mut [i32], v: u32, p: Point)
     positions[i + 2] = z;
 }
 
-// Whether there are slots for so many face splits.
-pub fn has_room(positions: &[i32], generations: &[u8], counts: Counts, splits: u32) -> bool
+// Whether there are slots for so many splits. Each makes two triangles and a vertex, and the rim splits among them a
+// vertex more.
+pub fn has_room(
+    positions: &[i32],
+    generations: &[u8],
+    counts: Counts,
+    splits: u32,
+    rim: u32,
+) -> bool
     ensures { λ r. ⌜ ((corners links : List ℕ) →
-        r ≡ roomFor splits (meshNow counts (now (positions .entry)) corners links (now (generations .entry)))) ⌝ }
+        r ≡ roomFor (splits + rim) (2 * splits)
+        (meshNow counts (now (positions .entry)) corners links (now (generations .entry)))) ⌝ }
 {
-    let vertices = counts.vertices as u64 + splits as u64;
+    let vertices = counts.vertices as u64 + (splits as u64 + rim as u64);
     let triangles = counts.triangles as u64 + 2 * (splits as u64);
     vertices <= positions.len() as u64 / 3 && triangles <= generations.len() as u64
 }

@@ -23,8 +23,7 @@ start-of c = c .before .before .before .before .before .before
 triangle-is : (c : tie.Else1) → c .before .triangle-refusal .result ≡ triangleRefusal (start-of c .args .t) (mesh-of (start-of c))
 triangle-is c =
     let args = start-of c .args in
-    c .before .triangle-refusal .ensures (args .positions .now) (args .corners .now) (args .links .now)
-    (start-of c .pre)
+    c .before .triangle-refusal .ensures (args .positions .now) (args .corners .now) (start-of c .pre)
 
 -- With the base chain tested.
 module _ (c : tie.After-chain-refusal) where
@@ -43,7 +42,7 @@ module _ (c : tie.After-chain-refusal) where
   refusal-is : c .chain-refusal .result ≡ refineRefusal (start .args .t) (mesh-of start)
   refusal-is =
       refine-chain (start .args .t) (mesh-of start) _ (triangle-is at-if1) (at-if1 .if1 .left) _
-      (rw (← chain-is .odd, ← chain-is .end)
+      (rw (← chain-is .odd, ← chain-is .rim)
       (c .chain-refusal .ensures (start .args .corners .now) (start .args .links .now)))
 
 triangle-refusal-requires : tie.Need-triangle-refusal-requires
@@ -58,8 +57,7 @@ returns c =
     let start = at .before .before .before .before .before in
     refine-refused (start .args .t) (mesh-of start) _
     (refine-triangle (start .args .t) (mesh-of start) _
-    (at .triangle-refusal .ensures (start .args .positions .now) (start .args .corners .now) (start .args .links .now)
-    (start .pre)) (c .if1 .taken))
+    (at .triangle-refusal .ensures (start .args .positions .now) (start .args .corners .now) (start .pre)) (c .if1 .taken))
     (c .if1 .taken)
 
 base-chain-requires : tie.Need-base-chain-requires

@@ -1,7 +1,8 @@
 -- `mesh::triangle_refusal` meets its contract.
 use Prim.Native.Nat.{ℕ}
-use borrow.Author.Tests.{le-leb, lt-leb, eq-eqb, ne-eqb}
+use borrow.Author.Tests.{le-leb, lt-leb}
 use mathlib.Core.List.{List}
+use borrow.Author.Needs.{needs}
 use mathlib.Core.Path.{sym, _∙_}
 use lib.IntN.{ℤ}
 use Rattle.rules.specs.Tables.{Mesh}
@@ -11,40 +12,41 @@ use borrow.Author.Needs.{needs}
 use Rattle.mesh.proofs.triangle_refusal.Statement.{statement}
 use Rattle.mesh.proofs.triangle_refusal.Tie as tie
 
-abbrev mesh-of : tie.Start → List ℤ → List ℕ → List ℕ → Mesh
-mesh-of c positions corners links = meshNow (c .args .counts) positions corners links (c .args .generations .now)
+abbrev mesh-of : tie.Start → List ℤ → List ℕ → Mesh
+mesh-of c positions corners =
+    meshNow (c .args .counts) positions corners (c .args .links .now) (c .args .generations .now)
 
 returns : tie.Need-returns
-returns c positions corners links e =
+returns c positions corners e =
     let start = c .before .before in
-    triangle-standing (start .args .t) (mesh-of start positions corners links) _ e (c .if1 .taken)
+    triangle-standing (start .args .t) (mesh-of start positions corners) _ e (c .if1 .taken)
 
 returns-2 : tie.Need-returns-2
-returns-2 c positions corners links e =
+returns-2 c positions corners e =
     let at-if1 = c .before .before in
     let start = at-if1 .before .before in
-    triangle-eight (start .args .t) (mesh-of start positions corners links) _ e (at-if1 .if1 .left)
+    triangle-eight (start .args .t) (mesh-of start positions corners) _ e (at-if1 .if1 .left)
     (le-leb _ _ (c .if2 .taken))
 
-generation-at-requires : tie.Need-generation-at-requires
-generation-at-requires c κs = search needs
+too-old-requires : tie.Need-too-old-requires
+too-old-requires c κs = search needs
 
 returns-3 : tie.Need-returns-3
-returns-3 c positions corners links e =
+returns-3 c positions corners e =
     let at-if2 = c .before .before in
     let at-if1 = at-if2 .before .before in
     let start = at-if1 .before .before in
-    triangle-nine (start .args .t) (mesh-of start positions corners links) _ e (at-if1 .if1 .left)
-    (lt-leb _ _ (at-if2 .if2 .left)) (eq-eqb _ _ (sym (c .before .generation-at .ensures) ∙ c .if3 .taken))
+    triangle-nine (start .args .t) (mesh-of start positions corners) _ e (at-if1 .if1 .left)
+    (lt-leb _ _ (at-if2 .if2 .left)) (sym (c .before .too-old .ensures (start .args .counts) corners) ∙ c .if3 .taken)
 
 returns-4 : tie.Need-returns-4
-returns-4 c positions corners links e =
+returns-4 c positions corners e =
     let at-if2 = c .before .before in
     let at-if1 = at-if2 .before .before in
     let start = at-if1 .before .before in
-    triangle-none (start .args .t) (mesh-of start positions corners links) _ e (at-if1 .if1 .left)
-    (lt-leb _ _ (at-if2 .if2 .left)) (ne-eqb _ _ (λ x. c .if3 .left (c .before .generation-at .ensures ∙ x)))
+    triangle-none (start .args .t) (mesh-of start positions corners) _ e (at-if1 .if1 .left)
+    (lt-leb _ _ (at-if2 .if2 .left)) (sym (c .before .too-old .ensures (start .args .counts) corners) ∙ c .if3 .left)
 
 pub triangle-refusal-spec : {M : Type 1} → statement M
 triangle-refusal-spec =
-    tie.close (tie.spec returns returns-2 generation-at-requires returns-3 returns-4)
+    tie.close (tie.spec returns returns-2 too-old-requires returns-3 returns-4)

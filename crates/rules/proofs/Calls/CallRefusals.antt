@@ -3,37 +3,36 @@ use mathlib.Core.Path.{_≡_, refl, sym, ap, _∙_, subst}
 use mathlib.Core.Logic.{_≢_}
 use mathlib.Core.Bool.{not}
 use mathlib.Core.List.{List}
-use Prim.Native.Nat.{ℕ, suc, _+_, _*_, _≤_, _<_, _%_, max}
+use Prim.Native.Nat.{ℕ, suc, _+_, _*_, _≤_, _<_, _%_, max, _-_}
 use native.Mathlib.Omega.{arith}
 use lib.IntN.{ℤ}
 use lib.ListN.{length}
 use lib.Dec.{eqb, leb, ltb}
 use Rattle.rules.proofs.Loads.CageTests.{sizes-fit-is, corners-fit-is, coordinates-fit-is, sides-differ-is}
-use Rattle.rules.proofs.Chains.ChainEnd.{ends-at-boundary-is}
 use Rattle.rules.proofs.Numbers.Decide.{Decides, is-eq, is-lt, is-le, is-not, is-iff, stable, is-and, even-is}
 use Rattle.rules.proofs.Numbers.Decide.{is-all}
-use Rattle.rules.proofs.Numbers.Decide.{is-any}
+use Rattle.rules.proofs.Numbers.Decide.{is-any, is-or}
 use Rattle.rules.proofs.Calls.FirstThatHolds.{Judged, carried, refused, first-if, first-unless, judged}
-use Rattle.rules.proofs.Calls.FirstThatHolds.{judged-refusal}
-use Rattle.rules.proofs.Calls.FirstThatHolds.{judged-refused}
+use Rattle.rules.proofs.Calls.FirstThatHolds.{judged-refusal, judged-refused, first-not}
 use Rattle.rules.proofs.Loads.Load.{fans-fit-is}
-use Rattle.rules.proofs.Chains.Refine.{chain-counts}
-use Rattle.rules.proofs.Soundness.Relaxed.{sound-manifold, sound-bases}
+use Rattle.rules.proofs.Chains.Refine.{chain-takes}
 use Rattle.rules.proofs.Soundness.SoundTest.{tables-agree-is, sound-is}
 use Rattle.rules.specs.Below.{any}
 use Rattle.rules.specs.Cage.{Cage, cageOf, loaded}
-use Rattle.rules.specs.Calls.{Room, noRoom, ringRoom, tableRoom, limitRefusal, limitRead, limitCall, Outcome, refusedWith, worked, roomFor, splitsOf}
-use Rattle.rules.specs.Calls.{closedEven, loadRefusal}
+use Rattle.rules.specs.Calls.{Room, noRoom, ringRoom, tableRoom, limitRefusal, limitRead, limitCall, Outcome}
+use Rattle.rules.specs.Calls.{refusedWith, worked, roomFor, splitsOf, closedEven, loadRefusal}
 use Rattle.rules.specs.Calls.{refineRefusal, wholeStepRefusal, ringRefusal, positionRefusal, loadCall, refineCall}
-use Rattle.rules.specs.Calls.{wholeStepCall, ringRead, ringCall, positionRead, positionCall}
-use Rattle.rules.specs.Conditions.{EndsAtBoundary, OddInChain, atEven, atBoundary, onward, RoomFor, TooFewSlots}
+use Rattle.rules.specs.Calls.{wholeStepCall, ringRead, ringCall, positionRead, positionCall, verticesOf}
+use Rattle.rules.specs.Calls.{trianglesOf, tooOld}
+use Rattle.rules.specs.Conditions.{OddInChain, atEven, atBoundary, onward, RoomFor, TooFewSlots}
 use Rattle.rules.specs.Conditions.{ClosedEven, First, none, LongRing, loadConditions, refineConditions}
 use Rattle.rules.specs.Conditions.{wholeStepConditions, limitConditions, ringConditions, positionConditions}
-use Rattle.rules.specs.History.{loads, refines, steps, Question, ringOf, positionOf, limitsOf, asked, Call, changes, asks}
-use Rattle.rules.specs.History.{outcome, lent}
+use Rattle.rules.specs.Conditions.{Takes, evenEnd, boundaryEnd, TooOld, EndsAtBoundary}
+use Rattle.rules.specs.History.{loads, refines, steps, Question, ringOf, positionOf, limitsOf, asked, Call}
+use Rattle.rules.specs.History.{changes, asks, outcome, lent}
 use Rattle.rules.specs.Ring.{ring}
 use Rattle.rules.specs.Sound.{Sound}
-use Rattle.rules.specs.Split.{atFirst, chainEnd, chainOdd, refine}
+use Rattle.rules.specs.Split.{atFirst, refine}
 use Rattle.rules.specs.Step.{wholeStep}
 use Rattle.rules.specs.Tables.{Topology, Mesh, sides, boundary, link, generation, vertexSlots, triangleSlots}
 
@@ -43,11 +42,14 @@ use Rattle.rules.specs.Tables.{Topology, Mesh, sides, boundary, link, ge
 unused-is : (n k : ℕ) → Decides (leb k n) (¬ (n < k))
 unused-is n k = is-iff (λ l q. omega arith) (λ q. omega arith) (is-le k n)
 
-pub room-is : (s : ℕ) (m : Mesh) → Decides (roomFor s m) (RoomFor s m)
-room-is s m =
+pub room-is : (v f : ℕ) (m : Mesh) → Decides (roomFor v f m) (RoomFor v f m)
+room-is v f m =
     is-iff (λ x. record { vertices = x .0; triangles = x .1 }) (λ R. (R .vertices, R .triangles))
-    (is-and (is-le (m .topology .vertices + s) (vertexSlots m))
-    (is-le (m .topology .triangles + 2 * s) (triangleSlots m)))
+    (is-and (is-le (m .topology .vertices + v) (vertexSlots m)) (is-le (m .topology .triangles + f) (triangleSlots m)))
+
+pub too-old-is : (m : Topology) (t : ℕ) → Decides (tooOld m t) (TooOld m t)
+too-old-is m t =
+    is-or (is-eq (generation m t) 20) (is-and (is-eq (generation m t) 19) (is-eq (link m (3 * t)) boundary))
 
 -- All triangles have the generation of the first, if there is one.
 pub closed-even-is : (m : Topology) → 1 ≤ m .triangles → Decides (closedEven m) (ClosedEven m)
@@ -73,21 +75,34 @@ one-number (onward e n c) (atEven f) = absurd (omega arith)
 one-number (onward e n c) (atBoundary f l) = absurd (n l)
 one-number (onward e n c) (onward f l d) = ap suc (one-number c d)
 
--- A base chain of sound tables that does not end at the boundary.
-module _ (t : ℕ) (m : Mesh) (S : Sound m) (u : t < m .topology .triangles) (e : ¬ EndsAtBoundary (m .topology) t) where
-  pub ends-even : generation (m .topology) (chainEnd (m .topology) t) % 2 ≡ 0
-  ends-even =
-      even-is (generation (m .topology) (chainEnd (m .topology) t)) .holds
-      (is-not (ends-at-boundary-is (m .topology) (sound-manifold S) (sound-bases S) t u) .passes e)
+-- So have the splits that a refine takes, and the rim splits among them.
+one-taking : {m : Topology} {t s q s′ q′ : ℕ} → Takes m t s q → Takes m t s′ q′ → (s ≡ s′) × (q ≡ q′)
+one-taking (evenEnd c n) (evenEnd d o) = (ap (max 1) (one-number c d), refl)
+one-taking (evenEnd c n) (boundaryEnd d e) = absurd (n e)
+one-taking (boundaryEnd c e) (evenEnd d n) = absurd (n e)
+one-taking (boundaryEnd c e) (boundaryEnd d f) = (ap (λ (k : ℕ). max 1 (k - 1)) (one-number c d), refl)
 
-  pub chain-counted : OddInChain (m .topology) t (chainOdd (m .topology) t)
-  chain-counted = chain-counts t m S u ends-even
+pub taken-at-boundary : (t k : ℕ) (m : Mesh) → Sound m → t < m .topology .triangles → OddInChain (m .topology) t k
+    → EndsAtBoundary (m .topology) t
+    → (k ≡ 1 → (verticesOf (m .topology) t ≡ 2) × (trianglesOf (m .topology) t ≡ 2))
+    × (2 ≤ k → (verticesOf (m .topology) t ≡ k) × (trianglesOf (m .topology) t ≡ 2 * (k - 1)))
+taken-at-boundary t k m S u c e =
+    let T = one-taking (chain-takes t m S u) (boundaryEnd c e) in
+    let s = T .0 in
+    let q = T .1 in
+    ((λ i. (omega arith, omega arith)), (λ i. (omega arith, omega arith)))
 
-  pub too-few-is : Decides (not (roomFor (splitsOf (m .topology) t) m)) (TooFewSlots t m)
-  too-few-is =
-      is-iff (λ n. (chainOdd (m .topology) t, chain-counted, n))
-      (λ (k, c, n) R. n (subst (λ (j : ℕ). RoomFor (max 1 j) m) (one-number chain-counted c) R))
-      (is-not (room-is (splitsOf (m .topology) t) m))
+pub too-few-is : (t : ℕ) (m : Mesh) → Sound m → t < m .topology .triangles
+    → Decides (not (roomFor (verticesOf (m .topology) t) (trianglesOf (m .topology) t) m)) (TooFewSlots t m)
+too-few-is t m S u =
+    let T = chain-takes t m S u in
+    is-iff (λ n. (_, _, T, n))
+    (λ (s, q, T′, n) R. n (same (one-taking T T′) R))
+    (is-not (room-is _ _ m))
+  where
+    same : {s q s′ q′ : ℕ} → (s ≡ s′) × (q ≡ q′) → RoomFor (s + q) (2 * s) m → RoomFor (s′ + q′) (2 * s′) m
+    same {q = q} {s′ = s′} (a, b) R =
+        subst (λ (j : ℕ). RoomFor (s′ + j) (2 * s′) m) b (subst (λ (j : ℕ). RoomFor (j + q) (2 * j) m) a R)
 
 pub long-ring-is : (m : Topology) → Decides (any (m .vertices) (λ v. ltb 12 (length (ring m v)))) (LongRing m)
 long-ring-is m =
@@ -113,10 +128,8 @@ refine-refusal-first t m =
     first-unless 1 (tables-agree-is m) (λ A.
     first-unless 7 (sound-is m) (λ S.
     first-if 8 (unused-is t (m .topology .triangles)) (λ u.
-    first-if 9 (is-eq (generation (m .topology) t) 20) (λ _.
-    first-if 10 (ends-at-boundary-is (m .topology) (sound-manifold S) (sound-bases S) t
-    (stable (is-lt t (m .topology .triangles)) u)) (λ e.
-    first-if 11 (too-few-is t m S (stable (is-lt t (m .topology .triangles)) u) e) (λ _. none))))))
+    first-if 9 (too-old-is (m .topology) t) (λ _.
+    first-if 11 (too-few-is t m S (stable (is-lt t (m .topology .triangles)) u)) (λ _. none)))))
 
 pub whole-step-refusal-first : (m : Mesh) → First (wholeStepConditions m) (wholeStepRefusal m)
 unfolding wholeStepRefusal
@@ -126,7 +139,7 @@ whole-step-refusal-first m =
     first-unless 12 (closed-even-is (m .topology) (S .someTriangle)) (λ _.
     first-if 9 (is-eq (generation (m .topology) 0) 20) (λ _.
     first-if 13 (long-ring-is (m .topology)) (λ _.
-    first-unless 11 (room-is (m .topology .triangles) m) (λ _. none))))))
+    first-unless 11 (room-is (m .topology .triangles) (2 * m .topology .triangles) m) (λ _. none))))))
 
 pub limit-refusal-first : (table : List ℤ) (m : Mesh) → First (limitConditions table m) (limitRefusal table m)
 unfolding limitRefusal
@@ -223,3 +236,12 @@ pub question-stands : (q : Question) (m : Mesh) → asked q m .mesh ≡ m
 question-stands (ringOf v buffer) m = judged-stands refl (ring-judged v buffer m)
 question-stands (positionOf v) m = judged-stands refl (position-judged v m)
 question-stands (limitsOf table) m = judged-stands refl (limit-judged table m)
+
+-- No call returns 10, on any mesh.
+pub no-ten : (c : Call) (m : Mesh) → outcome c m .answer .refusal ≢ 10
+no-ten (changes (loads bytes)) m = first-not 10 (load-refusal bytes m) tt
+no-ten (changes (refines t)) m = first-not 10 (refine-refusal t m) tt
+no-ten (changes steps) m = first-not 10 (whole-step-refusal m) tt
+no-ten (asks (ringOf v buffer)) m = first-not 10 (ring-refusal v buffer m) tt
+no-ten (asks (positionOf v)) m = first-not 10 (position-refusal v m) tt
+no-ten (asks (limitsOf table)) m = first-not 10 (limit-refusal table m) tt

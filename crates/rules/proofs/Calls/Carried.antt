@@ -1,26 +1,27 @@
 -- What a call that is carried out has found, and what it makes of the mesh.
 use mathlib.Core.Path.{_≡_, _∙_}
-use mathlib.Core.Logic.{_≢_}
+use mathlib.Core.Logic.{_≢_, inl}
 use mathlib.Core.List.{List}
-use Prim.Native.Nat.{ℕ, _%_, _<_}
+use Prim.Native.Nat.{ℕ, _*_, _<_}
 use native.Mathlib.Omega.{arith}
 use Rattle.rules.proofs.Loads.CageTests.{sizes-fit-is, corners-fit-is, coordinates-fit-is, sides-differ-is}
-use Rattle.rules.proofs.Calls.CallRefusals.{room-is, closed-even-is, ends-even, chain-counted}
+use Rattle.rules.proofs.Calls.CallRefusals.{room-is, closed-even-is}
 use Rattle.rules.proofs.Calls.CallRefusals.{load-refusal-first}
 use Rattle.rules.proofs.Calls.CallRefusals.{refine-refusal-first, whole-step-refusal-first}
 use Rattle.rules.proofs.Numbers.Decide.{is-lt, stable}
 use Rattle.rules.proofs.Calls.FirstThatHolds.{none-hold}
 use Rattle.rules.proofs.Loads.Load.{fans-fit-is}
-use Rattle.rules.proofs.Chains.Refine.{Refined, refine-refined}
+use Rattle.rules.proofs.Chains.Refine.{Refined, refine-refined, chain-takes}
 use Rattle.rules.proofs.Soundness.SoundTest.{tables-agree-is, sound-is}
 use Rattle.rules.proofs.Steps.WholeStep.{step-makes}
 use Rattle.rules.specs.Cage.{Cage, cageOf}
-use Rattle.rules.specs.Calls.{splitsOf, loadRefusal, refineRefusal, wholeStepRefusal}
+use Rattle.rules.specs.Calls.{splitsOf, loadRefusal, refineRefusal, wholeStepRefusal, rimSplitsOf, verticesOf}
+use Rattle.rules.specs.Calls.{trianglesOf}
 use Rattle.rules.specs.Conditions.{SizesFit, CornersFit, RoomFor, ClosedEven, CoordinatesFit, SidesDiffer}
-use Rattle.rules.specs.Conditions.{FansFit}
+use Rattle.rules.specs.Conditions.{FansFit, TooOld}
 use Rattle.rules.specs.Promises.{StepMakes}
 use Rattle.rules.specs.Sound.{Sound}
-use Rattle.rules.specs.Split.{atFirst, chainEnd, chainOdd, refine}
+use Rattle.rules.specs.Split.{atFirst, refine}
 use Rattle.rules.specs.Step.{wholeStep}
 use Rattle.rules.specs.Tables.{Mesh, TablesAgree, generation}
 
@@ -56,29 +57,30 @@ load-found bytes m z =
 pub record RefineFound (t : ℕ) (m : Mesh) : Type 0 where
   pub sound : Sound m
   pub inUse : t < m .topology .triangles
-  pub young : generation (m .topology) t < 20
-  pub evenEnd : generation (m .topology) (chainEnd (m .topology) t) % 2 ≡ 0
-  pub room : RoomFor (splitsOf (m .topology) t) m
+  pub young : ¬ TooOld (m .topology) t
+  pub room : RoomFor (verticesOf (m .topology) t) (trianglesOf (m .topology) t) m
 
 pub refine-found : (t : ℕ) (m : Mesh) → refineRefusal t m ≡ 0 → RefineFound t m
 refine-found t m z =
-    let (_, (s, (i, (n, (e, (r, _)))))) = none-hold (refine-refusal-first t m) z tt in
+    let (_, (s, (i, (n, (r, _))))) = none-hold (refine-refusal-first t m) z tt in
     let S = stable (sound-is m) s in
     let u : t < m .topology .triangles = stable (is-lt t (m .topology .triangles)) i in
-    let y = S .generations t u in
     record {
       sound = S;
       inUse = u;
-      young = omega arith;
-      evenEnd = ends-even t m S u e;
-      room =
-          stable (room-is (splitsOf (m .topology) t) m)
-          (λ n. r (chainOdd (m .topology) t, chain-counted t m S u e, n));
+      young = n;
+      room = stable (room-is _ _ m) (λ n. r (_, _, chain-takes t m S u, n));
     }
 
+-- Its generation is below 20.
+pub found-young : {t : ℕ} {m : Mesh} → RefineFound t m → generation (m .topology) t < 20
+found-young {t} {m} F =
+    let n : generation (m .topology) t ≢ 20 = λ e. F .young (inl e) in
+    omega (arith, F .sound .generations t (F .inUse))
+
 pub found-refined : {t : ℕ} {m : Mesh} → RefineFound t m
-    → Refined t (splitsOf (m .topology) t) 0 m (refine t (atFirst m))
-found-refined {t} {m} F = refine-refined t m (F .sound) (F .inUse) (F .young) (F .evenEnd) (F .room)
+    → Refined t (splitsOf (m .topology) t) (rimSplitsOf (m .topology) t) m (refine t (atFirst m))
+found-refined {t} {m} F = refine-refined t m (F .sound) (F .inUse) (F .young) (F .room)
 
 -- ---- whole step
 
@@ -86,7 +88,7 @@ pub record StepFound (m : Mesh) : Type 0 where
   pub sound : Sound m
   pub closed : ClosedEven (m .topology)
   pub young : closed .common ≢ 20
-  pub room : RoomFor (m .topology .triangles) m
+  pub room : RoomFor (m .topology .triangles) (2 * m .topology .triangles) m
 
 pub step-found : (m : Mesh) → wholeStepRefusal m ≡ 0 → StepFound m
 step-found m z =
@@ -97,7 +99,7 @@ step-found m z =
       sound = S;
       closed = C;
       young = λ e. n (C .all 0 (S .someTriangle) ∙ e);
-      room = stable (room-is (m .topology .triangles) m) r;
+      room = stable (room-is (m .topology .triangles) (2 * m .topology .triangles) m) r;
     }
 
 pub found-step : {m : Mesh} (F : StepFound m) → StepMakes (F .closed .common) m (wholeStep m)

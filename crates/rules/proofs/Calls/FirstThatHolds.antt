@@ -5,8 +5,8 @@ use mathlib.Core.Bool.{Bool, true, false, not, _&&_}
 use mathlib.Core.List.{List, [], _∷_}
 use Prim.Native.Nat.{ℕ, zero, suc, _<_}
 use native.Mathlib.Omega.{arith}
-use lib.Dec.{T, ltb}
-use Rattle.rules.proofs.Numbers.Decide.{Decides, is-self, is-lt, is-not, stable, is-and}
+use lib.Dec.{T, ltb, eqb}
+use Rattle.rules.proofs.Numbers.Decide.{Decides, is-self, is-lt, is-not, stable, is-and, is-eq}
 use Rattle.rules.specs.Calls.{Room, Outcome, refusedWith, unless}
 use Rattle.rules.specs.Conditions.{Condition, _when_, First, this, later, none}
 use Rattle.rules.specs.Tables.{Mesh}
@@ -46,6 +46,22 @@ pub none-hold : {conditions : List Condition} {k : ℕ} → First conditions k �
 none-hold none z t = tt
 none-hold (this {n} {rest = rest} p) z t = absurd (not-zero n z (positive-both n (positive rest) t .0))
 none-hold (later {n} {rest = rest} q f) z t = (q, none-hold f z (positive-both n (positive rest) t .1))
+
+-- ---- a number that no condition has
+
+-- Neither 0 nor a number of the list is k.
+abbrev without : ℕ → List Condition → Bool
+without k [] = ltb 0 k
+without k (n when P ∷ rest) = not (eqb n k) && without k rest
+
+without-both : (n k : ℕ) (b : Bool) → T (not (eqb n k) && b) → (n ≢ k) × T b
+without-both n k b = is-and (is-not (is-eq n k)) (is-self b) .holds
+
+-- It is not returned.
+pub first-not : {conditions : List Condition} {n : ℕ} (k : ℕ) → First conditions n → T (without k conditions) → n ≢ k
+first-not k none t = λ e. not-zero k (sym e) (is-lt 0 k .holds t)
+first-not k (this {n} {rest = rest} p) t = without-both n k (without k rest) t .0
+first-not k (later {n} {rest = rest} q f) t = first-not k f (without-both n k (without k rest) t .1)
 
 -- ---- what a refusal leaves
 

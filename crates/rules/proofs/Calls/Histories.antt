@@ -3,7 +3,7 @@ use mathlib.Core.Path.{_≡_, refl, sym, _∙_, subst}
 use mathlib.Core.Logic.{inl, inr}
 use mathlib.Core.Bool.{true, false}
 use mathlib.Core.List.{List, [], _∷_}
-use Prim.Native.Nat.{ℕ, _+_, _*_, _/_, _%_, _≤_, min}
+use Prim.Native.Nat.{ℕ, _+_, _*_, _/_, _%_, _≤_, min, _-_, max}
 use native.Mathlib.Omega.{arith}
 use lib.Dec.{eqb}
 use lib.IntN.{pos, _+ℤ_, _-ℤ_}
@@ -18,19 +18,19 @@ use Rattle.rules.proofs.Numbers.Differences.{nat, add, sub, equal}
 use Rattle.rules.proofs.Calls.FirstThatHolds.{Judged, carried, refused, judged-carried}
 use Rattle.rules.proofs.Loads.Load.{load-sound}
 use Rattle.rules.proofs.Links.Manifold.{partnered}
-use Rattle.rules.proofs.Chains.Refine.{Refined, chain-counts, chain-bound}
+use Rattle.rules.proofs.Chains.Refine.{Refined, chain-bound, chain-takes}
 use Rattle.rules.proofs.Soundness.Relaxed.{sound-manifold}
-use Rattle.rules.proofs.Splits.SplitRead.{mutual-links}
-use Rattle.rules.specs.Below.{all}
+use Rattle.rules.proofs.Splits.Parts.{mutual-links}
 use Rattle.rules.specs.Cage.{cageOf, loaded}
-use Rattle.rules.specs.Calls.{Room, noRoom, Outcome, worked, loadRefusal, refineCall}
-use Rattle.rules.specs.Conditions.{OddInChain, atEven, atBoundary, onward}
+use Rattle.rules.specs.Calls.{Room, noRoom, Outcome, worked, loadRefusal, refineCall, rimSplitsOf}
+use Rattle.rules.specs.Conditions.{OddInChain, atEven, atBoundary, onward, EndsAtBoundary, Takes, evenEnd}
+use Rattle.rules.specs.Conditions.{boundaryEnd}
 use Rattle.rules.specs.History.{Near, ReportsSplits, Kept, loads, refines, steps, Call, changes, asks}
 use Rattle.rules.specs.History.{LastLoad, nothing, cage, outcome, after, opens, lastLoad, edges, characteristic}
 use Rattle.rules.specs.History.{cageCharacteristic, EveryHistory}
 use Rattle.rules.specs.Promises.{StepMakes}
 use Rattle.rules.specs.Sound.{Sound}
-use Rattle.rules.specs.Split.{Work, atFirst, chainOdd, refine}
+use Rattle.rules.specs.Split.{Work, atFirst, refine}
 use Rattle.rules.specs.Tables.{Topology, Mesh, link, generation}
 
 -- What is kept from an accepted load on: the tables are sound, and the characteristic is the cage's.
@@ -48,7 +48,7 @@ pub record Keeps (c : Call) (m : Mesh) : Type 0 where
 
 -- ---- splits keep the characteristic
 
--- s splits, q of them at the boundary.
+-- s splits, q of them rim splits.
 same-characteristic : (v e f s q : ℕ) {v′ e′ f′ : ℕ} → v′ ≡ v + s + q → e′ ≡ e + 3 * s + q → f′ ≡ f + 2 * s
     → pos v′ -ℤ pos e′ +ℤ pos f′ ≡ pos v -ℤ pos e +ℤ pos f
 same-characteristic v e f s q {v′} {e′} {f′} a b c =
@@ -145,16 +145,34 @@ odd-none (onward q e x) o = absurd (omega arith)
 pub found-refines : (t : ℕ) (m : Mesh) → RefineFound t m → ReportsSplits m t (worked (refine t (atFirst m)))
 found-refines t m F =
     let R = found-refined F in
-    let c = chain-counts t m (F .sound) (F .inUse) (F .evenEnd) in
-    let b = chain-bound t m (F .sound) (F .inUse) (F .evenEnd) in
-    let all : generation (m .topology) t % 2 ≡ 1 → refine t (atFirst m) .splits ≡ chainOdd (m .topology) t =
-    λ o. let i = odd-some c o in omega (arith, R .splits) in
+    let T : Takes (m .topology) t (refine t (atFirst m) .splits) (rimSplitsOf (m .topology) t) =
+    subst (λ (s : ℕ). Takes (m .topology) t s (rimSplitsOf (m .topology) t)) (sym (R .splits))
+    (chain-takes t m (F .sound) (F .inUse)) in
+    let b = chain-bound t m (F .sound) (F .inUse) in
     record {
-      odd = λ o. subst (OddInChain (m .topology) t) (sym (all o)) c;
-      bound = λ o. let i = all o in omega arith;
-      even = λ e. let i = odd-none c e in omega (arith, R .splits);
+      odd = λ o n. reports-odd T o n;
+      atBoundary = λ e. reports-rim T e;
+      bound = λ o. omega (arith, R .splits);
+      even = λ e. reports-even T e;
       made = omega (arith, R .triangles, R .splits);
     }
+  where
+    reports-odd : {s q : ℕ} → Takes (m .topology) t s q → generation (m .topology) t % 2 ≡ 1
+        → ¬ EndsAtBoundary (m .topology) t → OddInChain (m .topology) t s
+    reports-odd (evenEnd {k = k} c n) o i =
+        let some = odd-some c o in
+        let e : k ≡ max 1 k = omega arith in
+        subst (OddInChain (m .topology) t) e c
+    reports-odd (boundaryEnd c e) o i = absurd (i e)
+
+    reports-rim : {s q : ℕ} → Takes (m .topology) t s q → EndsAtBoundary (m .topology) t
+        → (k : ℕ) × OddInChain (m .topology) t k × (s ≡ max 1 (k - 1))
+    reports-rim (evenEnd c n) e = absurd (n e)
+    reports-rim (boundaryEnd {k = k} c e) _ = (k, c, refl)
+
+    reports-even : {s q : ℕ} → Takes (m .topology) t s q → generation (m .topology) t % 2 ≡ 0 → s ≡ 1
+    reports-even (evenEnd c n) e = let z = odd-none c e in omega arith
+    reports-even (boundaryEnd c x) e = let z = odd-none c e in omega arith
 
 pub carried-refines : (t : ℕ) (m : Mesh) → refineCall t m .answer .refusal ≡ 0 → ReportsSplits m t (refineCall t m)
 carried-refines t m z =

@@ -87,7 +87,7 @@ refine-makes t m z =
         rises = R .rises;
         needed = s;
         flips = omega (arith, R .odd);
-        oddByOne = R .oddByOne;
+        risesBy = R .risesBy;
         still = R .still;
         oldVertices = R .places .old;
         past = record {
@@ -114,7 +114,7 @@ pub refine-is-split : (t n : ℕ) (m : Mesh) → refineCall t m .answer .refusal
     → refine t (atFirst m) ≡ kobbelt n t (atFirst m)
 refine-is-split t n m z i =
     let F = refine-found t m (judged-carried (refine-judged t m) z .0) in
-    refine-is-kobbelt t n m (F .sound) (F .inUse) (F .evenEnd) (F .room) i
+    refine-is-kobbelt t n m (F .sound) (F .inUse) (F .room) i
 
 -- ---- whole step
 

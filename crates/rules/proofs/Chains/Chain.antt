@@ -5,23 +5,20 @@ use Prim.Native.Nat.{ℕ, zero, suc, _+_, _*_, _/_, _%_, _≤_, _<_, min}
 use native.Mathlib.Omega.{arith}
 use native.Mathlib.Decide.{ℕ-discrete}
 use borrow.Author.Tests.{ne-eqb}
-use Rattle.rules.proofs.Splits.Bases.{reached}
 use Rattle.rules.proofs.Splits.Cut.{CutResult}
 use Rattle.rules.proofs.Numbers.Decide.{odd-test, even-test}
-use Rattle.rules.proofs.Splits.FaceSplit.{Room, Splitting, face-splitting}
 use Rattle.rules.proofs.Links.Manifold.{Partnered, Manifold, level, BasesMeetIn, level₀, partnered}
-use Rattle.rules.proofs.Chains.Runs.{Splittable, isEven, even-of, cut}
+use Rattle.rules.proofs.Chains.Runs.{Splittable, isEven, onBoundary, topOf, rimOf, not-splittable}
 use Rattle.rules.proofs.Splits.Settled.{nowhere}
 use Rattle.rules.proofs.Splits.Settling.{Follow}
-use Rattle.rules.specs.Conditions.{OddInChain, atEven, onward}
-use Rattle.rules.specs.Split.{Work, chainEndWithin, chainOddWithin}
-use Rattle.rules.specs.Tables.{Topology, boundary, link, generation}
+use Rattle.rules.specs.Conditions.{EndsAtBoundary, stops, goesOn, OddInChain, atEven, atBoundary, onward}
+use Rattle.rules.specs.Split.{chainEndWithin, chainOddWithin}
+use Rattle.rules.specs.Tables.{Topology, boundary, link, generation, odd}
 
 module _ (m : Topology) (F : Manifold m) (K : BasesMeetIn nowhere m) where
   -- Across a base stands an even triangle one generation below, or an odd one two below.
   pub falls : (t : ℕ) → t < m .triangles → generation m t % 2 ≡ 1 → link m (3 * t) ≢ boundary
-      → (link m (3 * t) / 3 < m .triangles)
-      × (generation m (link m (3 * t) / 3) + (1 + generation m (link m (3 * t) / 3) % 2) ≡ generation m t)
+      → (link m (3 * t) / 3 < m .triangles) × (topOf m (link m (3 * t) / 3) ≡ generation m t)
   falls t l o r =
       let M : Partnered m (3 * t) = partnered (F .linked (3 * t) (omega arith)) r in
       let k : ℕ = link m (3 * t) in
@@ -38,7 +35,7 @@ module _ (m : Topology) (F : Manifold m) (K : BasesMeetIn nowhere m) where
       go : Dec (link m (3 * t) % 3 ≡ 0) → Dec (generation m (link m (3 * t) / 3) % 2 ≡ 1)
           → (generation m (link m (3 * t) / 3) + min 1 (link m (3 * t) % 3)) / 2 ≡ generation m t / 2
           → generation m (3 * t / 3) % 2 ≡ 1
-          → generation m (link m (3 * t) / 3) + (1 + generation m (link m (3 * t) / 3) % 2) ≡ generation m t
+          → topOf m (link m (3 * t) / 3) ≡ generation m t
       go (yes x) (yes y) w z =
           elim (K (3 * t) (omega arith) (omega arith, z) (x, y)) [ inl a ↦ absurd a | inr a ↦ absurd a ]
       go (no x) (yes y) w z = omega arith
@@ -50,26 +47,35 @@ pub data Path (m : Topology) : ℕ → ℕ → ℕ → Type 0 where
   across : {t v k : ℕ} → generation m t % 2 ≡ 1 → link m (3 * t) ≢ boundary → Path m (link m (3 * t) / 3) v k
       → Path m t v (suc k)
 
+pub path-odd : {m : Topology} {t v k : ℕ} → Path m t v (suc k) → generation m t % 2 ≡ 1
+path-odd (across o r p) = o
+
+pub path-meets : {m : Topology} {t v k : ℕ} → Path m t v (suc k) → link m (3 * t) ≢ boundary
+path-meets (across o r p) = r
+
+pub path-next : {m : Topology} {t v k : ℕ} → Path m t v (suc k) → Path m (link m (3 * t) / 3) v k
+path-next (across o r p) = p
+
 -- ---- the chain and its end
 
 -- A triangle ends the chain, or the chain goes on from the next.
-pub data Goes (m : Topology) (t : ℕ) : Type 0 where
-  evenHere : generation m t % 2 ≡ 0 → Goes m t
-  boundaryHere : generation m t % 2 ≡ 1 → link m (3 * t) ≡ boundary → Goes m t
+data Goes (m : Topology) (t : ℕ) : Type 0 where
+  endsHere : Splittable m t → Goes m t
   furtherOn : generation m t % 2 ≡ 1 → link m (3 * t) ≢ boundary → Goes m t
 
-pub goes : (m : Topology) (t : ℕ) → Goes m t
+goes : (m : Topology) (t : ℕ) → Goes m t
 goes m t = go (ℕ-discrete (generation m t % 2) 1) (ℕ-discrete (link m (3 * t)) boundary)
   where
     go : Dec (generation m t % 2 ≡ 1) → Dec (link m (3 * t) ≡ boundary) → Goes m t
-    go (no o) d = evenHere (omega arith)
-    go (yes o) (yes e) = boundaryHere o e
+    go (no o) d = endsHere (isEven (omega arith))
+    go (yes o) (yes e) = endsHere (onBoundary o e)
     go (yes o) (no e) = furtherOn o e
 
 pub end-here : (n : ℕ) (m : Topology) (t : ℕ) → Splittable m t → chainEndWithin n m t ≡ t
 unfolding chainEndWithin
 end-here zero m t x = refl
-end-here (suc n) m t x = rw (even-test (generation m t) (even-of x), chainEndWithin)
+end-here (suc n) m t (isEven e) = rw (even-test (generation m t) e, chainEndWithin)
+end-here (suc n) m t (onBoundary o e) = rw (odd-test (generation m t) o, e, chainEndWithin)
 
 end-on : (n : ℕ) (m : Topology) (t v : ℕ) → generation m t % 2 ≡ 1 → link m (3 * t) ≢ boundary
     → chainEndWithin n m (link m (3 * t) / 3) ≡ v → chainEndWithin (suc n) m t ≡ v
@@ -91,46 +97,32 @@ path-end {m} (suc n) F K l i (across {t = t} {v = v} o r p) =
     (path-end n F K (falls m F K t l o r .0)
     (less n (generation m t) (generation m (link m (3 * t) / 3)) (falls m F K t l o r .1) i) p)
 
--- The generation of the children of v, and how many boundary splits.
-abbrev pub topOf : (m : Topology) (v : ℕ) → Splittable m v → ℕ
-topOf m v (isEven e) = suc (generation m v)
-
-abbrev pub boundaryOf : (m : Topology) (v : ℕ) → Splittable m v → ℕ
-boundaryOf m v (isEven e) = 0
-
-pub cut-splitting : (v : ℕ) (d : Work) (x : Splittable (reached d) v) → Manifold (reached d)
-    → v < reached d .triangles → Room 1 (reached d)
-    → Splitting v (topOf (reached d) v x) (1 + boundaryOf (reached d) v x) (2 * boundaryOf (reached d) v x) d
-    (cut v d x)
-cut-splitting v d (isEven e) F b R = face-splitting v d F b R e
-
--- The end lies in use, and its children are not above t.
-top-one : (m : Topology) (t v : ℕ) (x : Splittable m v) → generation m v + (1 + generation m v % 2) ≡ generation m t
-    → topOf m v x ≤ generation m t
-top-one m t v (isEven e) f = omega arith
-
+-- The end lies in use.
 pub path-use : {m : Topology} {t v k : ℕ} → Manifold m → BasesMeetIn nowhere m → t < m .triangles → Path m t v k
     → v < m .triangles
 path-use F K l (ends f) = l
 path-use {m} F K l (across {t = t} o r p) = path-use F K (falls m F K t l o r .0) p
 
-below-sum : (a b c d : ℕ) → b + (1 + d) ≡ c → a ≤ b → a ≤ c
-below-sum a b c d e i = omega arith
+-- Its children are not above those that t would have, and not above t itself where t is not the end.
+top-below : (a b g r : ℕ) → a ≤ b → b ≡ g → a ≤ g + r
+top-below a b g r i e = omega arith
 
-path-top : {m : Topology} {u t v k : ℕ} → Manifold m → BasesMeetIn nowhere m → t < m .triangles
-    → generation m t % 2 ≡ 1 → link m (3 * t) ≢ boundary → link m (3 * t) / 3 ≡ u → Path m u v k
-    → (x : Splittable m v) → topOf m v x ≤ generation m t
-path-top {m} {t = t} F K l o r e (ends {t = u} f) x =
-    top-one m t u x
-    (subst (λ (y : ℕ). generation m y + (1 + generation m y % 2) ≡ generation m t) e (falls m F K t l o r .1))
-path-top {m} {t = t} F K l o r e (across {t = u} {v = v} o′ r′ p) x =
-    below-sum (topOf m v x) (generation m u) (generation m t) (generation m u % 2)
-    (subst (λ (y : ℕ). generation m y + (1 + generation m y % 2) ≡ generation m t) e (falls m F K t l o r .1))
-    (path-top F K (subst (λ (y : ℕ). y < m .triangles) e (falls m F K t l o r .0)) o′ r′ refl p x)
+path-top : {m : Topology} {t v k : ℕ} → Manifold m → BasesMeetIn nowhere m → t < m .triangles → Path m t v k
+    → topOf m v ≤ topOf m t
+path-top F K l (ends f) = omega arith
+path-top {m} {v = v} F K l (across {t = t} o r p) =
+    top-below (topOf m v) (topOf m (link m (3 * t) / 3)) (generation m t) (1 + rimOf m t)
+    (path-top F K (falls m F K t l o r .0) p) (falls m F K t l o r .1)
 
 pub path-high : {m : Topology} {t v k : ℕ} → Manifold m → BasesMeetIn nowhere m → t < m .triangles → Path m t v (suc k)
-    → (x : Splittable m v) → topOf m v x ≤ generation m t
-path-high F K l (across {t = t} o r p) x = path-top {t = t} F K l o r refl p x
+    → topOf m v ≤ generation m t
+path-high {m} {v = v} F K l (across {t = t} o r p) =
+    let f = falls m F K t l o r in
+    let i = path-top F K (f .0) p in
+    omega (arith, f .1)
+
+add-suc : (a b : ℕ) → suc (a + b) ≡ suc a + b
+add-suc a b = omega arith
 
 short-on : (k g h : ℕ) → h + (1 + h % 2) ≡ g → g % 2 ≡ 1 → 2 * k ≤ h + 1 → 2 * suc k ≤ g + 1
 short-on k g h e o i = omega arith
@@ -146,35 +138,64 @@ pub path-fit : {m : Topology} {t v k : ℕ} → Path m t v k → Splittable m v
 path-fit (ends f) = f
 path-fit (across o r p) = path-fit p
 
--- A path to an even triangle counts the odd triangles of the chain.
-pub path-counts : {m : Topology} {t v k : ℕ} → Path m t v k → OddInChain m t k
-path-counts (ends f) = atEven (even-of f)
-path-counts (across o r p) = onward o r (path-counts p)
+-- A path counts the odd triangles of the chain, but for the one at the boundary.
+pub path-counts : {m : Topology} {t v k : ℕ} → Path m t v k → OddInChain m t (k + rimOf m v)
+path-counts {m} (ends {t = t} (isEven e)) =
+    let q : 0 ≡ 0 + rimOf m t = omega arith in
+    subst (OddInChain m t) q (atEven e)
+path-counts {m} (ends {t = t} (onBoundary o e)) =
+    let q : 1 ≡ 0 + rimOf m t = omega arith in
+    subst (OddInChain m t) q (atBoundary o e)
+path-counts {m} {v = v} (across {k = k} o r p) =
+    subst (OddInChain m _) (add-suc k (rimOf m v)) (onward o r (path-counts p))
+
+-- The chain ends at the boundary exactly if the end of the path is odd.
+pub path-outside : {m : Topology} {t v k : ℕ} → Path m t v k → generation m v % 2 ≡ 1 → EndsAtBoundary m t
+path-outside (ends (isEven e)) q = absurd (omega arith)
+path-outside (ends (onBoundary o e)) q = stops o e
+path-outside (across o r p) q = goesOn o r (path-outside p q)
+
+pub path-inside : {m : Topology} {t v k : ℕ} → Path m t v k → generation m v % 2 ≡ 0 → ¬ EndsAtBoundary m t
+path-inside (ends f) q (stops o e) = omega arith
+path-inside (ends f) q (goesOn o r x) = omega arith
+path-inside (across o r p) q (stops o′ e) = r e
+path-inside (across o r p) q (goesOn o′ r′ x) = path-inside p q x
+
+-- The base chain of t as a path, and the number of its odd triangles.
+pub record Way (n : ℕ) (m : Topology) (t : ℕ) : Type 0 where
+  pub steps : ℕ
+  pub path : Path m t (chainEndWithin n m t) steps
+  pub counts : chainOddWithin n m t ≡ steps + rimOf m (chainEndWithin n m t)
+
+odd-here : (n : ℕ) (m : Topology) (t : ℕ) → Splittable m t → chainOddWithin (suc n) m t ≡ rimOf m t
+unfolding chainOddWithin
+odd-here n m t (isEven e) = rw (even-test (generation m t) e, chainOddWithin) (sym e)
+odd-here n m t (onBoundary o e) = rw (odd-test (generation m t) o, e, chainOddWithin) (sym o)
 
 pub way : (n : ℕ) (m : Topology) → Manifold m → BasesMeetIn nowhere m → (t : ℕ) → t < m .triangles
-    → generation m t ≤ n → generation m (chainEndWithin n m t) % 2 ≡ 0
-    → Path m t (chainEndWithin n m t) (chainOddWithin n m t)
+    → generation m t ≤ n → Way n m t
 unfolding chainOddWithin chainEndWithin
-way zero m F K t l i z = ends {t = t} (isEven (omega arith))
-way (suc n) m F K t l i z = go (goes m t) (way n m F K (link m (3 * t) / 3)) z
+way zero m F K t l i =
+    let e : generation m t % 2 ≡ 0 = omega arith in
+    record { steps = 0; path = ends {t = t} (isEven e); counts = omega arith }
+way (suc n) m F K t l i = go (goes m t) (way n m F K (link m (3 * t) / 3))
   where
     go : Goes m t
-        → (link m (3 * t) / 3 < m .triangles → generation m (link m (3 * t) / 3) ≤ n
-        → generation m (chainEndWithin n m (link m (3 * t) / 3)) % 2 ≡ 0
-        → Path m (link m (3 * t) / 3) (chainEndWithin n m (link m (3 * t) / 3))
-        (chainOddWithin n m (link m (3 * t) / 3)))
-        → generation m (chainEndWithin (suc n) m t) % 2 ≡ 0
-        → Path m t (chainEndWithin (suc n) m t) (chainOddWithin (suc n) m t)
-    go (evenHere e) w z = rw (even-test (generation m t) e, chainOddWithin, chainEndWithin) (ends (isEven e))
-    go (boundaryHere o e) w z =
-        let q : generation m t % 2 ≡ 0 = rw (odd-test (generation m t) o, e, chainEndWithin) at z in
-        absurd (omega arith)
-    go (furtherOn o e) w z =
+        → (link m (3 * t) / 3 < m .triangles → generation m (link m (3 * t) / 3) ≤ n → Way n m (link m (3 * t) / 3))
+        → Way (suc n) m t
+    go (endsHere x) w =
+        let end : chainEndWithin (suc n) m t ≡ t = end-here (suc n) m t x in
+        record { steps = 0; path = rw end (ends x); counts = rw end (omega (arith, odd-here n m t x)) }
+    go (furtherOn o e) w =
         let f = falls m F K t l o e in
-        let q : generation m (chainEndWithin n m (link m (3 * t) / 3)) % 2 ≡ 0 =
-        rw (odd-test (generation m t) o, ne-eqb (link m (3 * t)) boundary e, chainEndWithin) at z in
-        rw (odd-test (generation m t) o, ne-eqb (link m (3 * t)) boundary e, chainOddWithin, chainEndWithin)
-        (across {t = t} o e (w (f .0) (omega (arith, f .1)) q))
+        let W = w (f .0) (omega (arith, f .1)) in
+        let end : chainEndWithin (suc n) m t ≡ chainEndWithin n m (link m (3 * t) / 3) = end-on n m t _ o e refl in
+        record {
+          steps = suc (W .steps);
+          path = rw end (across {t = t} o e (W .path));
+          counts = rw (end, odd-test (generation m t) o, ne-eqb (link m (3 * t)) boundary e, chainOddWithin)
+              (ap suc (W .counts) ∙ add-suc (W .steps) _);
+        }
 
 -- ---- one step, seen from the chain
 
@@ -187,9 +208,9 @@ Shorter m n x (suc (suc j)) =
 
 module _ (v g p r : ℕ) (m n : Topology) (F : Manifold m) (K : BasesMeetIn nowhere m) (b : v < m .triangles)
     (fit : Splittable m v) (S : CutResult v g p r m n) where
-  -- A base chain that goes on does not go on from v, unless v is even.
+  -- A base chain does not go on from v.
   pub not-v : (x : ℕ) → generation m x % 2 ≡ 1 → link m (3 * x) ≢ boundary → x ≢ v
-  not-v x o q e = omega (arith, even-of fit, ap (generation m) e)
+  not-v x o q e = not-splittable (subst (Splittable m) (sym e) fit) o q
 
   -- x and its base's partner are left: the base goes on meeting it.
   pub stays : (x : ℕ) → x < m .triangles → link m (3 * x) ≢ boundary → generation n x ≡ generation m x

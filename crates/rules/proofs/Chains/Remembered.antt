@@ -1,14 +1,13 @@
 -- The places of a base chain: a split at its end leaves those of all odd triangles but the last.
 use mathlib.Core.Path.{_≡_, refl, ap, _∙_, subst}
-use mathlib.Core.Logic.{_≢_}
-use Prim.Native.Nat.{ℕ, zero, suc, _+_, _-_, _*_, _/_, _%_, _≤_, _<_}
+use Prim.Native.Nat.{ℕ, zero, suc, _+_, _-_, _*_, _/_, _≤_, _<_}
 use native.Mathlib.Omega.{arith}
-use Rattle.rules.proofs.Chains.Chain.{Path, ends, across, falls, not-v, left, stays}
+use Rattle.rules.proofs.Chains.Chain.{Path, ends, path-odd, path-meets, path-next, falls, not-v, left, stays}
 use Rattle.rules.proofs.Splits.Cut.{CutResult}
 use Rattle.rules.proofs.Links.Manifold.{Manifold, BasesMeetIn}
 use Rattle.rules.proofs.Chains.Runs.{Splittable}
 use Rattle.rules.proofs.Splits.Settled.{nowhere}
-use Rattle.rules.specs.Tables.{Topology, boundary, link, generation}
+use Rattle.rules.specs.Tables.{Topology, link, generation}
 
 -- The triangle that i bases lead to from t.
 unfoldable pub chainAt : ℕ → Topology → ℕ → ℕ
@@ -16,15 +15,6 @@ chainAt zero m t = t
 chainAt (suc i) m t = link m (3 * chainAt i m t) / 3
 
 module _ {m : Topology} where
-  pub path-odd : {t v k : ℕ} → Path m t v (suc k) → generation m t % 2 ≡ 1
-  path-odd (across o r p) = o
-
-  path-meets : {t v k : ℕ} → Path m t v (suc k) → link m (3 * t) ≢ boundary
-  path-meets (across o r p) = r
-
-  path-next : {t v k : ℕ} → Path m t v (suc k) → Path m (link m (3 * t) / 3) v k
-  path-next (across o r p) = p
-
   pub path-none : {t v : ℕ} → Path m t v 0 → v ≡ t
   path-none (ends f) = refl
 

@@ -1,19 +1,44 @@
 -- What may be split, and its split with the flips.
-use mathlib.Core.Path.{_≡_, refl}
-use Prim.Native.Nat.{ℕ, _%_}
+use mathlib.Core.Path.{_≡_, refl, subst}
+use mathlib.Core.Logic.{_≢_}
+use Prim.Native.Nat.{ℕ, suc, _+_, _*_, _%_, _<_}
+use native.Mathlib.Omega.{arith}
 use Rattle.rules.proofs.Splits.Bases.{reached}
-use Rattle.rules.specs.Split.{Work, faceSplit}
-use Rattle.rules.specs.Tables.{Topology, generation}
+use Rattle.rules.proofs.Numbers.Decide.{odd-test, even-test}
+use Rattle.rules.proofs.Splits.Splitting.{Room, Splitting, face-splitting, rim-splitting}
+use Rattle.rules.proofs.Links.Manifold.{Manifold}
+use Rattle.rules.specs.Split.{Work, faceSplit, rimSplit, splitAt}
+use Rattle.rules.specs.Tables.{Topology, boundary, link, generation}
 
--- An even triangle may be split. The paper's other splits, at the boundary, would be a second case.
+-- An even triangle, or an odd one with its base on the boundary.
 pub data Splittable (m : Topology) (v : ℕ) : Type 0 where
   isEven : generation m v % 2 ≡ 0 → Splittable m v
+  onBoundary : generation m v % 2 ≡ 1 → link m (3 * v) ≡ boundary → Splittable m v
 
-pub even-of : {m : Topology} {v : ℕ} → Splittable m v → generation m v % 2 ≡ 0
-even-of (isEven e) = e
+-- 1 where its split is a rim split, 0 where it is a face split; and the generation of its odd children.
+abbrev pub rimOf : Topology → ℕ → ℕ
+rimOf m v = generation m v % 2
 
-abbrev pub cut : (v : ℕ) (d : Work) → Splittable (reached d) v → Work
-cut v d (isEven e) = faceSplit v d
+abbrev pub topOf : Topology → ℕ → ℕ
+topOf m v = generation m v + (1 + rimOf m v)
 
-pub cut-face : (v : ℕ) (d : Work) (x : Splittable (reached d) v) → faceSplit v d ≡ cut v d x
-cut-face v d (isEven e) = refl
+-- A base chain goes on from none.
+pub not-splittable : {A : Type 0} {m : Topology} {v : ℕ} → Splittable m v → generation m v % 2 ≡ 1
+    → link m (3 * v) ≢ boundary → A
+not-splittable (isEven e) o r = absurd (omega arith)
+not-splittable (onBoundary q e) o r = absurd (r e)
+
+pub split-even : (v : ℕ) (d : Work) → generation (reached d) v % 2 ≡ 0 → splitAt v d ≡ faceSplit v d
+split-even v d e = rw (even-test (generation (reached d) v) e, splitAt) refl
+
+pub split-odd : (v : ℕ) (d : Work) → generation (reached d) v % 2 ≡ 1 → splitAt v d ≡ rimSplit v d
+split-odd v d o = rw (odd-test (generation (reached d) v) o, splitAt) refl
+
+pub split-splitting : (v : ℕ) (d : Work) → Splittable (reached d) v → Manifold (reached d) → v < reached d .triangles
+    → Room 1 (reached d)
+    → Splitting v (topOf (reached d) v) (1 + rimOf (reached d) v) (2 * rimOf (reached d) v) d (splitAt v d)
+split-splitting v d (isEven e) F b R =
+    let one : suc (generation (reached d) v) ≡ generation (reached d) v + 1 = omega arith in
+    rw (split-even v d e, e)
+    (subst (λ (g : ℕ). Splitting v g 1 0 d (faceSplit v d)) one (face-splitting v d F b R e))
+split-splitting v d (onBoundary o e) F b R = rw (split-odd v d o, o) (rim-splitting v d F b R o e)

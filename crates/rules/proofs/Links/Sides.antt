@@ -187,3 +187,16 @@ by-slot v f n P e p q r o x l = go (ℕ-discrete x v) (ℕ-discrete x f) (ℕ-di
     go (no a) (yes b) c = subst P (sym b) q
     go (no a) (no b) (yes c) = subst P (sym c) r
     go (no a) (no b) (no c) = o x (omega arith) a
+
+-- A fact of each side: of triangle t, of one of the two new ones f and f + 1, or of another.
+pub by-side : (t f n : ℕ) (P : ℕ → Type 0) → n ≡ f + 2
+    → (P (3 * t) × P (3 * t + 1) × P (3 * t + 2))
+    → (P (3 * f) × P (3 * f + 1) × P (3 * f + 2))
+    → (P (3 * (f + 1)) × P (3 * (f + 1) + 1) × P (3 * (f + 1) + 2))
+    → ((h : ℕ) → h < 3 * f → h / 3 ≢ t → P h) → (k : ℕ) → k < 3 * n → P k
+by-side t f n P w x y z q =
+    by-triangle (λ k. k < 3 * n → P k) t (λ _. x .0) (λ _. x .1) (λ _. x .2) (λ h i.
+    by-triangle (λ k. k / 3 ≢ t → k < 3 * n → P k) f (λ _ _. y .0) (λ _ _. y .1) (λ _ _. y .2) (λ h j.
+    by-triangle (λ k. k / 3 ≢ f → k / 3 ≢ t → k < 3 * n → P k) (f + 1) (λ _ _ _. z .0) (λ _ _ _. z .1)
+    (λ _ _ _. z .2)
+    (λ h u v w′ l. q h (omega arith) w′) h j) h i)

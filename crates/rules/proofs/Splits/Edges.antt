@@ -9,10 +9,10 @@ use lib.Dec.{eqb, ltb}
 use Rattle.rules.proofs.Splits.Bases.{Settling, kept, flipped}
 use Rattle.rules.proofs.Numbers.Decide.{Decides, is-eq, is-lt, is-iff, is-same, bit-yes, bit-no, is-and}
 use Rattle.rules.proofs.Splits.FlipKeeps.{BasesMeet, meet-back}
-use Rattle.rules.proofs.Splits.FlipRead.{Flips, flipName}
+use Rattle.rules.proofs.Splits.FlipRead.{Flips}
 use Rattle.rules.proofs.Links.Manifold.{Manifold, Joined, few, partnered-with, no-self}
 use Rattle.rules.proofs.Links.Sides.{renameTwo, by-rename}
-use Rattle.rules.proofs.Splits.SplitRead.{Splits, splitName}
+use Rattle.rules.proofs.Splits.Parts.{Parts, Parted, faceParts, rimParts}
 use Rattle.rules.proofs.Numbers.Sums.{total-same, total-change, total-zero, total-add, total-swap, total-one}
 use Rattle.rules.proofs.Numbers.Sums.{total-const, total-change₂, row, row-same, total-rows, total-two}
 use Rattle.rules.proofs.Numbers.Sums.{zero-each}
@@ -116,7 +116,7 @@ module _ (m : Topology) (F : Manifold m) where
       let c = total-const n 1 in
       omega arith
 
--- ---- the boundary sides stay as many
+-- ---- the boundary sides: as many after a face split, two more after a rim split
 
 -- 1 for a side on the boundary.
 boundaryBit : Topology → ℕ → ℕ
@@ -137,6 +137,9 @@ same-bit m n h k e = ap (λ (x : ℕ). bit (eqb x boundary)) e
 linked-bit : (m : Topology) (h k : ℕ) → link m h ≡ k → k ≢ boundary → boundaryBit m h ≡ 0
 linked-bit m h k e n = boundary-bit m h k e ∙ bit-no (is-eq k boundary) n
 
+edge-bit : (m : Topology) (h : ℕ) → link m h ≡ boundary → boundaryBit m h ≡ 1
+edge-bit m h e = boundary-bit m h boundary e
+
 rename-boundary : (a a′ b b′ k : ℕ) → a ≢ b → a ≢ boundary → a′ ≢ boundary → b ≢ boundary → b′ ≢ boundary
     → bit (eqb (renameTwo a a′ b b′ k) boundary) ≡ bit (eqb k boundary)
 rename-boundary a a′ b b′ k ne x x′ y y′ =
@@ -145,44 +148,76 @@ rename-boundary a a′ b b′ k ne x x′ y y′ =
     (λ e. bit-no (is-eq b′ boundary) y′ ∙ sym (bit-no (is-eq k boundary) (λ q. y (sym e ∙ q))))
     (λ _ _. refl)
 
-pub split-boundary : (t : ℕ) (m n : Topology) → Manifold m → t < m .triangles → Splits t m n
-    → boundarySides n ≡ boundarySides m
-split-boundary t m n F b S =
+-- Sides whose links are renamed are on the boundary as before.
+renamed-bit : (a a′ b b′ h : ℕ) (m n : Topology) → a ≢ b → a < boundary → a′ < boundary → b < boundary → b′ < boundary
+    → link n h ≡ renameTwo a a′ b b′ (link m h) → boundaryBit m h ≡ boundaryBit n h
+renamed-bit a a′ b b′ h m n ne x x′ y y′ e =
+    boundary-bit m h (link m h) refl
+    ∙ sym (boundary-bit n h (renameTwo a a′ b b′ (link m h)) e
+    ∙ rename-boundary a a′ b b′ (link m h) ne (omega arith) (omega arith) (omega arith) (omega arith))
+
+-- r boundary sides more, where the three triangles in the place of t have them.
+parted-boundary : (t r : ℕ) (p : Parts) (m n : Topology) → Manifold m → t < m .triangles → Parted t p m n
+    → p .place₁ < boundary → p .place₂ < boundary
+    → row (boundaryBit n) t + row (boundaryBit n) (m .triangles) + row (boundaryBit n) (m .triangles + 1)
+    ≡ row (boundaryBit m) t + r
+    → boundarySides n ≡ boundarySides m + r
+parted-boundary t r p m n F b S i j three =
     let f : ℕ = m .triangles in
-    let e : ℕ = f + 1 in
-    let q : 3 * f < boundary = few m F in
-    let q′ : 3 * e + 2 < boundary = omega (arith, F .slots, F .generationRoom) in
-    let t₁ = linked-bit n (3 * t + 1) (3 * f + 2) (S .linksT .1) (omega arith) in
-    let t₂ = linked-bit n (3 * t + 2) (3 * e + 1) (S .linksT .2) (omega arith) in
-    let f₁ = linked-bit n (3 * f + 1) (3 * e + 2) (S .linksF .1) (omega arith) in
-    let f₂ = linked-bit n (3 * f + 2) (3 * t + 1) (S .linksF .2) (omega arith) in
-    let e₁ = linked-bit n (3 * e + 1) (3 * t + 2) (S .linksE .1) (omega arith) in
-    let e₂ = linked-bit n (3 * e + 2) (3 * f + 1) (S .linksE .2) (omega arith) in
-    let t₀ : boundaryBit n (3 * t) ≡ boundaryBit m (3 * t) = same-bit m n (3 * t) (3 * t) (S .linksT .0) in
-    let f₀ : boundaryBit n (3 * f) ≡ boundaryBit m (3 * t + 1) = same-bit m n (3 * f) (3 * t + 1) (S .linksF .0) in
-    let e₀ : boundaryBit n (3 * e) ≡ boundaryBit m (3 * t + 2) = same-bit m n (3 * e) (3 * t + 2) (S .linksE .0) in
     let c : total f (row (boundaryBit n)) + row (boundaryBit m) t
     ≡ total f (row (boundaryBit m)) + row (boundaryBit n) t =
-    total-change f t (row (boundaryBit m)) (row (boundaryBit n)) b (λ x l i. far x l i) in
+    total-change f t (row (boundaryBit m)) (row (boundaryBit n)) b (λ x l d. far x l d) in
     let d : total (n .triangles) (row (boundaryBit n))
-    ≡ total f (row (boundaryBit n)) + row (boundaryBit n) f + row (boundaryBit n) e =
+    ≡ total f (row (boundaryBit n)) + row (boundaryBit n) f + row (boundaryBit n) (f + 1) =
     ap (λ (x : ℕ). total x (row (boundaryBit n))) (S .triangles) ∙ total-two f (row (boundaryBit n)) in
     boundary-rows n ∙ omega (arith, boundary-rows m)
   where
     one : (h : ℕ) → h < sides m → h / 3 ≢ t → boundaryBit m h ≡ boundaryBit n h
-    one h l i =
-        let q : 3 * m .triangles < boundary = few m F in
-        let q′ : 3 * (m .triangles + 1) < boundary = omega (arith, F .slots, F .generationRoom) in
-        boundary-bit m h (link m h) refl
-        ∙ sym (boundary-bit n h (splitName t (m .triangles) (link m h))
-        (S .links h l i)
-        ∙ rename-boundary (3 * t + 1) (3 * m .triangles) (3 * t + 2) (3 * (m .triangles + 1)) (link m h)
-        (omega arith) (omega arith) (omega arith) (omega arith) (omega arith))
+    one h l d =
+        let q = few m F in
+        renamed-bit (3 * t + 1) (p .place₁) (3 * t + 2) (p .place₂) h m n (omega arith) (omega arith) i (omega arith) j
+        (S .links h l d)
 
     far : (x : ℕ) → x < m .triangles → x ≢ t → row (boundaryBit m) x ≡ row (boundaryBit n) x
-    far x l i =
+    far x l d =
         row-same (boundaryBit m) (boundaryBit n) x (one (3 * x) (omega arith) (omega arith))
         (one (3 * x + 1) (omega arith) (omega arith)) (one (3 * x + 2) (omega arith) (omega arith))
+
+pub split-boundary : (t : ℕ) (m n : Topology) → Manifold m → t < m .triangles → Parted t (faceParts t m) m n
+    → boundarySides n ≡ boundarySides m + 0
+split-boundary t m n F b S =
+    let f : ℕ = m .triangles in
+    let e : ℕ = f + 1 in
+    let q : 3 * e + 2 < boundary = omega (arith, F .slots, F .generationRoom) in
+    let t₀ = same-bit m n (3 * t) (3 * t) (S .own .links .0) in
+    let t₁ = linked-bit n (3 * t + 1) (3 * f + 2) (S .own .links .1) (omega arith) in
+    let t₂ = linked-bit n (3 * t + 2) (3 * e + 1) (S .own .links .2) (omega arith) in
+    let f₀ = same-bit m n (3 * f) (3 * t + 1) (S .second .links .0) in
+    let f₁ = linked-bit n (3 * f + 1) (3 * e + 2) (S .second .links .1) (omega arith) in
+    let f₂ = linked-bit n (3 * f + 2) (3 * t + 1) (S .second .links .2) (omega arith) in
+    let e₀ = same-bit m n (3 * e) (3 * t + 2) (S .third .links .0) in
+    let e₁ = linked-bit n (3 * e + 1) (3 * t + 2) (S .third .links .1) (omega arith) in
+    let e₂ = linked-bit n (3 * e + 2) (3 * f + 1) (S .third .links .2) (omega arith) in
+    parted-boundary t 0 (faceParts t m) m n F b S (omega arith) (omega arith) (omega arith)
+
+-- The base is a boundary side, and three of the new sides are.
+pub rim-boundary : (t : ℕ) (m n : Topology) → Manifold m → t < m .triangles → link m (3 * t) ≡ boundary
+    → Parted t (rimParts t m) m n → boundarySides n ≡ boundarySides m + 2
+rim-boundary t m n F b edge S =
+    let f : ℕ = m .triangles in
+    let e : ℕ = f + 1 in
+    let q : 3 * e + 2 < boundary = omega (arith, F .slots, F .generationRoom) in
+    let old = edge-bit m (3 * t) edge in
+    let t₀ = same-bit m n (3 * t) (3 * t + 2) (S .own .links .0) in
+    let t₁ = edge-bit n (3 * t + 1) (S .own .links .1) in
+    let t₂ = linked-bit n (3 * t + 2) (3 * f + 2) (S .own .links .2) (omega arith) in
+    let f₀ = edge-bit n (3 * f) (S .second .links .0) in
+    let f₁ = linked-bit n (3 * f + 1) (3 * e + 1) (S .second .links .1) (omega arith) in
+    let f₂ = linked-bit n (3 * f + 2) (3 * t + 2) (S .second .links .2) (omega arith) in
+    let e₀ = same-bit m n (3 * e) (3 * t + 1) (S .third .links .0) in
+    let e₁ = linked-bit n (3 * e + 1) (3 * f + 1) (S .third .links .1) (omega arith) in
+    let e₂ = edge-bit n (3 * e + 2) (S .third .links .2) in
+    parted-boundary t 2 (rimParts t m) m n F b S (omega arith) (omega arith) (omega arith)
 
 pub flip-boundary : (s u : ℕ) (m n : Topology) → Manifold m → BasesMeet s u m → Flips s u m n
     → boundarySides n ≡ boundarySides m
@@ -214,10 +249,8 @@ flip-boundary s u m n F B S =
         let bs = B .useS in
         let bu = B .useU in
         let ne = B .differ in
-        boundary-bit m h (link m h) refl
-        ∙ sym (boundary-bit n h (flipName s u (link m h)) (S .links h l i j)
-        ∙ rename-boundary (3 * s + 1) (3 * u) (3 * u + 1) (3 * s) (link m h) (omega arith) (omega arith)
-        (omega arith) (omega arith) (omega arith))
+        renamed-bit (3 * s + 1) (3 * u) (3 * u + 1) (3 * s) h m n (omega arith) (omega arith) (omega arith)
+        (omega arith) (omega arith) (S .links h l i j)
 
     far : (x : ℕ) → x < m .triangles → x ≢ s → x ≢ u → row (boundaryBit m) x ≡ row (boundaryBit n) x
     far x l i j =

@@ -11,7 +11,7 @@ use Rattle.rules.proofs.Links.Past.{Past, drop-put, drop-told, joined-b
 use Rattle.rules.proofs.Links.Sides.{renameTwo, rename-a, rename-b, rename-else, by-rename, relinked, put-else}
 use Rattle.rules.proofs.Links.Sides.{Row}
 use Rattle.rules.proofs.Links.Sides.{put-row, row-else}
-use Rattle.rules.proofs.Splits.SplitRead.{mutual-links}
+use Rattle.rules.proofs.Splits.Parts.{mutual-links}
 use Rattle.rules.specs.Split.{flip}
 use Rattle.rules.specs.Tables.{Topology, sides, origin, link, generation, putThree}
 

@@ -34,6 +34,17 @@ places-on A B = record {
   range = λ r a. let g = B .grows in B .range r (A .range (omega (arith, B .size)) a);
 }
 
+-- Neither vertices nor positions change.
+pub places-stay : (m n : Mesh) → n .positions ≡ m .positions → n .topology .vertices ≡ m .topology .vertices
+    → Places m n
+places-stay m n p v = record {
+  size = ap length p;
+  grows = omega arith;
+  old = λ i l. ap (λ q. getD q i (pos 0)) p;
+  past = λ b l. ap (drop (3 * b)) p;
+  range = λ r a i l. subst (λ q. InRange (getD q i (pos 0))) (sym p) (a i (omega arith));
+}
+
 -- A new vertex placed in the first free slot.
 module _ (m n : Mesh) (p : ℤ × ℤ × ℤ) (one : n .topology .vertices ≡ suc (m .topology .vertices))
     (put : n .positions ≡ putThree (m .topology .vertices) p (m .positions)) where

@@ -1,15 +1,16 @@
 -- The whole step as a loop of face splits: each triangle is split once, in the order of the slots.
-use mathlib.Core.Path.{_≡_, sym}
+use mathlib.Core.Path.{_≡_, sym, _∙_}
 use Prim.Native.Nat.{ℕ, _+_, _≤_, _<_, _*_}
 use native.Mathlib.Numerals.{add-one}
 use native.Mathlib.Omega.{arith}
 use Rattle.rules.proofs.Calls.Carried.{StepFound}
 use Rattle.rules.proofs.Chains.RefineLoop.{NextSplit}
+use Rattle.rules.proofs.Chains.Runs.{split-even}
 use Rattle.rules.proofs.Soundness.Relaxed.{SameSlots, agree-on}
 use Rattle.rules.proofs.Splits.Places.{Places}
 use Rattle.rules.proofs.Steps.StepTopology.{Midway}
 use Rattle.rules.proofs.Steps.WholeStep.{closed-none-odd, midway, next-split}
-use Rattle.rules.specs.Split.{Work, atFirst, faceSplit}
+use Rattle.rules.specs.Split.{Work, atFirst, splitAt}
 use Rattle.rules.specs.Step.{refineFirst}
 use Rattle.rules.specs.Tables.{Mesh}
 
@@ -46,6 +47,7 @@ module _ {m : Mesh} (R : StepFound m) where
           let o = R .closed .all 0 (R .sound .someTriangle) in
           let low = R .sound .generations 0 (R .sound .someTriangle) in
           let young = R .young in
+          let e = R .closed .even in
           record {
             tables = agree-on (R .sound .tables) L;
             inUse = omega (arith, M .triangles);
@@ -57,8 +59,10 @@ module _ {m : Mesh} (R : StepFound m) where
           }
 
       -- To refine it is to split it.
-      pub step-on : faceSplit i w ≡ refineFirst (i + 1) (atFirst m)
+      pub step-on : splitAt i w ≡ refineFirst (i + 1) (atFirst m)
       unfolding refineFirst
       step-on =
           let e = next-split m (R .sound) (R .closed) (R .room) i more in
-          rw (add-one, at) (sym e)
+          let g = M .waiting i (omega arith) more in
+          let c = R .closed .even in
+          split-even i w (omega arith) ∙ rw (add-one, at) (sym e)

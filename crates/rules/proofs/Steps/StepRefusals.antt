@@ -30,7 +30,8 @@ tests-sound {m} S = is-same (sound-is m) (is-true S)
 
 -- The refusal of a sound mesh by the answers of the later tests. A test that was not made stands for itself.
 pub step-by-tests : {m : Mesh} {c g r s : Bool} → Sound m → closedEven (m .topology) ≡ c
-    → eqb (generation (m .topology) 0) 20 ≡ g → longRing m ≡ r → roomFor (m .topology .triangles) m ≡ s
+    → eqb (generation (m .topology) 0) 20 ≡ g → longRing m ≡ r
+    → roomFor (m .topology .triangles) (2 * m .topology .triangles) m ≡ s
     → firstOf (12 if not c ∷ 9 if g ∷ 13 if r ∷ 11 if not s ∷ []) ≡ wholeStepRefusal m
 unfolding wholeStepRefusal
 step-by-tests {m} S c g r s =

@@ -11,12 +11,12 @@ use Rattle.rules.proofs.Splits.Bases.{reached}
 use Rattle.rules.proofs.Chains.Chain.{falls}
 use Rattle.rules.proofs.Splits.Cut.{Spread}
 use Rattle.rules.proofs.Splits.Edges.{boundarySides, no-boundary}
-use Rattle.rules.proofs.Splits.FaceSplit.{Room, face-positions, face-splitting}
+use Rattle.rules.proofs.Splits.Splitting.{Room, face-positions, face-splitting}
 use Rattle.rules.proofs.Links.Manifold.{Manifold, BasesMeetIn}
 use Rattle.rules.proofs.Links.Past.{Past, past-same, past-on}
 use Rattle.rules.proofs.Splits.Places.{Places, places-same, places-on}
 use Rattle.rules.proofs.Chains.Raise.{raise-cuts}
-use Rattle.rules.proofs.Chains.Runs.{isEven}
+use Rattle.rules.proofs.Chains.Runs.{isEven, split-even}
 use Rattle.rules.proofs.Splits.Settled.{nowhere}
 use Rattle.rules.proofs.Links.Sides.{put-at}
 use Rattle.rules.specs.Promises.{odds}
@@ -161,6 +161,7 @@ module _ (g : ℕ) (even : g % 2 ≡ 0) (d : Work) (F : Manifold (reached d)) (K
       let gi : generation (reached e) i ≡ g = M .waiting i (omega arith) l in
       raise-cuts (generation (reached e) i) i e (isEven (omega arith)) (M .manifold) (M .basesMeet) (omega arith)
       (room-at i e l M)
+      ∙ split-even i e (omega arith)
 
   pub refine-first : (i : ℕ) → i ≤ reached d .triangles → Midway g i d (refineFirst i d)
   unfolding refineFirst

@@ -8,7 +8,7 @@ use lib.ListN.{length, getD}
 use lib.IntN.{pos}
 use Rattle.rules.proofs.Splits.Bases.{reached}
 use Rattle.rules.proofs.Splits.Edges.{edges-boundary, boundary-none}
-use Rattle.rules.proofs.Splits.FaceSplit.{Room}
+use Rattle.rules.proofs.Splits.Splitting.{Room}
 use Rattle.rules.proofs.Chains.Refine.{sound-room}
 use Rattle.rules.proofs.Soundness.Relaxed.{sound-manifold, sound-bases, manifold-sound, agree-on}
 use Rattle.rules.proofs.Rings.RingVertices.{ring-coordinates, ring-some}
@@ -33,7 +33,8 @@ pub closed-none-odd : {m : Topology} → ClosedEven m → odds m ≡ 0
 closed-none-odd {m} C = none-odd m (λ t l. rw (C .all t l) (C .even))
 
 -- The step on its way, and the next triangle, which it refines by a split.
-module _ (m : Mesh) (S : Sound m) (C : ClosedEven (m .topology)) (R : RoomFor (m .topology .triangles) m) where
+module _ (m : Mesh) (S : Sound m) (C : ClosedEven (m .topology))
+    (R : RoomFor (m .topology .triangles) (2 * m .topology .triangles) m) where
   room : Room (m .topology .triangles) (m .topology)
   room = sound-room (m .topology .triangles) (S .tables) R
 
@@ -58,7 +59,7 @@ module _ (m : Mesh) (S : Sound m) (C : ClosedEven (m .topology)) (R : RoomFor (m
       (boundary-none (m .topology) (C .closed))
 
 module _ (m : Mesh) (S : Sound m) (C : ClosedEven (m .topology)) (young : C .common ≢ 20)
-    (R : RoomFor (m .topology .triangles) m) where
+    (R : RoomFor (m .topology .triangles) (2 * m .topology .triangles) m) where
   g : ℕ
   g = C .common
 

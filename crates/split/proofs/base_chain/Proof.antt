@@ -3,12 +3,14 @@ use borrow.Author.Needs.{needs}
 use Prim.Native.Nat.{ℕ, suc, _+_, _-_, _%_, _≤_}
 use native.Mathlib.Omega.{arith}
 use mathlib.Core.List.{List}
-use mathlib.Core.Path.{_≡_, sym, _∙_}
+use mathlib.Core.Logic.{⊎-elim}
+use mathlib.Core.Path.{_≡_, sym, _∙_, ap}
 use lib.ListN.{length, getD}
 use Rattle.rules.specs.Tables.{Topology}
 use Rattle.tables.specs.declared.Counts.{Counts}
 use Rattle.tables.specs.Lent.{topologyNow}
-use Rattle.split.proofs.base_chain.Proof.Walk.{Walking, walk-begins, walk-ends, walk-more, walk-even, walk-boundary, walk-on}
+use Rattle.split.proofs.base_chain.Proof.Walk.{Walking, walk-begins, walk-ends, walk-more, walk-even}
+use Rattle.split.proofs.base_chain.Proof.Walk.{walk-boundary, walk-on, Walked, walk-tells}
 use Rattle.split.proofs.base_chain.Statement.{statement}
 use Rattle.split.proofs.base_chain.Tie as tie
 mod Walk
@@ -80,19 +82,36 @@ loop-again c = (
   search needs,
 )
 
+-- Past the loop: by its test, or by one of its two breaks.
+walked : (c : tie.Left-loop Inv-loop μ-loop) (n : Counts) (corners : List ℕ) →
+    let args = c .before .before .before .before .before .args in
+    Walked (topologyNow n corners (args .links .now) (args .generations .now)) (args .t) (c .loop-test .odd)
+    (c .before .loop .end) (c .loop-test .slots)
+walked c n corners =
+    ⊎-elim (λ w.
+    let none : c .before .loop .steps ≡ 0 = omega (arith, w .0 .left) in
+    rw (w .1, w .2) (walk-ends (rw none at (c .before .loop .inv .0 n corners))))
+    (⊎-elim (λ w.
+    let at : tie.After-generation-at2 Inv-loop μ-loop =
+    record { before = record { before = c .before; loop-test = w .0 }; generation-at2 = w .1 } in
+    rw (w .3, w .4)
+    (walk-even _ (walking at n corners) (rw (← at .generation-at2 .ensures) (w .2 .taken))))
+    (λ w.
+    let at : tie.After-generation-at2 Inv-loop μ-loop =
+    record { before = record { before = c .before; loop-test = w .0 }; generation-at2 = w .1 } in
+    let odd-here = is-odd (record { before = at; if1 = w .2 }) in
+    rw (w .5, w .6)
+    (walk-boundary _ (walking at n corners) odd-here (omega arith) (sym (w .3 .ensures) ∙ w .4 .taken))))
+    (c .loop-test .came)
+
+generation-at-requires-3 : tie.Need-generation-at-requires-3 Inv-loop μ-loop
+generation-at-requires-3 c κs = search needs
+
+cast-rim : tie.Need-cast-rim Inv-loop μ-loop
+cast-rim c = search needs
+
 returns : tie.Need-returns Inv-loop μ-loop
-returns c n corners =
-    let none : c .before .loop .steps ≡ 0 = omega (arith, c .loop-test .left) in
-    walk-ends (rw none at (c .before .loop .inv .0 n corners))
-
-returns-2 : tie.Need-returns-2 Inv-loop μ-loop
-returns-2 c n corners =
-    walk-even _ (walking (c .before) n corners) (rw (← c .before .generation-at2 .ensures) (c .if1 .taken))
-
-returns-3 : tie.Need-returns-3 Inv-loop μ-loop
-returns-3 c n corners =
-    walk-boundary _ (walking (c .before .before .before) n corners) (is-odd (c .before .before)) (omega arith)
-    (sym (c .before .base-link .ensures) ∙ c .if2 .taken)
+returns c n corners = walk-tells _ (walked (c .before) n corners) (ap (λ g. g % 2) (c .generation-at3 .ensures))
 
 pub base-chain-spec : {M : Type 1} → statement M
 base-chain-spec =
@@ -111,6 +130,6 @@ base-chain-spec =
     sub-steps
     loop-less
     loop-again
-    returns
-    returns-2
-    returns-3)
+    generation-at-requires-3
+    cast-rim
+    returns)

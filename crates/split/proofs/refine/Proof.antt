@@ -47,19 +47,19 @@ module _ (c : tie.In-loop Inv-loop μ-loop) where
   at-end = loop-head .loop .inv .1 more
 
 -- With the split made.
-module _ (c : tie.After-face-split Inv-loop μ-loop) where
+module _ (c : tie.After-split-at Inv-loop μ-loop) where
   abbrev at : tie.In-loop Inv-loop μ-loop
   at = c .before .before .before .before .before
 
   abbrev next : rules.Work
   next =
-      let last = c .face-split .last in
-      workNow (c .face-split .result) (last .0) (last .1 .0) (last .1 .1 .0) (last .1 .1 .1 .0)
+      let last = c .split-at .last in
+      workNow (c .split-at .result) (last .0) (last .1 .0) (last .1 .1 .0) (last .1 .1 .1 .0)
 
   turned : Refining (start at .args .t) (first at) (start at .args .chain .slots) (loop-head at .loop .left - 1) next
   turned =
       turn-on (start at .pre .0) (loop-head at .loop .inv .0) (more at) (at-end at) next
-      (c .face-split .ensures)
+      (c .split-at .ensures)
 
 splits-requires : tie.Need-splits-requires Inv-loop μ-loop
 splits-requires c κs = search needs
@@ -68,13 +68,13 @@ loop-holds : tie.Need-loop-holds Inv-loop μ-loop
 loop-holds c =
     let start = c .before .before .before .before .before in
     let chain = start .pre .1 in (
-      rw (c .splits .ensures, chain .odd)
+      rw (c .splits .ensures, chain .odd, chain .rim)
           (refining-begins (start .pre .0) (λ i b. chain .slots i (omega (arith, chain .odd)))),
       λ _. chain .end,
     )
 
-face-split-requires : tie.Need-face-split-requires Inv-loop μ-loop
-face-split-requires c κs =
+split-at-requires : tie.Need-split-at-requires Inv-loop μ-loop
+split-at-requires c κs =
     let at = c .before .before .before .before in
     turn-may-split (start at .pre .0) (loop-head at .loop .inv .0) (more at) (at-end at)
 
@@ -90,7 +90,7 @@ across-last-requires c κs =
       at-if1 .if1 .taken,
       omega (arith, few-splits R, loop-head at-loop .loop .inv .0 .splits),
       turn-within R (loop-head at-loop .loop .inv .0) (more at-loop) (at-end at-loop) _
-          (at-split .face-split .ensures) (at-if1 .if1 .taken),
+          (at-split .split-at .ensures) (at-if1 .if1 .taken),
     )
 
 loop-less : tie.Need-loop-less Inv-loop μ-loop
@@ -104,7 +104,7 @@ loop-again c =
       turned at-split,
       λ j.
           turn-end (start at-loop .pre .0) (loop-head at-loop .loop .inv .0) (more at-loop)
-          (at-end at-loop) _ (at-split .face-split .ensures) j _ (c .across-last .ensures),
+          (at-end at-loop) _ (at-split .split-at .ensures) j _ (c .across-last .ensures),
     )
 
 loop-less-2 : tie.Need-loop-less-2 Inv-loop μ-loop
@@ -141,7 +141,7 @@ refine-spec =
     μ-loop
     splits-requires
     loop-holds
-    face-split-requires
+    split-at-requires
     sub-left
     across-last-requires
     loop-less

@@ -3,7 +3,9 @@ use borrow.Author.Needs.{needs}
 use borrow.Author.Tests.{eq-eqb, ne-eqb, not-true, not-false}
 use native.Mathlib.Omega.{arith}
 use mathlib.Core.Bool.{true, false, not}
-use mathlib.Core.Path.{_≡_, refl, sym, _∙_}
+use mathlib.Core.Path.{_≡_, refl, sym, _∙_, ap}
+use Prim.Native.Nat.{_*_}
+use native.Mathlib.Nat.{add-zero}
 use lib.Dec.{eqb}
 use Rattle.rules.proofs.Steps.StepRefusals.{longRing, step-by-tests}
 use Rattle.rules.specs.Calls.{closedEven, roomFor}
@@ -55,10 +57,11 @@ module _ (c : tie.After-has-room) where
 
   room-told :
       let m = mesh (start (inner at-sums)) in
-      c .has-room .result ≡ roomFor (m .topology .triangles) m
+      c .has-room .result ≡ roomFor (m .topology .triangles) (2 * m .topology .triangles) m
   room-told =
       let m = mesh (start (inner at-sums)) in
-      c .has-room .ensures (m .topology .corners) (m .topology .links)
+      let f = m .topology .triangles in
+      c .has-room .ensures (m .topology .corners) (m .topology .links) ∙ ap (λ v. roomFor v (2 * f) m) (add-zero f)
 
 closed-even-requires : tie.Need-closed-even-requires
 closed-even-requires c κs =

@@ -43,8 +43,8 @@ loop-holds : tie.Need-loop-holds Inv-loop μ-loop
 unfolding refineFirst
 loop-holds c = (omega arith, refl)
 
-face-split-requires : tie.Need-face-split-requires Inv-loop μ-loop
-face-split-requires c κs =
+split-at-requires : tie.Need-split-at-requires Inv-loop μ-loop
+split-at-requires c κs =
     let head = c .before .before .before .before .before in
     next-may-split (head .before .before .before .before .pre) (head .loop .inv .1)
     (c .before .before .before .before .loop-test .taken)
@@ -57,11 +57,11 @@ loop-less c = search needs
 
 loop-again : tie.Need-loop-again Inv-loop μ-loop
 loop-again c =
-    let at-face-split = c .before .before .before .before .before .before .before in
-    let turn = at-face-split .before .before .before .before .before in
+    let at-split-at = c .before .before .before .before .before .before .before in
+    let turn = at-split-at .before .before .before .before .before in
     let head = turn .before in (
       omega arith,
-      at-face-split .face-split .ensures
+      at-split-at .split-at .ensures
           ∙ step-on (head .before .before .before .before .pre) (head .loop .inv .1) (head .loop .inv .0)
           (turn .loop-test .taken),
     )
@@ -99,7 +99,7 @@ split-all-spec =
     Inv-loop
     μ-loop
     loop-holds
-    face-split-requires
+    split-at-requires
     add-t
     loop-less
     loop-again

@@ -11,19 +11,23 @@ use Rattle.tables.specs.Lent.{meshNow}
 use Rattle.tables.proofs.has_room.Statement.{statement}
 use Rattle.tables.proofs.has_room.Tie as tie
 
-module _ (s : ℕ) (m : Mesh) (v : m .topology .vertices + s ≤ vertexSlots m) where
-  room-by-triangles : leb (m .topology .triangles + 2 * s) (triangleSlots m) ≡ roomFor s m
-  room-by-triangles = let e : leb (m .topology .vertices + s) (vertexSlots m) ≡ true = le-leb _ _ v in rw e refl
+module _ (v f : ℕ) (m : Mesh) where
+  room-by-triangles : m .topology .vertices + v ≤ vertexSlots m
+      → leb (m .topology .triangles + f) (triangleSlots m) ≡ roomFor v f m
+  room-by-triangles i = let e : leb (m .topology .vertices + v) (vertexSlots m) ≡ true = le-leb _ _ i in rw e refl
 
-no-room : (s : ℕ) (m : Mesh) → vertexSlots m < m .topology .vertices + s
-    → leb (m .topology .vertices + s) (vertexSlots m) ≡ roomFor s m
-no-room s m v = let e : leb (m .topology .vertices + s) (vertexSlots m) ≡ false = lt-leb _ _ v in rw e refl
+  no-room : vertexSlots m < m .topology .vertices + v
+      → leb (m .topology .vertices + v) (vertexSlots m) ≡ roomFor v f m
+  no-room i = let e : leb (m .topology .vertices + v) (vertexSlots m) ≡ false = lt-leb _ _ i in rw e refl
 
 cast-vertices : tie.Need-cast-vertices
 cast-vertices c = search needs
 
 add-vertices : tie.Need-add-vertices
 add-vertices c = search needs
+
+add-vertices-2 : tie.Need-add-vertices-2
+add-vertices-2 c = search needs
 
 cast-triangles : tie.Need-cast-triangles
 cast-triangles c = search needs
@@ -37,14 +41,14 @@ add-triangles c = search needs
 returns : tie.Need-returns
 returns c corners links =
     let args = c .before .before .before .args in
-    room-by-triangles (args .splits)
+    room-by-triangles (args .splits + args .rim) (2 * args .splits)
     (meshNow (args .counts) (args .positions .now) corners links (args .generations .now)) (c .if1 .taken)
 
 returns-2 : tie.Need-returns-2
 returns-2 c corners links =
     let args = c .before .before .before .args in
-    no-room (args .splits) (meshNow (args .counts) (args .positions .now) corners links (args .generations .now))
-    (c .if1 .left)
+    no-room (args .splits + args .rim) (2 * args .splits)
+    (meshNow (args .counts) (args .positions .now) corners links (args .generations .now)) (c .if1 .left)
 
 pub has-room-spec : {M : Type 1} → statement M
 has-room-spec =
@@ -52,6 +56,7 @@ has-room-spec =
     (tie.spec
     cast-vertices
     add-vertices
+    add-vertices-2
     cast-triangles
     mul-triangles
     add-triangles

@@ -13,7 +13,6 @@ use Rattle.rules.proofs.Numbers.Decide.{odd-test, even-test}
 use Rattle.rules.proofs.Chains.Remembered.{chainAt}
 use Rattle.rules.specs.Split.{chainEndWithin, chainOddWithin, chainEnd, chainOdd}
 use Rattle.rules.specs.Tables.{Topology, link, boundary, generation}
-use Rattle.split.specs.declared.Chain.{Chain}
 use Rattle.split.specs.Made.{BaseChain}
 
 -- On the base chain of t, with some odd triangles counted and their slots put down, and at most left steps ahead from
@@ -24,9 +23,21 @@ pub record Walking (m : Topology) (t odd end left : ℕ) (slots : List ℕ) : Ty
   pub here : end ≡ chainAt odd m t
   pub before : (i : ℕ) → i < odd → getD slots i 0 ≡ chainAt i m t
 
--- A base chain from its parts.
-abbrev chain : ℕ → ℕ → List ℕ → Chain
-chain odd end slots = record { odd = odd; end = end; slots = slots }
+-- The chain walked to its end.
+pub record Walked (m : Topology) (t odd end : ℕ) (slots : List ℕ) : Type 0 where
+  pub odds : odd ≡ chainOdd m t
+  pub ends : end ≡ chainEnd m t
+  pub before : (i : ℕ) → i < odd → getD slots i 0 ≡ chainAt i m t
+
+-- How it ends is told by the generation of its last triangle.
+pub walk-tells : {m : Topology} {t odd end : ℕ} {slots : List ℕ} (rim : ℕ) → Walked m t odd end slots
+    → rim ≡ generation m end % 2 → BaseChain m t (record { odd = odd; end = end; rim = rim; slots = slots })
+walk-tells {m} rim w e = record {
+  odd = w .odds;
+  end = w .ends;
+  rim = e ∙ ap (λ (v : ℕ). generation m v % 2) (w .ends);
+  slots = w .before;
+}
 
 module _ {m : Topology} {t : ℕ} where
   pub walk-begins : (slots : List ℕ) → Walking m t 0 t (generation m t) slots
@@ -36,10 +47,10 @@ module _ {m : Topology} {t : ℕ} where
   module _ {odd end : ℕ} where
     -- No odd triangle is ahead, and the chain ends here.
     stops : {slots : List ℕ} (left : ℕ) → Walking m t odd end left slots → chainOddWithin left m end ≡ 0
-        → chainEndWithin left m end ≡ end → BaseChain m t (chain odd end slots)
-    stops left w o e = record { odd = omega (arith, w .odds); end = sym e ∙ w .ends; slots = w .before }
+        → chainEndWithin left m end ≡ end → Walked m t odd end slots
+    stops left w o e = record { odds = omega (arith, w .odds); ends = sym e ∙ w .ends; before = w .before }
 
-    pub walk-ends : {slots : List ℕ} → Walking m t odd end 0 slots → BaseChain m t (chain odd end slots)
+    pub walk-ends : {slots : List ℕ} → Walking m t odd end 0 slots → Walked m t odd end slots
     unfolding chainOddWithin chainEndWithin
     walk-ends w = stops 0 w refl refl
 
@@ -50,7 +61,7 @@ module _ {m : Topology} {t : ℕ} where
         let e : left ≡ suc (left - 1) = omega arith in subst (λ (k : ℕ). Walking m t odd end k slots) e w
 
     module _ {slots : List ℕ} (k : ℕ) (w : Walking m t odd end (suc k) slots) where
-      pub walk-even : generation m end % 2 ≡ 0 → BaseChain m t (chain odd end slots)
+      pub walk-even : generation m end % 2 ≡ 0 → Walked m t odd end slots
       unfolding chainOddWithin chainEndWithin
       walk-even e = stops (suc k) w (rw (even-test _ e, chainOddWithin)) (rw (even-test _ e, chainEndWithin))
 
@@ -63,12 +74,12 @@ module _ {m : Topology} {t : ℕ} where
             go (yes e) = rw (e, getD-set-same slots odd end 0 room) (w .here)
             go (no n) = rw (getD-set-other slots odd i end 0 n) (w .before i (omega arith))
 
-        pub walk-boundary : link m (3 * end) ≡ boundary → BaseChain m t (chain (odd + 1) end (set slots odd end))
+        pub walk-boundary : link m (3 * end) ≡ boundary → Walked m t (odd + 1) end (set slots odd end)
         unfolding chainOddWithin chainEndWithin
         walk-boundary e =
             let one : chainOddWithin (suc k) m end ≡ 1 = rw (odd-test _ o, eq-eqb _ _ e, chainOddWithin) in
             let same : chainEndWithin (suc k) m end ≡ end = rw (odd-test _ o, eq-eqb _ _ e, chainEndWithin) in
-            record { odd = omega (arith, w .odds); end = sym same ∙ w .ends; slots = put-slot }
+            record { odds = omega (arith, w .odds); ends = sym same ∙ w .ends; before = put-slot }
 
         pub walk-on : link m (3 * end) ≢ boundary
             → Walking m t (odd + 1) (link m (3 * end) / 3) k (set slots odd end)

@@ -6,7 +6,7 @@ use mathlib.Core.Path.{_≡_, sym, ap, _∙_, subst}
 use lib.ListN.{length, getD}
 use Rattle.rules.proofs.Calls.Carried.{RefineFound}
 use Rattle.rules.proofs.Chains.RefineLoop.{Across, Refining, few-splits, refining-next, refining-on, refining-across}
-use Rattle.rules.specs.Split.{Work, faceSplit, chainEnd}
+use Rattle.rules.specs.Split.{Work, splitAt, chainEnd}
 use Rattle.rules.specs.Tables.{Mesh, link}
 use Rattle.split.specs.Made.{MaySplit}
 
@@ -29,9 +29,9 @@ module _ {t left end : ℕ} {m : Mesh} {slots : List ℕ} {w : Work} (R : Refine
         flips = omega (arith, few-splits R, N .splits, N .flips);
       })
 
-  module _ (a : Work) (ea : a ≡ faceSplit end w) where
-    split-is : a ≡ faceSplit (chainEnd (w .mesh .topology) t) w
-    split-is = ea ∙ ap (λ (v : ℕ). faceSplit v w) e
+  module _ (a : Work) (ea : a ≡ splitAt end w) where
+    split-is : a ≡ splitAt (chainEnd (w .mesh .topology) t) w
+    split-is = ea ∙ ap (λ (v : ℕ). splitAt v w) e
 
     pub turn-on : Refining t m slots (left - 1) a
     turn-on = rw split-is (refining-on R turn)

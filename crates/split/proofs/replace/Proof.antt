@@ -1,33 +1,13 @@
--- `split::split` meets its contract.
+-- `split::replace` meets its contract.
 use borrow.Author.Needs.{needs}
 use native.Mathlib.Omega.{arith}
-use mathlib.Core.Path.{ap}
-use Rattle.split.proofs.Steps.{split-steps}
-use Rattle.split.proofs.split.Statement.{statement}
-use Rattle.split.proofs.split.Tie as tie
+use Rattle.tables.specs.Lent.{topologyNow}
+use Rattle.split.proofs.Steps.{replace-steps}
+use Rattle.split.proofs.replace.Statement.{statement}
+use Rattle.split.proofs.replace.Tie as tie
 
 add-e : tie.Need-add-e
 add-e c = search needs
-
-mul-to-f : tie.Need-mul-to-f
-mul-to-f c = search needs
-
-mul-to-e : tie.Need-mul-to-e
-mul-to-e c = search needs
-
-add-relink : tie.Need-add-relink
-add-relink c = search needs
-
-add-relink-2 : tie.Need-add-relink-2
-add-relink-2 c = search needs
-
-triangle-at-requires : tie.Need-triangle-at-requires
-triangle-at-requires c κs = search needs
-
-children-requires : tie.Need-children-requires
-children-requires c κs =
-    let at-start = c .before .before .before .before .before .before .before in
-    omega (arith, at-start .pre, ap (λ x. x .generation) (c .triangle-at .ensures (at-start .args .n)))
 
 array-copy-out-at-t : tie.Need-array-copy-out-at-t
 array-copy-out-at-t c = search needs
@@ -54,14 +34,7 @@ store-requires : tie.Need-store-requires
 store-requires c κs = search needs
 
 store-requires-2 : tie.Need-store-requires-2
-store-requires-2 c κs =
-    let at-store = c .before .before .before .before .before .before .before .before .before in
-    let at-relink2 = at-store .before .before .before .before .before .before in
-    let at-relink = at-relink2 .before .before .before .before .before in
-    let at-start =
-    at-relink .before .before .before .before .before .before .before .before .before .before .before .before .before
-    .before in
-    omega (arith, at-start .pre, at-relink .relink .kept, at-relink2 .relink2 .kept, at-store .store .kept)
+store-requires-2 c κs = search needs
 
 store-requires-3 : tie.Need-store-requires-3
 store-requires-3 c κs =
@@ -69,9 +42,7 @@ store-requires-3 c κs =
     let at-store = at-store2 .before .before .before .before .before .before .before .before .before .before in
     let at-relink2 = at-store .before .before .before .before .before .before in
     let at-relink = at-relink2 .before .before .before .before .before in
-    let at-start =
-    at-relink .before .before .before .before .before .before .before .before .before .before .before .before .before
-    .before in
+    let at-start = at-relink .before .before .before .before .before .before .before .before .before in
     omega (
       arith,
       at-start .pre,
@@ -91,30 +62,24 @@ same-length-3 : tie.Need-same-length-3
 same-length-3 c = search needs
 
 returns : tie.Need-returns
-returns c =
+returns c n =
     let at-store3 = c .before .before .before .before .before .before in
     let at-store2 = at-store3 .before .before .before .before .before .before .before .before .before .before in
     let at-store = at-store2 .before .before .before .before .before .before .before .before .before .before in
     let at-relink2 = at-store .before .before .before .before .before .before in
     let at-relink = at-relink2 .before .before .before .before .before in
-    let at-children = at-relink .before .before .before .before .before .before in
-    let at-triangle-at = at-children .before in
-    let n = at-triangle-at .before .before .before .before .before .before .before .args .n in
-    split-steps _ _ _ _ _ _ _ _ _ _ (at-triangle-at .triangle-at .ensures n) (at-children .children .ensures)
-    (at-relink .relink .ensures n _ _) (at-relink2 .relink2 .ensures n _ _)
+    let args = at-relink .before .before .before .before .before .before .before .before .before .args in
+    let m = topologyNow n (args .corners .now) (args .links .now) (args .generations .now) in
+    replace-steps (args .t) (args .f) (args .to-1) (args .to-2) m _ _ _ _ _ (args .t6) (args .t7)
+    (at-relink .relink .ensures n (args .corners .now) (args .generations .now))
+    (at-relink2 .relink2 .ensures n (args .corners .now) (args .generations .now))
     (at-store .store .ensures n) (at-store2 .store2 .ensures n) (at-store3 .store3 .ensures n)
 
-pub split-spec : {M : Type 1} → statement M
-split-spec =
+pub replace-spec : {M : Type 1} → statement M
+replace-spec =
     tie.close
     (tie.spec
     add-e
-    mul-to-f
-    mul-to-e
-    add-relink
-    add-relink-2
-    triangle-at-requires
-    children-requires
     array-copy-out-at-t
     array-copy-out-at-f
     array-copy-out-at-e

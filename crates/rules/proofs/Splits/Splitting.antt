@@ -1,0 +1,255 @@
+-- The face split and the rim split, with their flips.
+use mathlib.Core.Path.{_≡_, refl, sym, _∙_, subst}
+use mathlib.Core.Logic.{inl, inr}
+use mathlib.Core.Bool.{Bool, true, false}
+use mathlib.Core.List.{List, [], _∷_}
+use Prim.Native.Nat.{ℕ, suc, _+_, _*_, _/_, _%_, _≤_, _<_}
+use native.Mathlib.Omega.{arith}
+use lib.ListN.{length, getD}
+use lib.IntN.{pos}
+use Rattle.rules.proofs.Splits.Bases.{Settles, reached, settle-settles, settling-manifold}
+use Rattle.rules.proofs.Splits.Cut.{Cut, CutResult, cut-settled}
+use Rattle.rules.proofs.Splits.Edges.{split-boundary, rim-boundary}
+use Rattle.rules.proofs.Links.Manifold.{Manifold}
+use Rattle.rules.proofs.Splits.Odds.{split-odds, rim-odds, settling-odds}
+use Rattle.rules.proofs.Splits.Parts.{Parts, Parted, faceParts, parted-is, split-is, rimParts, rim-is}
+use Rattle.rules.proofs.Splits.PartsCut.{child, cut-of}
+use Rattle.rules.proofs.Splits.Places.{Places, places-stay, places-on, places-new}
+use Rattle.rules.proofs.Numbers.Rounding.{third-in-range}
+use Rattle.rules.proofs.Splits.Settled.{Settled, done, then, Children, Distinct, children-on}
+use Rattle.rules.proofs.Splits.RimKeeps.{rim-manifold}
+use Rattle.rules.proofs.Splits.SplitKeeps.{split-manifold}
+use Rattle.rules.specs.Numbers.{InRange}
+use Rattle.rules.specs.Promises.{odds}
+use Rattle.rules.specs.Split.{Work, split, flip, withSplit, withFlip, centre, splitPlaced, settle, settleAll}
+use Rattle.rules.specs.Split.{faceSplit, thirdOf, firstThird, secondThird, rimCut, rimPlaced, rimSplit}
+use Rattle.rules.specs.Tables.{Topology, Mesh, meshOf, withTopology, origin, boundary, link, generation, isBase}
+use Rattle.rules.specs.Tables.{coordinate, putThree, withCounts}
+
+-- Room for 2k triangles more.
+pub record Room (k : ℕ) (m : Topology) : Type 0 where
+  pub corners : 3 * (m .triangles + 2 * k) ≤ length (m .corners)
+  pub links : 3 * (m .triangles + 2 * k) ≤ length (m .links)
+  pub generations : m .triangles + 2 * k ≤ length (m .generations)
+
+pub room-fewer : (s k : ℕ) (m : Topology) → Room s m → k ≤ s → Room k m
+room-fewer s k m R i = omega arith
+
+-- ---- the face split
+
+module _ (v : ℕ) (m n : Topology) (F : Manifold m) (b : v < m .triangles) (even : generation m v % 2 ≡ 0)
+    (S : Parted v (faceParts v m) m n) (N : Manifold n) where
+  face-cut : Cut v (suc (generation m v)) (v ∷ m .triangles ∷ (m .triangles + 1) ∷ []) 1 0 m n
+  face-cut =
+      let f : ℕ = m .triangles in
+      let e : ℕ = f + 1 in
+      let p : Parts = faceParts v m in
+      let o : suc (generation m v) % 2 ≡ 1 = omega arith in
+      let w = S .triangles in
+      cut-of v p m n F b S N (suc (generation m v)) 1 0 (f ∷ e ∷ []) (omega arith) (record {
+        odd = o;
+        high = omega arith;
+        children = (
+          child v p m n F b S N (3 * v) (omega arith) (S .own .generation) o (omega (arith, S .own .corners .2))
+              (omega arith) (omega arith) (S .own .links .0),
+          (
+            child v p m n F b S N (3 * v + 1) (omega arith) (S .second .generation) o
+                (omega (arith, S .second .corners .2)) (omega arith) (omega arith) (S .second .links .0),
+            (
+              child v p m n F b S N (3 * v + 2) (omega arith) (S .third .generation) o
+                  (omega (arith, S .third .corners .2)) (omega arith) (omega arith) (S .third .links .0),
+              tt,
+            ),
+          ),
+        );
+        distinct = ((omega arith, (omega arith, tt)), ((omega arith, tt), (tt, tt)));
+        later = (omega arith, (omega arith, tt));
+        second = inl (S .second .generation, inr (inl refl));
+        third = inl (S .third .generation, inr (inr (inl refl)));
+        onto₁ = inr (inl refl);
+        onto₂ = inr (inr (inl refl));
+        boundaryCount = split-boundary v m n F b S;
+      })
+
+-- ---- the rim split
+
+module _ (v : ℕ) (m n : Topology) (F : Manifold m) (b : v < m .triangles) (odd : generation m v % 2 ≡ 1)
+    (edge : link m (3 * v) ≡ boundary) (S : Parted v (rimParts v m) m n) (N : Manifold n) where
+  rim-cut : Cut v (generation m v + 2) (v ∷ (m .triangles + 1) ∷ []) 2 2 m n
+  rim-cut =
+      let f : ℕ = m .triangles in
+      let e : ℕ = f + 1 in
+      let p : Parts = rimParts v m in
+      let o : (generation m v + 2) % 2 ≡ 1 = omega arith in
+      let w = S .triangles in
+      cut-of v p m n F b S N (generation m v + 2) 2 2 (e ∷ []) refl (record {
+        odd = o;
+        high = omega arith;
+        children = (
+          child v p m n F b S N (3 * v + 2) (omega arith) (S .own .generation) o (omega (arith, S .own .corners .2))
+              (omega arith) (omega arith) (S .own .links .0),
+          (
+            child v p m n F b S N (3 * v + 1) (omega arith) (S .third .generation) o
+                (omega (arith, S .third .corners .2)) (omega arith) (omega arith) (S .third .links .0),
+            tt,
+          ),
+        );
+        distinct = ((omega arith, tt), (tt, tt));
+        later = (omega arith, tt);
+        second = inr (omega (arith, S .second .generation));
+        third = inl (S .third .generation, inr (inl refl));
+        onto₁ = inr (inl refl);
+        onto₂ = inl refl;
+        boundaryCount = rim-boundary v m n F b edge S;
+      })
+
+-- ---- with the flips
+
+-- Settling children one after the other, with what is counted.
+pub data SettlesAll : List ℕ → Work → Work → Type 0 where
+  all-done : {w : Work} → SettlesAll [] w w
+  next-child : {c : ℕ} {cs : List ℕ} {w v x : Work} → Settles c w v → SettlesAll cs v x → SettlesAll (c ∷ cs) w x
+
+settles-all : (p g : ℕ) (cs : List ℕ) (w : Work) → Manifold (reached w) → Children p g (reached w) cs → Distinct cs
+    → SettlesAll cs w (settleAll cs w)
+settles-all p g [] w F K D = all-done
+settles-all p g (c ∷ cs) w F K D =
+    let S = settle-settles p g c w F (K .0) in
+    let m : Topology = reached w in
+    let n : Topology = reached (settle c w) in
+    next-child S (settles-all p g cs (settle c w) (settling-manifold c m n F (S .settling))
+    (children-on p g c m n cs (S .settling) (K .0) (K .1) (D .0)) (D .1))
+
+settled-of : {cs : List ℕ} {w x : Work} → SettlesAll cs w x → Settled cs (reached w) (reached x)
+settled-of all-done = done
+settled-of (next-child S s) = then (S .settling) (settled-of s)
+
+-- Settling counts no split, and each flip takes two odd triangles away.
+record Counted (w x : Work) : Type 0 where
+  splits : x .splits ≡ w .splits
+  odd : 2 * x .flips + odds (reached x) ≡ 2 * w .flips + odds (reached w)
+
+counted-on : {c : ℕ} {w v x : Work} → Settles c w v → Counted v x → Counted w x
+counted-on S C = record {
+  splits = C .splits ∙ S .splits;
+  odd = omega (arith, C .odd, S .flips, settling-odds (S .settling));
+}
+
+counted : {cs : List ℕ} {w x : Work} → SettlesAll cs w x → Counted w x
+counted all-done = record { splits = refl; odd = refl }
+counted (next-child S s) = counted-on S (counted s)
+
+-- ---- the new vertex
+
+settle-positions : (s : ℕ) (w : Work) → settle s w .mesh .positions ≡ w .mesh .positions
+unfolding settle
+settle-positions s w = go (isBase m (link m (3 * s)))
+  where
+    m : Topology
+    m = reached w
+
+    go : (b : Bool)
+        → (elim b as (λ _. Work) [
+          | true ↦ withFlip (withTopology (flip s (link m (3 * s) / 3) m) (w .mesh)) w
+          | false ↦ w
+        ]) .mesh .positions ≡ w .mesh .positions
+    go true = refl
+    go false = refl
+
+settled-positions : (cs : List ℕ) (w : Work) → settleAll cs w .mesh .positions ≡ w .mesh .positions
+settled-positions [] w = refl
+settled-positions (c ∷ cs) w = settled-positions cs (settle c w) ∙ settle-positions c w
+
+-- A face split places its vertex at the centre, and no other.
+pub face-positions : (t : ℕ) (w : Work)
+    → faceSplit t w .mesh .positions
+    ≡ putThree (reached w .vertices) (centre (w .mesh) t 0, centre (w .mesh) t 1, centre (w .mesh) t 2)
+    (w .mesh .positions)
+unfolding faceSplit splitPlaced
+face-positions t w = simp settle-positions
+
+-- ---- any split, with what is counted and placed
+
+-- The split of v into children of generation g, with p vertices and r boundary sides more. The face split has r = 0 and
+-- makes three odd triangles, the rim split r = 2 and makes one.
+pub record Splitting (v g p r : ℕ) (w x : Work) : Type 0 where
+  pub result : CutResult v g p r (reached w) (reached x)
+  pub splits : x .splits ≡ suc (w .splits)
+  pub odd : 2 * x .flips + odds (reached x) + r ≡ 2 * w .flips + odds (reached w) + 3
+  pub places : Places (w .mesh) (x .mesh)
+
+-- A cut whose new vertices are placed, counted and settled.
+splitting-of : (v g p r : ℕ) (cs : List ℕ) (w : Work) (k : Mesh) → Manifold (reached w) → v < reached w .triangles
+    → Cut v g cs p r (reached w) (k .topology) → odds (k .topology) + r ≡ odds (reached w) + 3 → Places (w .mesh) k
+    → Splitting v g p r w (settleAll cs (withSplit k w))
+splitting-of v g p r cs w k F b C o P =
+    let A = settles-all (reached w .vertices) g cs (withSplit k w) (C .manifold) (C .children) (C .distinct) in
+    let K = counted A in
+    let x : Work = settleAll cs (withSplit k w) in
+    let result = cut-settled v g cs p r (reached w) (k .topology) (reached x) F b C (settled-of A) in
+    record {
+      result = result;
+      splits = K .splits;
+      odd = omega (arith, K .odd);
+      places = places-on P (places-stay k (x .mesh) (settled-positions cs (withSplit k w))
+          (result .vertices ∙ sym (C .vertices)));
+    }
+
+-- A third of corners of a triangle in use is in range where the vertices are.
+third-fits : (h i j : ℕ) (m : Mesh) (t : ℕ) → Manifold (m .topology) → t < m .topology .triangles → h < 3 → i < 3
+    → j < 3
+    → ((i : ℕ) → i < 3 * m .topology .vertices → InRange (getD (m .positions) i (pos 0)))
+    → InRange (thirdOf h i j m t 0) × InRange (thirdOf h i j m t 1) × InRange (thirdOf h i j m t 2)
+third-fits h i j m t F b x y z a = (all 0 (omega arith), all 1 (omega arith), all 2 (omega arith))
+  where
+    at : (i k : ℕ) → i < 3 → k < 3 → InRange (coordinate m (origin (m .topology) (3 * t + i)) k)
+    at i k l q =
+        a (3 * origin (m .topology) (3 * t + i) + k) (omega (arith, F .corner (3 * t + i) (omega arith)))
+
+    all : (k : ℕ) → k < 3 → InRange (thirdOf h i j m t k)
+    all k q = third-in-range (at h k x q) (at i k y q) (at j k z q)
+
+module _ (v : ℕ) (w : Work) (F : Manifold (reached w)) (b : v < reached w .triangles) (R : Room 1 (reached w)) where
+  pub face-splitting : generation (reached w) v % 2 ≡ 0
+      → Splitting v (suc (generation (reached w) v)) 1 0 w (faceSplit v w)
+  unfolding faceSplit splitPlaced centre
+  face-splitting even =
+      let rc = R .corners in
+      let rl = R .links in
+      let rg = R .generations in
+      let m : Topology = reached w in
+      let S : Parted v (faceParts v m) m (split v m) =
+      rw (split-is v m) (parted-is v (faceParts v m) m F b (omega arith) (omega arith) (omega arith)) in
+      let N : Manifold (split v m) =
+      split-manifold v m (split v m) F b even S (omega arith) (omega arith) (omega arith) in
+      splitting-of v _ 1 0 _ w (splitPlaced v (w .mesh)) F b (face-cut v m (split v m) F b even S N)
+      (split-odds v m (split v m) b even S)
+      (places-new (w .mesh) (splitPlaced v (w .mesh)) _ (S .vertices) refl
+      (third-fits 0 1 2 (w .mesh) v F b (omega arith) (omega arith) (omega arith)))
+
+  pub rim-splitting : generation (reached w) v % 2 ≡ 1 → link (reached w) (3 * v) ≡ boundary
+      → Splitting v (generation (reached w) v + 2) 2 2 w (rimSplit v w)
+  unfolding rimSplit rimPlaced firstThird secondThird
+  rim-splitting odd edge =
+      let rc = R .corners in
+      let rl = R .links in
+      let rg = R .generations in
+      let m : Topology = reached w in
+      let S : Parted v (rimParts v m) m (rimCut v m) =
+      rw (rim-is v m) (parted-is v (rimParts v m) m F b (omega arith) (omega arith) (omega arith)) in
+      let N : Manifold (rimCut v m) =
+      rim-manifold v m (rimCut v m) F b odd edge S (omega arith) (omega arith) (omega arith) in
+      -- With the first of the two vertices placed.
+      let k : Mesh =
+      meshOf (withCounts (m .vertices + 1) (m .triangles) m)
+      (putThree (m .vertices) (firstThird (w .mesh) v 0, firstThird (w .mesh) v 1, firstThird (w .mesh) v 2)
+      (w .mesh .positions)) in
+      let one : Places (w .mesh) k =
+      places-new (w .mesh) k _ (omega arith) refl
+      (third-fits 0 0 1 (w .mesh) v F b (omega arith) (omega arith) (omega arith)) in
+      let two : Places k (rimPlaced v (w .mesh)) =
+      places-new k (rimPlaced v (w .mesh)) _ (omega (arith, S .vertices)) refl
+      (λ a. third-fits 0 1 1 (w .mesh) v F b (omega arith) (omega arith) (omega arith)
+      (λ i l. subst InRange (one .old i l) (a i (omega arith)))) in
+      splitting-of v _ 2 2 _ w (rimPlaced v (w .mesh)) F b (rim-cut v m (rimCut v m) F b odd edge S N)
+      (rim-odds v m (rimCut v m) b odd S) (places-on one two)

@@ -1,0 +1,97 @@
+-- `split::face_cut` meets its contract.
+use borrow.Author.Needs.{needs}
+use native.Mathlib.Omega.{arith}
+use mathlib.Core.Path.{ap}
+use Rattle.split.specs.Made.{countsOf}
+use Rattle.split.proofs.Bounds.{face-hands}
+use Rattle.split.proofs.Steps.{face-cut-steps}
+use Rattle.split.proofs.face_cut.Statement.{statement}
+use Rattle.split.proofs.face_cut.Tie as tie
+
+add-to-e : tie.Need-add-to-e
+add-to-e c = search needs
+
+add-t16 : tie.Need-add-t16
+add-t16 c = search needs
+
+add-t17 : tie.Need-add-t17
+add-t17 c = search needs
+
+mul-to-f : tie.Need-mul-to-f
+mul-to-f c = search needs
+
+add-to-e-2 : tie.Need-add-to-e-2
+add-to-e-2 c = search needs
+
+mul-to-e : tie.Need-mul-to-e
+mul-to-e c = search needs
+
+third-of-requires : tie.Need-third-of-requires
+third-of-requires c κs = search needs
+
+store-point-requires : tie.Need-store-point-requires
+store-point-requires c κs = search needs
+
+triangle-at-requires : tie.Need-triangle-at-requires
+triangle-at-requires c κs = search needs
+
+children-requires : tie.Need-children-requires
+children-requires c κs =
+    let at-start = c .before .before .before .before .before .before .before .before .before .before .before .before
+    .before .before in
+    let n = countsOf (at-start .args .work) in
+    omega (arith, at-start .pre, ap (λ x. x .generation) (c .triangle-at .ensures n))
+
+replace-requires : tie.Need-replace-requires
+replace-requires c κs =
+    let at-store-point = c .before .before .before .before .before .before .before .before .before in
+    let at-start = at-store-point .before .before .before .before .before .before .before .before .before in
+    omega (arith, at-start .pre, at-store-point .store-point .kept)
+
+same-length : tie.Need-same-length
+same-length c = search needs
+
+same-length-2 : tie.Need-same-length-2
+same-length-2 c = search needs
+
+same-length-3 : tie.Need-same-length-3
+same-length-3 c = search needs
+
+same-length-4 : tie.Need-same-length-4
+same-length-4 c = search needs
+
+returns : tie.Need-returns
+returns c =
+    let at-replace = c .before .before .before .before .before .before in
+    let at-children = at-replace .before .before .before .before in
+    let at-triangle-at = at-children .before in
+    let at-store-point = at-triangle-at .before .before .before .before .before in
+    let at-third-of = at-store-point .before .before in
+    let at-start = at-third-of .before .before .before .before .before .before .before in
+    let args = at-start .args in
+    let n = countsOf (args .work) in
+    face-hands _ _ _ (at-start .pre .0 .young)
+    (face-cut-steps _ _ _ _ _ _ _ (at-third-of .third-of .ensures n (args .links .now) (args .generations .now))
+    (at-store-point .store-point .ensures) (at-triangle-at .triangle-at .ensures n) (at-children .children .ensures)
+    (at-replace .replace .ensures n)) (at-start .pre .1)
+
+pub face-cut-spec : {M : Type 1} → statement M
+face-cut-spec =
+    tie.close
+    (tie.spec
+    add-to-e
+    add-t16
+    add-t17
+    mul-to-f
+    add-to-e-2
+    mul-to-e
+    third-of-requires
+    store-point-requires
+    triangle-at-requires
+    children-requires
+    replace-requires
+    same-length
+    same-length-2
+    same-length-3
+    same-length-4
+    returns)
