@@ -105,10 +105,10 @@ rawplinth_worked rawplinth_load(
     const uint8_t *cage, size_t cage_length);
 
 /* Refines one triangle: an even one by a face split, an odd one by splits along its base chain until it is flipped.
-   A chain that ends at the boundary is split there first: the odd triangle on the boundary becomes three, and its
-   boundary side is cut in three at two new vertices, which flips the odd triangle before it in the chain. So a chain of
-   m odd triangles takes m splits, or m-1 at the boundary, one at least. Each takes one vertex and two triangles, the one
-   at the boundary two vertices.
+   A chain that ends at the boundary is split there first: the odd triangle on the boundary becomes three, its boundary
+   side is cut in three at two new vertices, and the odd triangle before it in the chain is flipped. So a chain of m odd
+   triangles takes m splits, or m-1 at the boundary, one at least. Each takes one vertex and two triangles, the one at
+   the boundary two vertices.
    Refuses with 1, 7, 8, 9, 11, in this order. Writes slots in use and those that it takes. Needs 1 MB of stack, as do
    the calls below. */
 rawplinth_worked rawplinth_refine(

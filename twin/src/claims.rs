@@ -68,8 +68,8 @@ pub fn violated(store: &Store, euler_number: i64) -> Option<String> {
     (found != euler_number).then(|| format!("V - E + F is {found}, for the cage it is {euler_number}"))
 }
 
-/// A boundary side that no history gives which begins with a load. There it is a side of an even generation that is a
-/// multiple of 4, the base of one more or a non-base side of three more; so no base of generation 19 is at the boundary.
+/// A boundary side that no history from a load on gives. There it is a side of a generation that is a multiple of 4, the
+/// base of one more or a non-base side of three more; so no base of generation 19 is at the boundary.
 pub fn unreached_boundary(store: &Store) -> Option<String> {
     let sides = 0..3 * store.counts.triangles as usize;
     let mut at_boundary = sides.filter(|&side| store.tables.links[side] == BOUNDARY);

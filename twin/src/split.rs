@@ -180,9 +180,9 @@ impl Mesh {
         BaseChain { odd, even_end: Some(at) }
     }
 
-    /// Refines a triangle. Even: one face split. Odd: splits from the chain's end on, until the triangle is flipped. The
-    /// face split of an even end flips the last odd triangle; the rim split at the boundary takes the last odd one, and
-    /// flips the one before it. Each of the others is flipped by the face split of what lies across its base by then.
+    /// Refines a triangle. Even: one face split. Odd: splits from the chain's end on, until the triangle is flipped.
+    /// The face split of an even end flips the last odd triangle; the rim split at the boundary takes the last odd one,
+    /// and flips the one before it. Each of the others is flipped by the face split of what is then across its base.
     pub fn refine(&mut self, t: usize) -> Work {
         let chain = self.base_chain(t);
         let length = chain.odd.len();
