@@ -13,15 +13,14 @@ use Rattle.rules.proofs.Calls.CallRefusals.{load-judged, position-refusal-first
 use Rattle.rules.proofs.Numbers.Decide.{Decides, stable}
 use Rattle.rules.proofs.Calls.FirstThatHolds.{refuses, carries, Judged, carried, refused, none-hold}
 use Rattle.rules.proofs.Soundness.SoundTest.{tables-agree-is, sound-is}
-use Rattle.rules.specs.Below.{any}
 use Rattle.rules.specs.Calls.{Test, _if_, firstOf, Outcome, answerOf, noRoom, ringRoom, outcomeOf, zeroPoint}
-use Rattle.rules.specs.Calls.{refusedWith, splitsOf, roomFor, worked, loadCall, refineRefusal, refineCall, closedEven}
+use Rattle.rules.specs.Calls.{refusedWith, roomFor, worked, loadCall, refineRefusal, refineCall, closedEven, longRing}
 use Rattle.rules.specs.Calls.{wholeStepRefusal, limitRefusal, ringRefusal, ringRead, ringCall, positionRefusal}
 use Rattle.rules.specs.Calls.{positionRead, positionCall, verticesOf, trianglesOf, tooOld}
 use Rattle.rules.specs.Ring.{ring}
 use Rattle.rules.specs.Sound.{Sound, isSound}
-use Rattle.rules.specs.Split.{chainEnd, atFirst, refine}
-use Rattle.rules.specs.Tables.{Mesh, TablesAgree, tablesAgree, generation, odd, Topology, boundary, link}
+use Rattle.rules.specs.Split.{atFirst, refine}
+use Rattle.rules.specs.Tables.{Mesh, TablesAgree, tablesAgree, generation, Topology, boundary, link}
 use Rattle.mesh.specs.Answers.{standing}
 
 -- Where one of the first two tests refuses, the later ones do not matter; where none does, they decide.
@@ -175,7 +174,7 @@ step-standing m r =
     two-kept (not (tablesAgree m)) (not (isSound m)) (
     12 if not (closedEven (m .topology))
     ∷ 9 if eqb (generation (m .topology) 0) 20
-    ∷ 13 if any (m .topology .vertices) (λ v. ltb 12 (length (ring (m .topology) v)))
+    ∷ 13 if longRing (m .topology)
     ∷ 11 if not (roomFor (m .topology .triangles) (2 * m .topology .triangles) m)
     ∷ []
     ) r
@@ -185,7 +184,7 @@ unfolding limitRefusal
 limit-standing table m r =
     two-kept (not (tablesAgree m)) (not (isSound m)) (
     12 if not (closedEven (m .topology))
-    ∷ 13 if any (m .topology .vertices) (λ v. ltb 12 (length (ring (m .topology) v)))
+    ∷ 13 if longRing (m .topology)
     ∷ 15 if not (eqb (length table) (3 * m .topology .vertices))
     ∷ []
     ) r
@@ -248,7 +247,9 @@ module _ (v : ℕ) (m : Mesh) where
 
 -- A load's outcome is its refusal and its mesh; the rest is zero.
 pub load-whole : (bytes : List ℕ) (m : Mesh)
-    → (let n = loadCall bytes m .mesh in outcomeOf (answerOf (loadCall bytes m .answer .refusal) 0 0 0 zeroPoint n) n noRoom)
+    →
+    (let n = loadCall bytes m .mesh in
+    outcomeOf (answerOf (loadCall bytes m .answer .refusal) 0 0 0 zeroPoint n) n noRoom)
     ≡ loadCall bytes m
 load-whole bytes m = go (load-judged bytes m)
   where

@@ -27,7 +27,7 @@ impl Point {
         Self { x, y, z }
     }
 
-    // The nearest third of the sum on each axis: where a face split puts its vertex.
+    // The nearest third of the sum on each axis: where a split puts a new vertex.
     pub fn thirds(a: Point, b: Point, c: Point) -> Self
         ensures { λ r. ⌜ r ≡ thirds a b c ⌝ }
     {

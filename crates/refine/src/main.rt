@@ -19,7 +19,7 @@ fn put(n: u32, after: &[u8]) {
     io::write_all(STDOUT_FILENO, after);
 }
 
-// Prints refusal, face splits, flips, vertices and triangles.
+// Prints refusal, splits, flips, vertices and triangles.
 fn print(answer: Worked) {
     put(answer.refusal, b" ");
     put(answer.splits, b" ");

@@ -145,7 +145,8 @@ module _ (m : Topology) (s n h : ℕ) (room : n < m .triangles) (at : AtSide m s
           let f = ring-turn [] last [] (last-inside m h (rw before at o)) in
           omega (arith, f .size)
 
-      ends-with : link m p ≡ boundary → (n + 1 + 1 ≡ length (ringFrom m s)) × (getD (ringFrom m s) (n + 1) 0 ≡ origin m p)
+      ends-with : link m p ≡ boundary
+          → (n + 1 + 1 ≡ length (ringFrom m s)) × (getD (ringFrom m s) (n + 1) 0 ≡ origin m p)
       ends-with b =
           let o = origin m (previous h) in
           let f = ring-turn [] last (o ∷ []) (last-at-boundary m h (rw before at b)) in

@@ -6,7 +6,8 @@ use lib.ListN.{replicate}
 use Rattle.rules.specs.Below.{all, any, lowest, total, fill}
 use Rattle.rules.specs.Cage.{cageOf, partner, loaded, sizesFit, cornersFit, coordinatesFit, sidesDiffer, fansFit}
 use Rattle.rules.specs.Calls.{Outcome, closedEven, loadRefusal, refineRefusal, wholeStepRefusal, ringRefusal}
-use Rattle.rules.specs.Calls.{positionRefusal, limitRefusal, loadCall, refineCall, wholeStepCall, ringCall, positionCall, limitCall}
+use Rattle.rules.specs.Calls.{positionRefusal, limitRefusal, loadCall, refineCall, wholeStepCall, ringCall}
+use Rattle.rules.specs.Calls.{positionCall, limitCall}
 use Rattle.rules.specs.History.{Change, changes, after, outcomes, lastLoad, edges, cageEdges}
 use Rattle.rules.specs.Numbers.{numberAt, signed, floorDiv, nearestThird, halfUp, weights, weight, moved, limit}
 use Rattle.rules.specs.Ring.{firstSide, fanFrom, fan, neighbours, ring}

@@ -1,4 +1,5 @@
--- The twelve facts of the tetrahedron run, computed from the rules. (The tetrahedron run)
+-- Runs computed from the rules: the twelve facts of the tetrahedron run, the nine triangles of Figure 8, and base
+-- chains that end at the boundary. (The tetrahedron run; request b)
 use Prim.Native.Nat.{ℕ, zero, suc, _+_, _-_, _*_}
 use mathlib.Core.List.{List, [], _∷_, _++_, map}
 use mathlib.Core.Path.{_≡_, refl}
@@ -11,7 +12,7 @@ use lib.ListN.{replicate}
 
 -- ---- what the facts speak of
 
--- A printed line of the program: refusal, face splits, flips, V, F.
+-- A printed line of the program: refusal, splits, flips, V, F.
 abbrev pub lineOf : Outcome → List ℕ
 lineOf o = o .answer .refusal ∷ o .answer .splits ∷ o .answer .flips ∷ o .answer .vertices ∷ o .answer .triangles ∷ []
 
@@ -125,8 +126,8 @@ nine-triangles = record { lines = refl; triangles = refl; first = refl; second =
 
 -- ---- base chains of 1 to 10 odd triangles that end at the boundary (request b)
 
--- n triangles from slot j on, round vertex 0: the base of each is side 1 of the one before, the first base is on the
--- boundary, and so are the other sides.
+-- n triangles from slot j on, round vertex 0: the base of each is linked to side 1 of the one before, the first base
+-- is on the boundary, and so are the other sides.
 unfoldable pub chainCorners : ℕ → ℕ → List ℕ
 chainCorners zero j = []
 chainCorners (suc n) j = (j + 1) ∷ 0 ∷ (j + 2) ∷ chainCorners n (j + 1)

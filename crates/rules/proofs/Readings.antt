@@ -131,8 +131,8 @@ pub record Table : Type 0 where
   pub halves : halfUp (pos 5) 2 ∷ halfUp (negsuc 4) 2 ∷ [] ≡ pos 3 ∷ negsuc 1 ∷ []
 
 pub readings : Table
-unfolding computing fresh tetrahedron triangle store sideOne octahedron pulled longChain hinge withFirst signedBytes foil
-    atEighteen
+unfolding computing fresh tetrahedron triangle store sideOne octahedron pulled longChain hinge withFirst signedBytes
+    foil atEighteen
 readings = record {
   throughSideOne = refl;
   throughSideOne₉ = refl;

@@ -6,7 +6,6 @@ use lib.IntN.{pos}
 use lib.ListN.{replicate, take}
 use Rattle.rules.proofs.Computing.{computing, made, fresh, bytes, tetrahedron}
 use Rattle.rules.specs.History.{Change, loads, refines, steps, ringOf, limitsOf, Call, changes, asks, outcome}
-use Rattle.rules.specs.History.{after}
 use Rattle.rules.specs.Tables.{Mesh, topologyOf, meshOf, boundary}
 
 -- The refusal of the last call, on a mesh, after the others.

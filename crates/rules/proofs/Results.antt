@@ -1,9 +1,8 @@
 -- What is proved of the rules: the theorems that users rely on, readable with the specs alone.
 use mathlib.Core.Path.{_≡_}
 use mathlib.Core.Logic.{_≢_, _↔_}
-use mathlib.Core.List.{List, []}
+use mathlib.Core.List.{List}
 use Prim.Native.Nat.{ℕ, _-_, _*_, _%_, _≤_, _<_}
-use lib.ListN.{length, getD}
 use lib.Dec.{T}
 use lib.IntN.{ℤ, pos, natAbs, _-ℤ_, _*ℤ_}
 use Rattle.rules.proofs.Calls.CallRefusals.{load-refusal, refine-refusal, whole-step-refusal, ring-refusal}
@@ -12,13 +11,13 @@ use Rattle.rules.proofs.Calls.CallRefusals.{no-ten, taken-at-boundary}
 use Rattle.rules.proofs.Calls.Histories.{every-history, history-sound}
 use Rattle.rules.proofs.Loads.Load.{links-are}
 use Rattle.rules.proofs.Calls.Outcomes.{load-makes, refine-makes, chain-falls, refine-is-split}
-use Rattle.rules.proofs.Calls.Outcomes.{whole-step-makes, limit-makes, ring-reads, position-reads, half-up-nearest}
+use Rattle.rules.proofs.Calls.Outcomes.{whole-step-makes, limit-makes, ring-reads, position-reads}
+use Rattle.rules.proofs.Calls.Outcomes.{half-up-nearest}
 use Rattle.rules.proofs.Calls.Outcomes.{half-up-alone}
 use Rattle.rules.proofs.Chains.Refine.{chain-counts, chain-takes}
 use Rattle.rules.proofs.Rings.RingTheory.{ring-makes}
 use Rattle.rules.proofs.Numbers.Rounding.{nearest-third, nearest-third-only}
 use Rattle.rules.proofs.Soundness.SoundTest.{sound-is}
-use Rattle.rules.specs.Below.{fill}
 use Rattle.rules.specs.Cage.{Cage, cageOf, loaded}
 use Rattle.rules.specs.Calls.{refusedWith, worked, loadCall, refineCall, wholeStepCall, ringRead, ringCall}
 use Rattle.rules.specs.Calls.{positionRead, positionCall, limitRead, limitCall, splitsOf}
@@ -28,14 +27,13 @@ use Rattle.rules.specs.Conditions.{refineConditions, wholeStepConditions
 use Rattle.rules.specs.Conditions.{positionConditions, Takes}
 use Rattle.rules.specs.History.{Call, outcome, lent, after, lastLoad, nothing, cage, EveryHistory}
 use Rattle.rules.specs.Numbers.{nearestThird, halfUp}
-use Rattle.rules.specs.Promises.{Nearest, Matches, Loaded, ChainFalls, RefineMakes, StepMakes, LimitMakes, RingMakes}
+use Rattle.rules.specs.Promises.{Nearest, Matches, Loaded, ChainFalls, RefineMakes, StepMakes, LimitMakes}
+use Rattle.rules.specs.Promises.{RingMakes}
 use Rattle.rules.specs.Promises.{kobbelt}
-use Rattle.rules.specs.Ring.{ring}
 use Rattle.rules.specs.Sound.{Sound, isSound}
 use Rattle.rules.specs.Split.{atFirst, chainOdd, refine}
 use Rattle.rules.specs.Step.{wholeStep, limitPositions}
 use Rattle.rules.specs.Tables.{Mesh, TablesAgree, vertexSlots, triangleSlots, boundary, link, generation}
-use Rattle.rules.specs.Tables.{coordinate}
 
 -- ---- soundness (The cage and the lent tables)
 
@@ -83,6 +81,10 @@ ring-returns = ring-refusal
 -- So does a position query.
 pub position-returns : (v : ℕ) (m : Mesh) → First (positionConditions v m) (positionCall v m .answer .refusal)
 position-returns = position-refusal
+
+-- So does a limit query.
+pub limit-returns : (table : List ℤ) (m : Mesh) → First (limitConditions table m) (limitCall table m .answer .refusal)
+limit-returns = limit-refusal
 
 -- No call returns 10, on any content of the tables: a base chain that ends at the boundary is split there. (Request b)
 pub never-ten : (c : Call) (m : Mesh) → outcome c m .answer .refusal ≢ 10
@@ -132,12 +134,14 @@ pub boundary-taken : (t k : ℕ) (m : Mesh) → Sound m → t < m .topology .tri
     × (2 ≤ k → (verticesOf (m .topology) t ≡ k) × (trianglesOf (m .topology) t ≡ 2 * (k - 1)))
 boundary-taken = taken-at-boundary
 
--- From an odd triangle of a sound mesh the base chain goes on two generations below, or ends one below.
+-- From an odd triangle of a sound mesh, whose base is not on the boundary, the base chain goes on two generations
+-- below, or ends one below.
 pub chain-steps : (m : Mesh) → Sound m → (t : ℕ) → t < m .topology .triangles → generation (m .topology) t % 2 ≡ 1
     → link (m .topology) (3 * t) ≢ boundary → ChainFalls (m .topology) t
 chain-steps = chain-falls
 
--- Refine is the recursive procedure of Kobbelt's section 4, with the outline's face split, at any depth that suffices.
+-- Refine is the recursive procedure of Kobbelt's section 4, with the outline's face split and, at the boundary, the
+-- rim split of request b, at any depth that suffices.
 pub refine-recursive : (t n : ℕ) (m : Mesh) → refineCall t m .answer .refusal ≡ 0 → generation (m .topology) t < n
     → refine t (atFirst m) ≡ kobbelt n t (atFirst m)
 refine-recursive = refine-is-split
@@ -152,13 +156,9 @@ whole-step-carried = whole-step-makes
 
 -- ---- limit positions (Request a)
 
--- A limit query returns the number of the first condition, in its order, that holds, and 0 where none does.
-pub limit-returns : (table : List ℤ) (m : Mesh) → First (limitConditions table m) (limitCall table m .answer .refusal)
-limit-returns = limit-refusal
-
--- One that is carried out fills the table, and the mesh stands. Each entry is the nearest whole number to its fraction,
--- half going up, and in range; and the fraction is the limit: a whole step without rounding leaves it, and brings the
--- vertex nearer to its ring.
+-- A limit query that is carried out fills the table, and the mesh stands. Each entry is the nearest whole number to its
+-- fraction, half going up, and in range; and the fraction is the limit: moved without rounding, with the centres of its
+-- triangles for ring, a vertex has the same, and is nearer to its ring's mean.
 pub limit-carried : (table : List ℤ) (m : Mesh) → limitCall table m .answer .refusal ≡ 0
     → (limitCall table m ≡ limitRead table m) × LimitMakes m (limitPositions m table)
 limit-carried = limit-makes

@@ -120,6 +120,10 @@ closedEven m =
     && all (m .triangles) (λ t. eqb (generation m t) (generation m 0))
     && not (odd (generation m 0))
 
+-- Some ring has more than 12 entries. (Refused inputs, 13)
+abbrev pub longRing : Topology → Bool
+longRing m = any (m .vertices) (λ v. ltb 12 (length (ring m v)))
+
 -- The number that a load is refused with; below, those of the other calls. (Refused inputs, below the table)
 unfoldable pub loadRefusal : List ℕ → Mesh → ℕ
 loadRefusal bytes m =
@@ -154,7 +158,7 @@ wholeStepRefusal m =
     ∷ 7 if not (isSound m)
     ∷ 12 if not (closedEven tri)
     ∷ 9 if eqb (generation tri 0) 20
-    ∷ 13 if any (tri .vertices) (λ v. ltb 12 (length (ring tri v)))
+    ∷ 13 if longRing tri
     ∷ 11 if not (roomFor (tri .triangles) (2 * tri .triangles) m)
     ∷ []
     )
@@ -166,7 +170,7 @@ limitRefusal table m =
     1 if not (tablesAgree m)
     ∷ 7 if not (isSound m)
     ∷ 12 if not (closedEven tri)
-    ∷ 13 if any (tri .vertices) (λ v. ltb 12 (length (ring tri v)))
+    ∷ 13 if longRing tri
     ∷ 15 if not (eqb (length table) (3 * tri .vertices))
     ∷ []
     )

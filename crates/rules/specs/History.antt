@@ -116,8 +116,9 @@ pub record Near (g h : ℕ) : Type 0 where
   pub down : g ≤ h + 2
   pub even : (g % 2 ≡ 0) ⊎ (h % 2 ≡ 0) → (h ≤ g + 1) × (g ≤ h + 1)
 
--- What a refine of t that is carried out on m makes and reports: for an odd t one split for each odd triangle of its
--- base chain; where this ends at the boundary, rim and face splits together, one less, and one at least.
+-- What a refine of t that is carried out on m makes and reports: one split for an even t; for an odd t one for each odd
+-- triangle of its base chain, or, where this ends at the boundary, rim and face splits together, one less and one at
+-- least; never above (g + 1) / 2. F grows by twice as many.
 pub record ReportsSplits (m : Mesh) (t : ℕ) (o : Outcome) : Type 0 where
   pub odd : generation (m .topology) t % 2 ≡ 1 → ¬ EndsAtBoundary (m .topology) t
       → OddInChain (m .topology) t (o .answer .splits)

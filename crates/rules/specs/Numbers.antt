@@ -56,7 +56,7 @@ weight n = getD weights n 0
 unfoldable pub moved : ℕ → ℤ → ℤ → ℤ
 moved n p s = halfUp (pos n *ℤ (pos 65536 -ℤ pos (weight n)) *ℤ p +ℤ pos (weight n) *ℤ s) (65536 * n)
 
--- Where ever more whole steps take a vertex, in one coordinate: it is at p and has n ring entries that add up to s.
--- Kobbelt's (8), with (7) at infinity. (Request a)
+-- Where ever more whole steps without rounding would take a vertex, in one coordinate: it is at p and has n ring
+-- entries that add up to s. Kobbelt's (7) at infinity, the limit point of his (8). (Request a)
 unfoldable pub limit : ℕ → ℤ → ℤ → ℤ
 limit n p s = halfUp (pos (65536 * n) *ℤ p +ℤ pos (3 * weight n) *ℤ s) (n * (65536 + 3 * weight n))

@@ -177,17 +177,17 @@ abbrev pub limitNumerator : ℕ → ℤ → ℤ → ℤ
 limitNumerator n p s = pos (65536 * n) *ℤ p +ℤ pos (3 * weight n) *ℤ s
 
 -- In one coordinate q is the limit of a vertex at p, with n ring entries that add up to s, and with the sum c of the
--- corners of its triangles. Without rounding a whole step moves the vertex to p′ = moveNumerator / (65536 n), and then
--- its ring, the centres of its triangles, adds up to c / 3.
+-- corners of its triangles, whose centres add up to c / 3. They are its ring after a whole step, which without rounding
+-- moves it to p′ = moveNumerator / (65536 n); that its ring is then these centres is not proved here.
 pub record IsLimit (n : ℕ) (p s c q : ℤ) : Type 0 where
   pub nearest : Nearest (limitNumerator n p s) (n * (65536 + 3 * weight n)) q
   pub range : InRange q
   -- The triangles have the vertex once and each ring entry twice for a corner.
   pub corners : c ≡ pos n *ℤ p +ℤ pos 2 *ℤ s
-  -- The step leaves the fraction: 65536 n p′ + 3 w c / 3, over the same, is limitNumerator.
+  -- At p′, with these centres for ring, the fraction is the same: 65536 n p′ + 3 w c / 3 is limitNumerator.
   pub stays : moveNumerator n p s +ℤ pos (weight n) *ℤ c ≡ limitNumerator n p s
-  -- It brings the vertex nearer to its ring's mean: p′ - c / (3 n) is 2/3 - w/65536 times p - s / n (here both times
-  -- 196608 n), and this factor is below 0.42 either way. So ever more steps lead to the fraction.
+  -- And p′ is nearer to their mean than p to s / n: p′ - c / (3 n) is 2/3 - w/65536 times p - s / n (here both times
+  -- 196608 n), and this factor is below 0.42 either way. So ever more such steps lead to the fraction, a mean of both.
   pub nearer : pos 3 *ℤ moveNumerator n p s -ℤ pos 65536 *ℤ c
       ≡ (pos 131072 -ℤ pos (3 * weight n)) *ℤ (pos n *ℤ p -ℤ s)
   pub factor : 100 * natAbs (pos 131072 -ℤ pos (3 * weight n)) < 42 * 196608

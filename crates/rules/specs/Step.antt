@@ -1,4 +1,4 @@
--- The whole smoothing step, and where ever more of them lead. (Whole step; request a)
+-- The whole smoothing step, and where ever more of them would lead without rounding. (Whole step; request a)
 use Prim.Native.Nat.{ℕ, zero, suc, _*_, _/_, _%_}
 use mathlib.Core.List.{List, [], _∷_}
 use lib.IntN.{ℤ, pos, _+ℤ_}

@@ -3,7 +3,7 @@ use tables::BOUNDARY;
 ghost use mathlib.Core.Path.{_≡_};
 ghost use mathlib.Core.List.{List};
 ghost use Prim.Native.Nat.{ℕ, _+_, _*_, _≤_, _<_};
-ghost use lib.ListN.{length, getD};
+ghost use lib.ListN.{getD};
 ghost use Rattle.rules.specs.Tables.{topologyOf};
 ghost use Rattle.soundness.specs.Walks.{CornersInUse, Zeroed, Kept, AllKept, StartsInUse};
 ghost use Rattle.soundness.specs.Walks.{walksMeetAll, TellsStart, TellsFans};

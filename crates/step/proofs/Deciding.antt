@@ -7,8 +7,7 @@ use mathlib.Core.Path.{_≡_, refl}
 use lib.IntN.{ℤ}
 use Rattle.rules.proofs.Calls.CallRefusals.{closed-even-is, long-ring-is}
 use Rattle.rules.proofs.Numbers.Decide.{is-true, is-false, is-same, when-true}
-use Rattle.rules.proofs.Steps.StepRefusals.{longRing}
-use Rattle.rules.specs.Calls.{closedEven}
+use Rattle.rules.specs.Calls.{closedEven, longRing}
 use Rattle.rules.specs.Sound.{Sound}
 use Rattle.rules.specs.Tables.{Mesh}
 use Rattle.rings.specs.Sums.{Closed, RingsAdded}
@@ -19,7 +18,7 @@ closed-of {m} S e =
 
 -- The answer of the ring sums tells whether a ring is too long.
 pub rings-tell : {m : Mesh} {lengths : List ℕ} {sums : List ℤ} (r : Bool) → RingsAdded m lengths sums r
-    → not r ≡ longRing m
+    → not r ≡ longRing (m .topology)
 rings-tell {m} true A =
     let S = A .whole refl in
     is-same (is-false (λ (v, b, l). omega (arith, S .long v b, S .few v b))) (long-ring-is (m .topology))

@@ -2,7 +2,7 @@
 use tables::Counts;
 ghost use mathlib.Core.List.{List};
 ghost use mathlib.Core.Path.{_≡_};
-ghost use Prim.Native.Nat.{ℕ, _*_, _≤_};
+ghost use Prim.Native.Nat.{_*_, _≤_};
 ghost use lib.IntN.{ℤ};
 ghost use lib.ListN.{length};
 ghost use Rattle.rules.specs.Calls.{limitRefusal, limitCall};
@@ -49,7 +49,8 @@ fn refusal(
 fn write_all(positions: &[i32], vertices: u32, lengths: &[u8], sums: &[i32], table: &mut [i32])
     requires { ⌜ ((m : Mesh) × Movable vertices m (now positions) (now lengths) (now sums))
         × (3 * vertices ≤ length (now table)) ⌝ }
-    ensures { λ r. ⌜ ((m : Mesh) → Movable vertices m (now (positions .entry)) (now (lengths .entry)) (now (sums .entry))
+    ensures { λ r. ⌜ ((m : Mesh) →
+        Movable vertices m (now (positions .entry)) (now (lengths .entry)) (now (sums .entry))
         → now (table .exit) ≡ limitPositions m (now (table .entry))) ⌝ }
 {
     let mut v: u32 = 0;
@@ -62,7 +63,7 @@ fn write_all(positions: &[i32], vertices: u32, lengths: &[u8], sums: &[i32], tab
     }
 }
 
-// Limit positions, with two arrays lent that are zero at first, for the length of each ring and the sum of its positions.
+// Limit positions, with two arrays lent that are zero at first: for the length and for the sum of each ring.
 fn limits_by(
     positions: &[i32],
     corners: &[u32],
@@ -154,7 +155,7 @@ fn limits_within_2048(
     )
 }
 
-// The same for all.
+// The same for up to 32768 vertices.
 fn limits_within_32768(
     positions: &[i32],
     corners: &[u32],

@@ -11,10 +11,14 @@ load-tables-requires : tie.Need-load-tables-requires
 load-tables-requires c κs = search needs
 
 number-at-requires : tie.Need-number-at-requires
-number-at-requires c κs = omega (arith, c .before .before .before .before .before .before .before .before .load-tables .ensures .sizes (c .if1 .taken))
+number-at-requires c κs =
+    let at = c .before .before .before .before .before .before .before .before in
+    omega (arith, at .load-tables .ensures .sizes (c .if1 .taken))
 
 number-at-requires-2 : tie.Need-number-at-requires-2
-number-at-requires-2 c κs = omega (arith, c .before .before .before .before .before .before .before .before .before .load-tables .ensures .sizes (c .before .if1 .taken))
+number-at-requires-2 c κs =
+    let at = c .before .before .before .before .before .before .before .before .before in
+    omega (arith, at .load-tables .ensures .sizes (c .before .if1 .taken))
 
 same-length : tie.Need-same-length
 same-length c = search needs
@@ -31,7 +35,8 @@ same-length-4 c = search needs
 returns : tie.Need-returns
 returns c =
     let zero = c .before .before .if1 .taken in
-    let left = c .before .before .before .before .before .before .before .before .before .before .load-tables .ensures in
+    let at = c .before .before .before .before .before .before .before .before .before .before in
+    let left = at .load-tables .ensures in
     let made =
     load-carried _ _ (sym zero ∙ left .refusal _ _)
     (lent-sized _ (c .before .number-at .ensures) (c .number-at2 .ensures) ∙ left .carried zero _ _) in

@@ -15,10 +15,14 @@ abbrev start : tie.After-number-at2 → tie.Start
 start c = c .before .before .before .before .before .before .before .before .before .before .before
 
 number-at-requires : tie.Need-number-at-requires
-number-at-requires c κs = omega (arith, c .before .before .before .before .before .before .before .before .before .pre .0 0 0 .1 .size)
+number-at-requires c κs =
+    let start = c .before .before .before .before .before .before .before .before .before in
+    omega (arith, start .pre .0 0 0 .1 .size)
 
 number-at-requires-2 : tie.Need-number-at-requires-2
-number-at-requires-2 c κs = omega (arith, c .before .before .before .before .before .before .before .before .before .before .pre .0 0 0 .1 .size)
+number-at-requires-2 c κs =
+    let start = c .before .before .before .before .before .before .before .before .before .before in
+    omega (arith, start .pre .0 0 0 .1 .size)
 
 refusal-of-requires : tie.Need-refusal-of-requires
 refusal-of-requires c κs =

@@ -15,19 +15,28 @@ use Rattle.cage.proofs.load_tables.Statement.{statement}
 use Rattle.cage.proofs.load_tables.Tie as tie
 
 abbrev tables : tie.Start → ℕ → ℕ → Mesh
-tables c = let args = c .args in lent (args .positions .now) (args .corners .now) (args .links .now) (args .generations .now)
+tables c =
+    let args = c .args in
+    lent (args .positions .now) (args .corners .now) (args .links .now) (args .generations .now)
 
 -- The results of the two tests.
-agree : (c : tie.After-tables-agree) (v f : ℕ) → tablesAgree (tables (c .before .before .before .before .before .before .before .before .before) v f) ≡ c .tables-agree .result
+agree : (c : tie.After-tables-agree) (v f : ℕ)
+    → tablesAgree (tables (c .before .before .before .before .before .before .before .before .before) v f)
+    ≡ c .tables-agree .result
 agree c v f = sym (c .tables-agree .ensures v f)
 
 fit : (c : tie.After-sizes-fit) (v f : ℕ)
-    → let at = c .before .before .before .before .before .before .before .before .before .before .before .before .before in
+    →
+    let at =
+    c .before .before .before .before .before .before .before .before .before .before .before .before .before in
     sizesFit (at .args .cage .now) (tables at v f) ≡ c .sizes-fit .result
 fit c v f = sym (c .sizes-fit .ensures v f _ _)
 
 -- What is known where both are passed.
-known : (c : tie.Else2) → let at = c .before .before .before .before .before .before .before .before .before .before .before .before .before .before in Loadable (at .args .cage .now) (tables at)
+known : (c : tie.Else2) →
+    let at =
+    c .before .before .before .before .before .before .before .before .before .before .before .before .before .before in
+    Loadable (at .args .cage .now) (tables at)
 known c v f =
     let at-else = c .before .before .before .before in (
       when-true (tables-agree-is _) (agree (at-else .before) v f ∙ not-false _ (at-else .if1 .left)),
@@ -85,7 +94,8 @@ returns-2 c =
     }
 
 load-within-256-requires : tie.Need-load-within-256-requires
-load-within-256-requires c κs = (known (c .before .before .before .before .before), c .before .before .before .before .if3 .taken)
+load-within-256-requires c κs =
+    (known (c .before .before .before .before .before), c .before .before .before .before .if3 .taken)
 
 same-length-9 : tie.Need-same-length-9
 same-length-9 c = search needs
@@ -103,7 +113,8 @@ returns-3 : tie.Need-returns-3
 returns-3 c = search needs
 
 load-within-3072-requires : tie.Need-load-within-3072-requires
-load-within-3072-requires c κs = (known (c .before .before .before .before .before .before), c .before .before .before .before .if4 .taken)
+load-within-3072-requires c κs =
+    (known (c .before .before .before .before .before .before), c .before .before .before .before .if4 .taken)
 
 same-length-13 : tie.Need-same-length-13
 same-length-13 c = search needs

@@ -21,7 +21,9 @@ slice-aggregate-load-by-5 c = search needs
 
 load-by-requires : tie.Need-load-by-requires
 load-by-requires c κs =
-    let pre = c .before .before .before .before .before .before .before .before .before .before .before .before .before .pre in
+    let start =
+    c .before .before .before .before .before .before .before .before .before .before .before .before .before in
+    let pre = start .pre in
     let known = pre .0 0 0 in
     (pre .0, room-within 256 (cage-sized (known .0) (known .1)) (pre .1))
 

@@ -30,7 +30,9 @@ slice-aggregate-load-by-5 c = search needs
 
 load-by-requires : tie.Need-load-by-requires
 load-by-requires c κs =
-    let pre = c .before .before .before .before .before .before .before .before .before .before .before .before .before .before .before .before .pre in
+    let arrays = c .before .before .before .before .before .before .before .before .before .before in
+    let start = arrays .before .before .before .before .before .before in
+    let pre = start .pre in
     let known = pre 0 0 in (
       pre,
       greatest-room (cage-sized (known .0) (known .1))

@@ -1,6 +1,5 @@
 -- `mesh::load` meets its contract.
 use borrow.Author.Needs.{needs}
-use mathlib.Core.List.{[]}
 use mathlib.Core.Path.{ap₂, _∙_}
 use Prim.Native.Nat.{ℕ}
 use Rattle.rules.specs.Calls.{answerOf, noRoom, outcomeOf, zeroPoint}
@@ -31,7 +30,8 @@ returns c =
     let args = at .before .before .before .before .before .before .before .before .before .args in
     let m =
     meshNow (args .counts) (args .positions .now) (args .corners .now) (args .links .now) (args .generations .now) in
-    ap₂ (λ (r : ℕ) (n : Mesh). outcomeOf (answerOf r 0 0 0 zeroPoint n) n noRoom) (at .load .ensures .0) (at .load .ensures .1)
+    ap₂ (λ (r : ℕ) (n : Mesh). outcomeOf (answerOf r 0 0 0 zeroPoint n) n noRoom)
+    (at .load .ensures .0) (at .load .ensures .1)
     ∙ load-whole (args .cage .now) m
 
 pub load-spec : {M : Type 1} → statement M

@@ -1,6 +1,5 @@
 -- `mesh::position` meets its contract.
 use borrow.Author.Needs.{needs}
-use mathlib.Core.List.{[]}
 use mathlib.Core.Path.{ap, _∙_}
 use Rattle.points.specs.declared.Point.{Point}
 use Rattle.rules.specs.Calls.{answerOf, noRoom, outcomeOf}

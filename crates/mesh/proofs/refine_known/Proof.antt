@@ -20,7 +20,8 @@ mesh-of c =
 abbrev start-of : tie.Else1 → tie.Start
 start-of c = c .before .before .before .before .before .before
 
-triangle-is : (c : tie.Else1) → c .before .triangle-refusal .result ≡ triangleRefusal (start-of c .args .t) (mesh-of (start-of c))
+triangle-is : (c : tie.Else1)
+    → c .before .triangle-refusal .result ≡ triangleRefusal (start-of c .args .t) (mesh-of (start-of c))
 triangle-is c =
     let args = start-of c .args in
     c .before .triangle-refusal .ensures (args .positions .now) (args .corners .now) (start-of c .pre)
@@ -57,7 +58,8 @@ returns c =
     let start = at .before .before .before .before .before in
     refine-refused (start .args .t) (mesh-of start) _
     (refine-triangle (start .args .t) (mesh-of start) _
-    (at .triangle-refusal .ensures (start .args .positions .now) (start .args .corners .now) (start .pre)) (c .if1 .taken))
+    (at .triangle-refusal .ensures (start .args .positions .now) (start .args .corners .now) (start .pre))
+    (c .if1 .taken))
     (c .if1 .taken)
 
 base-chain-requires : tie.Need-base-chain-requires

@@ -8,7 +8,6 @@ use lib.IntN.{ℤ}
 use Rattle.rules.specs.Tables.{Mesh}
 use Rattle.tables.specs.Lent.{meshNow}
 use Rattle.mesh.proofs.Refusing.{triangle-standing, triangle-eight, triangle-nine, triangle-none}
-use borrow.Author.Needs.{needs}
 use Rattle.mesh.proofs.triangle_refusal.Statement.{statement}
 use Rattle.mesh.proofs.triangle_refusal.Tie as tie
 

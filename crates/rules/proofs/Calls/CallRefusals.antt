@@ -20,7 +20,7 @@ use Rattle.rules.proofs.Soundness.SoundTest.{tables-agree-is, sound-is}
 use Rattle.rules.specs.Below.{any}
 use Rattle.rules.specs.Cage.{Cage, cageOf, loaded}
 use Rattle.rules.specs.Calls.{Room, noRoom, ringRoom, tableRoom, limitRefusal, limitRead, limitCall, Outcome}
-use Rattle.rules.specs.Calls.{refusedWith, worked, roomFor, splitsOf, closedEven, loadRefusal}
+use Rattle.rules.specs.Calls.{refusedWith, worked, roomFor, closedEven, loadRefusal}
 use Rattle.rules.specs.Calls.{refineRefusal, wholeStepRefusal, ringRefusal, positionRefusal, loadCall, refineCall}
 use Rattle.rules.specs.Calls.{wholeStepCall, ringRead, ringCall, positionRead, positionCall, verticesOf}
 use Rattle.rules.specs.Calls.{trianglesOf, tooOld}

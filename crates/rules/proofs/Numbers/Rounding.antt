@@ -2,7 +2,7 @@
 use Prim.Native.Nat.{ℕ, zero, suc, _+_, _-_, _*_, _≤_, _<_, max}
 use native.Mathlib.Omega.{arith}
 use native.Mathlib.Nat.{div-mul-le-self, lt-div-mul-add, lt-of-mul-lt-mul-left, mul-le-mul-left, le-trans}
-use mathlib.Core.Path.{_≡_, _∙_, sym, ap}
+use mathlib.Core.Path.{_≡_, sym, ap}
 use mathlib.Core.List.{List, [], _∷_}
 use lib.Dec.{lit<, lit≤}
 use lib.IntN.{ℤ, pos, negsuc, negℤ, natAbs, _+ℤ_, _-ℤ_, _*ℤ_}
@@ -179,7 +179,9 @@ limit-is n p s =
 module _ {n : ℕ} {p s : ℤ} (h : 1 ≤ n) (r : InRange p) (k : negℤ (pos (n * maxCoordinate)) ≤ℤ s)
     (l : s ≤ℤ pos (n * maxCoordinate)) where
   pub moved-in-range : InRange (moved n p s)
-  moved-in-range = rw (moved-is n p s) (mean-in-range (n * (65536 - weight n)) (weight n) n (omega (arith, parts-of-move n)) r k l)
+  moved-in-range =
+      rw (moved-is n p s)
+      (mean-in-range (n * (65536 - weight n)) (weight n) n (omega (arith, parts-of-move n)) r k l)
 
   pub limit-in-range : InRange (limit n p s)
   limit-in-range = rw (limit-is n p s) (mean-in-range (65536 * n) (3 * weight n) n (omega arith) r k l)

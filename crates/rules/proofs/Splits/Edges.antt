@@ -148,7 +148,7 @@ rename-boundary a a′ b b′ k ne x x′ y y′ =
     (λ e. bit-no (is-eq b′ boundary) y′ ∙ sym (bit-no (is-eq k boundary) (λ q. y (sym e ∙ q))))
     (λ _ _. refl)
 
--- Sides whose links are renamed are on the boundary as before.
+-- Renaming links leaves the boundary sides on the boundary.
 renamed-bit : (a a′ b b′ h : ℕ) (m n : Topology) → a ≢ b → a < boundary → a′ < boundary → b < boundary → b′ < boundary
     → link n h ≡ renameTwo a a′ b b′ (link m h) → boundaryBit m h ≡ boundaryBit n h
 renamed-bit a a′ b b′ h m n ne x x′ y y′ e =

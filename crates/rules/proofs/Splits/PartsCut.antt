@@ -39,7 +39,7 @@ not-later x f (c ∷ cs) l L (inr a) = not-later x f cs l (L .1) a
 
 module _ (v : ℕ) (p : Parts) (m n : Topology) (F : Manifold m) (b : v < m .triangles) (S : Parted v p m n)
     (N : Manifold n) where
-  -- What the base of a child meets has an old centre.
+  -- What the base of a child meets has an old corner 2.
   other : (h k : ℕ) → h < sides m → h / 3 ≡ v → link n k ≡ link m h → Base n (link n k)
       → origin n (3 * (link n k / 3) + 2) < m .vertices
   other h k l i e c =

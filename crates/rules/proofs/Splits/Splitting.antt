@@ -139,7 +139,7 @@ counted : {cs : List ℕ} {w x : Work} → SettlesAll cs w x → Counted w x
 counted all-done = record { splits = refl; odd = refl }
 counted (next-child S s) = counted-on S (counted s)
 
--- ---- the new vertex
+-- ---- the new vertices
 
 settle-positions : (s : ℕ) (w : Work) → settle s w .mesh .positions ≡ w .mesh .positions
 unfolding settle

@@ -4,7 +4,7 @@ use mathlib.Core.Logic.{_≢_, inl, inr}
 use mathlib.Core.List.{List, [], _∷_}
 use Prim.Native.Nat.{ℕ, zero, suc, _+_, _-_, _*_, _/_, _%_, _≤_, _<_}
 use native.Mathlib.Omega.{arith}
-use lib.Dec.{T, ltb, lit<}
+use lib.Dec.{ltb}
 use lib.IntN.{ℤ, pos, natAbs, _+ℤ_, _-ℤ_, _*ℤ_}
 use lib.ListN.{length, getD}
 use Rattle.rules.proofs.Numbers.Decide.{is-all, is-lt, is-le, stable}
@@ -12,16 +12,16 @@ use Rattle.rules.proofs.Numbers.Differences.{above, below, Is, its, nat
 use Rattle.rules.proofs.Numbers.Fill.{length-fill, getD-fill}
 use Rattle.rules.proofs.Numbers.Rounding.{half-up, weight-at-most}
 use Rattle.rules.proofs.Numbers.Sums.{total-same, total-add, total-const, total-first}
-use Rattle.rules.proofs.Links.Sides.{previous-lt, next-lt, next-previous}
+use Rattle.rules.proofs.Links.Sides.{previous-lt, next-lt}
 use Rattle.rules.proofs.Rings.RingSums.{sum-over-is, fan-out, as-fan}
 use Rattle.rules.proofs.Rings.RingTheory.{ring-makes}
 use Rattle.rules.proofs.Rings.RingVertices.{ring-coordinates, ring-some}
 use Rattle.rules.proofs.Steps.StepPositions.{limit-coordinate-in-range}
 use Rattle.rules.specs.Below.{all, total}
 use Rattle.rules.specs.Conditions.{LongRing}
-use Rattle.rules.specs.Numbers.{InRange, weights, weight, limit}
-use Rattle.rules.specs.Promises.{Nearest, RingMakes, OnBoundary, IsLimit, LimitMakes, cornersOver, moveNumerator}
-use Rattle.rules.specs.Promises.{limitNumerator, triangleCount}
+use Rattle.rules.specs.Numbers.{weights, weight, limit}
+use Rattle.rules.specs.Promises.{RingMakes, OnBoundary, IsLimit, LimitMakes, cornersOver, moveNumerator}
+use Rattle.rules.specs.Promises.{limitNumerator}
 use Rattle.rules.specs.Ring.{fan, ring}
 use Rattle.rules.specs.Sound.{Sound}
 use Rattle.rules.specs.Step.{sumOver, limitCoordinate, limitPositions}
@@ -162,8 +162,10 @@ module _ {m : Mesh} (S : Sound m) (closed : (h : ℕ) → h < sides (m .topology
         let ahead : ℕ → ℕ = λ i. part (cornerOf m k (next (at i))) in
         let behind : ℕ → ℕ = λ i. part (cornerOf m k (previous (at i))) in
         let entry : ℕ → ℕ = λ i. part (coordinate m (getD (ring mt v) i 0) k) in
-        let of : (i : ℕ) → i < n → ahead i ≡ entry i = λ i l. ap (λ (x : ℕ). part (coordinate m x k)) (sym (R .entries i l)) in
-        let a = total-same n own (λ i. part (coordinate m v k)) (λ i l. ap (λ (x : ℕ). part (coordinate m x k)) (fan-out S closed v b i l)) in
+        let of : (i : ℕ) → i < n → ahead i ≡ entry i =
+        λ i l. ap (λ (x : ℕ). part (coordinate m x k)) (sym (R .entries i l)) in
+        let a = total-same n own (λ i. part (coordinate m v k))
+        (λ i l. ap (λ (x : ℕ). part (coordinate m x k)) (fan-out S closed v b i l)) in
         let b = total-const n (part (coordinate m v k)) in
         let c = total-same n ahead entry of in
         let d = total-turned n ahead behind (λ i l. ap (λ (x : ℕ). part (coordinate m x k)) (turned i l))
@@ -172,7 +174,8 @@ module _ {m : Mesh} (S : Sound m) (closed : (h : ℕ) → h < sides (m .topology
         let f = total-add n own ahead in
         omega arith
 
-    corners-round : cornersOver m k (fan mt v) ≡ pos (length (ring mt v)) *ℤ coordinate m v k +ℤ pos 2 *ℤ sumOver m k (ring mt v)
+    corners-round : cornersOver m k (fan mt v)
+        ≡ pos (length (ring mt v)) *ℤ coordinate m v k +ℤ pos 2 *ℤ sumOver m k (ring mt v)
     corners-round =
         let f = as-fan S closed v b in
         let a = three-parts above in

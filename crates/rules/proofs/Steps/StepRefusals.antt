@@ -4,23 +4,18 @@ use mathlib.Core.Logic.{_≢_}
 use mathlib.Core.Bool.{Bool, true, not}
 use mathlib.Core.List.{List, [], _∷_}
 use Prim.Native.Nat.{ℕ, _*_}
-use lib.Dec.{eqb, ltb}
+use lib.Dec.{eqb}
 use lib.IntN.{ℤ}
 use lib.ListN.{length}
 use Rattle.rules.proofs.Numbers.Decide.{is-true, is-same}
 use Rattle.rules.proofs.Calls.FirstThatHolds.{refuses, carries}
 use Rattle.rules.proofs.Soundness.SoundTest.{tables-agree-is, sound-is}
-use Rattle.rules.specs.Below.{any}
-use Rattle.rules.specs.Calls.{noRoom, refusedWith, worked, roomFor, closedEven, wholeStepRefusal, wholeStepCall}
+use Rattle.rules.specs.Calls.{noRoom, refusedWith, worked, roomFor, closedEven, longRing, wholeStepRefusal}
+use Rattle.rules.specs.Calls.{wholeStepCall}
 use Rattle.rules.specs.Calls.{_if_, firstOf, tableRoom, limitRefusal, limitRead, limitCall}
-use Rattle.rules.specs.Ring.{ring}
 use Rattle.rules.specs.Sound.{Sound, isSound}
 use Rattle.rules.specs.Step.{wholeStep}
 use Rattle.rules.specs.Tables.{Mesh, tablesAgree, generation}
-
--- Some ring has more than 12 entries.
-abbrev pub longRing : Mesh → Bool
-longRing m = any (m .topology .vertices) (λ v. ltb 12 (length (ring (m .topology) v)))
 
 agrees : {m : Mesh} → Sound m → tablesAgree m ≡ true
 agrees {m} S = is-same (tables-agree-is m) (is-true (S .tables))
@@ -30,7 +25,7 @@ tests-sound {m} S = is-same (sound-is m) (is-true S)
 
 -- The refusal of a sound mesh by the answers of the later tests. A test that was not made stands for itself.
 pub step-by-tests : {m : Mesh} {c g r s : Bool} → Sound m → closedEven (m .topology) ≡ c
-    → eqb (generation (m .topology) 0) 20 ≡ g → longRing m ≡ r
+    → eqb (generation (m .topology) 0) 20 ≡ g → longRing (m .topology) ≡ r
     → roomFor (m .topology .triangles) (2 * m .topology .triangles) m ≡ s
     → firstOf (12 if not c ∷ 9 if g ∷ 13 if r ∷ 11 if not s ∷ []) ≡ wholeStepRefusal m
 unfolding wholeStepRefusal
@@ -48,7 +43,8 @@ step-carried m e = carries m noRoom (worked (wholeStep m)) (wholeStepRefusal m) 
 
 -- ---- limit positions
 
-pub limit-by-tests : (table : List ℤ) {m : Mesh} {c r s : Bool} → Sound m → closedEven (m .topology) ≡ c → longRing m ≡ r
+pub limit-by-tests : (table : List ℤ) {m : Mesh} {c r s : Bool} → Sound m → closedEven (m .topology) ≡ c
+    → longRing (m .topology) ≡ r
     → eqb (length table) (3 * m .topology .vertices) ≡ s
     → firstOf (12 if not c ∷ 13 if r ∷ 15 if not s ∷ []) ≡ limitRefusal table m
 unfolding limitRefusal

@@ -10,7 +10,8 @@ use Rattle.rules.specs.Below.{all}
 use Rattle.rules.specs.Tables.{Mesh, TablesAgree, topologyOf, meshOf, tablesAgree}
 use Rattle.soundness.specs.Parts.{countsFit, triangleFits}
 use Rattle.soundness.proofs.Answers.{refused, passed}
-use Rattle.soundness.proofs.sound_start.Proof.Parts.{TriangleFits, triangles-are, CountsFit, counts-are, coordinateFits}
+use Rattle.soundness.proofs.sound_start.Proof.Parts.{TriangleFits, triangles-are, CountsFit, counts-are}
+use Rattle.soundness.proofs.sound_start.Proof.Parts.{coordinateFits}
 use Rattle.soundness.proofs.sound_start.Proof.Parts.{room, corners-in-use, sides-glued, parts}
 use Rattle.soundness.proofs.sound_start.Statement.{statement}
 use Rattle.soundness.proofs.sound_start.Tie as tie

@@ -7,8 +7,8 @@ use mathlib.Core.Path.{_≡_, refl, sym, _∙_, ap}
 use Prim.Native.Nat.{_*_}
 use native.Mathlib.Nat.{add-zero}
 use lib.Dec.{eqb}
-use Rattle.rules.proofs.Steps.StepRefusals.{longRing, step-by-tests}
-use Rattle.rules.specs.Calls.{closedEven, roomFor}
+use Rattle.rules.proofs.Steps.StepRefusals.{step-by-tests}
+use Rattle.rules.specs.Calls.{closedEven, longRing, roomFor}
 use Rattle.rules.specs.Sound.{Sound}
 use Rattle.rules.specs.Tables.{Mesh, generation}
 use Rattle.tables.specs.Lent.{meshNow}
@@ -48,7 +48,7 @@ module _ (c : tie.After-ring-sums) where
   abbrev inner : tie.Else1
   inner = second .before .before
 
-  rings-told : not (c .ring-sums .result) ≡ longRing (mesh (start inner))
+  rings-told : not (c .ring-sums .result) ≡ longRing (mesh (start inner) .topology)
   rings-told = rings-tell _ (c .ring-sums .ensures _ _ (closed inner))
 
 module _ (c : tie.After-has-room) where

@@ -8,10 +8,11 @@ use Rattle.rules.specs.Tables.{previous}
 use Rattle.rules.proofs.Links.Sides.{previous-lt}
 use Rattle.cage.specs.Decoded.{decoded}
 use Rattle.cage.specs.Pairing.{Last, Linking}
-use Rattle.cage.proofs.Links.{linking-none, matches, linking-more}
+use Rattle.cage.proofs.pairing.join.Proof.Links.{linking-none, matches, linking-more}
 use Rattle.cage.proofs.Stamps.{Cursor, cursor, starts, goes-on, stamp-most}
 use Rattle.cage.proofs.pairing.join.Statement.{statement}
 use Rattle.cage.proofs.pairing.join.Tie as tie
+mod Links
 
 abbrev Inv-loop : tie.InvT-loop
 Inv-loop corners triangles vertices heads nexts slots links₀ v p₀ links p =

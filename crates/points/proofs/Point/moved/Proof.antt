@@ -14,7 +14,10 @@ sub-mean c = omega (arith, light (c .before .args .n) (c .weight-of .result) (c 
 mul-mean : tie.Need-mul-mean
 mul-mean c =
     let start = c .before in
-    omega (arith, own-most (start .args .n) (c .weight-of .result) (c .weight-of .ensures) (start .pre .0) (start .pre .1))
+    omega (
+      arith,
+      own-most (start .args .n) (c .weight-of .result) (c .weight-of .ensures) (start .pre .0) (start .pre .1),
+    )
 
 mean-requires : tie.Need-mean-requires
 mean-requires c κs =

@@ -1,12 +1,11 @@
 -- `step::limits::refusal` meets its contract.
 use borrow.Author.Needs.{needs}
 use borrow.Author.Tests.{eq-eqb, ne-eqb, not-true, not-false}
-use Prim.Native.Nat.{ℕ, _*_}
 use native.Mathlib.Omega.{arith}
-use mathlib.Core.Bool.{true, false, not}
+use mathlib.Core.Bool.{true, not}
 use mathlib.Core.Path.{_≡_, refl, sym, _∙_}
-use Rattle.rules.proofs.Steps.StepRefusals.{longRing, limit-by-tests}
-use Rattle.rules.specs.Calls.{closedEven}
+use Rattle.rules.proofs.Steps.StepRefusals.{limit-by-tests}
+use Rattle.rules.specs.Calls.{closedEven, longRing}
 use Rattle.rules.specs.Sound.{Sound}
 use Rattle.rules.specs.Tables.{Mesh}
 use Rattle.tables.specs.Lent.{meshNow}
@@ -39,7 +38,7 @@ module _ (c : tie.After-ring-sums) where
   abbrev inner : tie.Else1
   inner = c .before .before .before
 
-  rings-told : not (c .ring-sums .result) ≡ longRing (mesh (start inner))
+  rings-told : not (c .ring-sums .result) ≡ longRing (mesh (start inner) .topology)
   rings-told = rings-tell _ (c .ring-sums .ensures _ _ (closed inner))
 
 closed-even-requires : tie.Need-closed-even-requires
