@@ -18,7 +18,7 @@ mesh-of c =
 
 -- With the triangle tested.
 abbrev start-of : tie.Else1 → tie.Start
-start-of c = c .before .before .before .before .before .before
+start-of c = c .before .before .before .before .before .before .before
 
 triangle-is : (c : tie.Else1)
     → c .before .triangle-refusal .result ≡ triangleRefusal (start-of c .args .t) (mesh-of (start-of c))
@@ -52,10 +52,13 @@ triangle-refusal-requires c κs = search needs
 same-length : tie.Need-same-length
 same-length c = search needs
 
+same-length-2 : tie.Need-same-length-2
+same-length-2 c = search needs
+
 returns : tie.Need-returns
 returns c =
     let at = c .before in
-    let start = at .before .before .before .before .before in
+    let start = at .before .before .before .before .before .before in
     refine-refused (start .args .t) (mesh-of start) _
     (refine-triangle (start .args .t) (mesh-of start) _
     (at .triangle-refusal .ensures (start .args .positions .now) (start .args .corners .now) (start .pre))
@@ -65,20 +68,20 @@ returns c =
 base-chain-requires : tie.Need-base-chain-requires
 base-chain-requires c κs =
     let at-if1 = c .before .before in
-    let start = at-if1 .before .before .before .before .before .before in
+    let start = at-if1 .before .before .before .before .before .before .before in
     refine-young (start .args .t) (mesh-of start) _ (triangle-is at-if1) (at-if1 .if1 .left)
 
 chain-refusal-requires : tie.Need-chain-refusal-requires
 chain-refusal-requires c κs = search needs
-
-same-length-2 : tie.Need-same-length-2
-same-length-2 c = search needs
 
 same-length-3 : tie.Need-same-length-3
 same-length-3 c = search needs
 
 same-length-4 : tie.Need-same-length-4
 same-length-4 c = search needs
+
+same-length-5 : tie.Need-same-length-5
+same-length-5 c = search needs
 
 returns-2 : tie.Need-returns-2
 returns-2 c =
@@ -91,9 +94,6 @@ refine-requires c κs =
     let at = at-if2 .before in
     (refine-found (start at .args .t) (mesh-of (start at)) (sym (refusal-is at) ∙ at-if2 .if2 .left), chain-is at)
 
-same-length-5 : tie.Need-same-length-5
-same-length-5 c = search needs
-
 same-length-6 : tie.Need-same-length-6
 same-length-6 c = search needs
 
@@ -102,6 +102,9 @@ same-length-7 c = search needs
 
 same-length-8 : tie.Need-same-length-8
 same-length-8 c = search needs
+
+same-length-9 : tie.Need-same-length-9
+same-length-9 c = search needs
 
 returns-3 : tie.Need-returns-3
 returns-3 c =
@@ -117,16 +120,17 @@ refine-known-spec =
     (tie.spec
     triangle-refusal-requires
     same-length
+    same-length-2
     returns
     base-chain-requires
     chain-refusal-requires
-    same-length-2
     same-length-3
     same-length-4
+    same-length-5
     returns-2
     refine-requires
-    same-length-5
     same-length-6
     same-length-7
     same-length-8
+    same-length-9
     returns-3)

@@ -17,13 +17,13 @@ mesh-of c positions corners =
 
 returns : tie.Need-returns
 returns c positions corners e =
-    let start = c .before .before in
+    let start = c .before .before .before in
     triangle-standing (start .args .t) (mesh-of start positions corners) _ e (c .if1 .taken)
 
 returns-2 : tie.Need-returns-2
 returns-2 c positions corners e =
     let at-if1 = c .before .before in
-    let start = at-if1 .before .before in
+    let start = at-if1 .before .before .before in
     triangle-eight (start .args .t) (mesh-of start positions corners) _ e (at-if1 .if1 .left)
     (le-leb _ _ (c .if2 .taken))
 
@@ -34,7 +34,7 @@ returns-3 : tie.Need-returns-3
 returns-3 c positions corners e =
     let at-if2 = c .before .before in
     let at-if1 = at-if2 .before .before in
-    let start = at-if1 .before .before in
+    let start = at-if1 .before .before .before in
     triangle-nine (start .args .t) (mesh-of start positions corners) _ e (at-if1 .if1 .left)
     (lt-leb _ _ (at-if2 .if2 .left)) (sym (c .before .too-old .ensures (start .args .counts) corners) ∙ c .if3 .taken)
 
@@ -42,7 +42,7 @@ returns-4 : tie.Need-returns-4
 returns-4 c positions corners e =
     let at-if2 = c .before .before in
     let at-if1 = at-if2 .before .before in
-    let start = at-if1 .before .before in
+    let start = at-if1 .before .before .before in
     triangle-none (start .args .t) (mesh-of start positions corners) _ e (at-if1 .if1 .left)
     (lt-leb _ _ (at-if2 .if2 .left)) (sym (c .before .too-old .ensures (start .args .counts) corners) ∙ c .if3 .left)
 
