@@ -13,7 +13,7 @@ extern "C" {
 #endif
 
 /* Raised by every change of a signature, a struct or an answer; docs/changes/README.md has a line for each. */
-#define RAWPLINTH_VERSION 2
+#define RAWPLINTH_VERSION 3
 
 /* What a side without a partner links to. */
 #define RAWPLINTH_BOUNDARY UINT32_C(4294967295)
@@ -40,8 +40,8 @@ enum {
     RAWPLINTH_FANS = 6,            /* a vertex whose triangles are none, or not one fan */
     RAWPLINTH_NOT_SOUND = 7,       /* tables that are no mesh by the rules, such as a fresh store */
     RAWPLINTH_NOT_IN_USE = 8,      /* no such triangle or vertex in use */
-    RAWPLINTH_GENERATION = 9,      /* generation 20, the last */
-    RAWPLINTH_CHAIN_OPEN = 10,     /* the base chain ends at the boundary */
+    RAWPLINTH_GENERATION = 9,      /* generation 20, the last, or 19 with the base on the boundary */
+    RAWPLINTH_CHAIN_OPEN = 10,     /* no call returns it: a base chain that ends at the boundary is split there */
     RAWPLINTH_NO_SLOTS = 11,       /* too few slots for the splits that are needed */
     RAWPLINTH_NOT_UNIFORM = 12,    /* a boundary, or triangles not all of one even generation */
     RAWPLINTH_RING_LONG = 13,      /* a ring of more than 12 entries */
@@ -52,7 +52,7 @@ enum {
 /* The answer of load, refine and whole step. */
 typedef struct {
     uint32_t refusal;
-    uint32_t splits; /* face splits made */
+    uint32_t splits; /* splits made, at the boundary or not */
     uint32_t flips;  /* flips made */
     rawplinth_counts counts;
 } rawplinth_worked;
@@ -83,9 +83,9 @@ typedef struct {
      corners       3 for each triangle slot
      links         3 for each triangle slot: 3*triangle+side of the partner, or RAWPLINTH_BOUNDARY; side 0 runs from
                    corner 0 to corner 1, side 1 from 1 to 2, side 2 from 2 to 0
-     generations   1 for each triangle slot: 0 to 20, 0 after a load. An odd triangle is a third of an even one, with
-                   side 0 as its base; its flip across the base makes it even. The base chain of an odd triangle goes on
-                   to the triangle across its base, until an even one or the boundary
+     generations   1 for each triangle slot: 0 to 20, 0 after a load. An odd triangle was made by a split, with side 0
+                   as its base; a flip across the base makes it even. The base chain of an odd triangle goes on to the
+                   triangle across its base, until an even one or the boundary
 
    Whatever they hold, a call does what it says or is refused, with the first number of its list that applies. Slots
    past the counts are written only where a call takes them into use.
@@ -105,8 +105,12 @@ rawplinth_worked rawplinth_load(
     const uint8_t *cage, size_t cage_length);
 
 /* Refines one triangle: an even one by a face split, an odd one by splits along its base chain until it is flipped.
-   Refuses with 1, 7, 8, 9, 10, 11, in this order. Writes slots in use and those that it takes. Needs 1 MB of stack,
-   as do the calls below. */
+   A chain that ends at the boundary is split there first: the odd triangle on the boundary becomes three, its boundary
+   side is cut in three at two new vertices, and the odd triangle before it in the chain is flipped. So a chain of m odd
+   triangles takes m splits, or m-1 at the boundary, one at least. Each takes one vertex and two triangles, the one at
+   the boundary two vertices.
+   Refuses with 1, 7, 8, 9, 11, in this order. Writes slots in use and those that it takes. Needs 1 MB of stack, as do
+   the calls below. */
 rawplinth_worked rawplinth_refine(
     int32_t *positions, size_t positions_length,
     uint32_t *corners, size_t corners_length,

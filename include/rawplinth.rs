@@ -3,7 +3,7 @@
 
 /// Raised with that of the header. A program may go without it.
 #[allow(dead_code)]
-pub const RAWPLINTH_VERSION: u32 = 2;
+pub const RAWPLINTH_VERSION: u32 = 3;
 
 /// The vertices and triangles in use.
 #[repr(C)]
@@ -13,7 +13,7 @@ pub struct Counts {
     pub triangles: u32,
 }
 
-/// The answer of load, refine and whole step.
+/// The answer of load, refine and whole step. Refine splits at the boundary, too, and no call returns 10.
 #[repr(C)]
 #[derive(Clone, Copy, Debug, Default, PartialEq, Eq)]
 pub struct Worked {

@@ -1,4 +1,4 @@
-//! The cages (control meshes) that are measured: closed, of any size, in order or shuffled.
+//! The cages (control meshes) that are measured: closed or with a hole, of any size, in order or shuffled.
 
 use std::collections::HashMap;
 
@@ -75,6 +75,12 @@ pub fn sphere(parts: i64) -> Cage {
 impl Cage {
     pub fn triangles(&self) -> usize {
         self.triangles.len()
+    }
+
+    /// The same figure without its middle triangle, so that it has a boundary.
+    pub fn opened(mut self) -> Cage {
+        self.triangles.remove(self.triangles.len() / 2);
+        self
     }
 
     /// The same figure with its triangles, not its vertices, in another order: a shuffle by splitmix64 of a fixed

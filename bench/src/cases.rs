@@ -2,13 +2,27 @@
 
 use crate::cages::{self, Cage};
 use crate::fast;
-use crate::tables::{Answer, Call, Lent};
+use crate::tables::{Answer, BOUNDARY, Call, Lent};
 
 /// The refine that makes the most splits.
 pub const LONGEST: &str = "refine, chain of 10";
+/// A rim split, and the longest chain that ends with one, on a cage with a boundary.
+pub const AT_BOUNDARY: &str = "refine at the boundary";
+pub const LONGEST_AT_BOUNDARY: &str = "refine at the boundary, chain of 10";
 
-const NAMES: [&str; 9] =
-    ["load", "soundness", "refine even", "refine odd", LONGEST, "whole step", "ring", "position", "limit"];
+const NAMES: [&str; 11] = [
+    "load",
+    "soundness",
+    "refine even",
+    "refine odd",
+    LONGEST,
+    AT_BOUNDARY,
+    LONGEST_AT_BOUNDARY,
+    "whole step",
+    "ring",
+    "position",
+    "limit",
+];
 
 pub struct Case {
     pub name: &'static str,
@@ -33,6 +47,8 @@ pub fn all() -> Vec<Case> {
     for name in NAMES {
         let spheres = if name == "whole step" { &step_spheres } else { &spheres };
         for cage in [cages::tetrahedron()].iter().chain(spheres) {
+            let open = name == AT_BOUNDARY || name == LONGEST_AT_BOUNDARY;
+            let cage = if open { &cage.clone().opened() } else { cage };
             list.push(case(name, cage, false));
             list.push(case(name, &cage.clone().shuffled(), true));
         }
@@ -59,7 +75,10 @@ fn case(name: &'static str, cage: &Cage, shuffled: bool) -> Case {
     if name == "refine odd" || name == LONGEST {
         set_up(&mut lent, Call::Refine(triangle));
     }
-    if name == LONGEST {
+    if name == AT_BOUNDARY || name == LONGEST_AT_BOUNDARY {
+        triangle = odd_at_boundary(&mut lent);
+    }
+    if name == LONGEST || name == LONGEST_AT_BOUNDARY {
         triangle = end_of_long_chain(&mut lent, triangle);
     }
     let call = match name {
@@ -72,6 +91,15 @@ fn case(name: &'static str, cage: &Cage, shuffled: bool) -> Case {
         _ => Call::Refine(triangle),
     };
     Case { name, triangles: cage.triangles(), shuffled, lent, call }
+}
+
+/// A triangle of generation 1 whose base is on the boundary: a child of the first triangle there.
+fn odd_at_boundary(lent: &mut Lent) -> u32 {
+    let side = lent.tables.links.iter().position(|&link| link == BOUNDARY).expect("the cage has a boundary");
+    set_up(lent, Call::Refine(side as u32 / 3));
+    let odd =
+        |slot: &u32| lent.tables.generations[*slot as usize] == 1 && lent.tables.links[3 * *slot as usize] == BOUNDARY;
+    (0..lent.counts.triangles).find(odd).expect("a child has its base there")
 }
 
 /// From an odd triangle of generation 1, one of generation 19 whose base chain has ten odd triangles, the most there

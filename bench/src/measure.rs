@@ -7,7 +7,7 @@ use std::path::Path;
 use std::process::Command;
 use std::time::Instant;
 
-use crate::cases::{Case, LONGEST};
+use crate::cases::{AT_BOUNDARY, Case, LONGEST, LONGEST_AT_BOUNDARY};
 use crate::tables::{Answer, Lent, scan_tables};
 use crate::{fast, library};
 
@@ -56,8 +56,9 @@ pub fn compare(case: &Case) {
     };
     let expected = match case.name {
         "soundness" => (8, 0),
-        "refine even" | "refine odd" => (0, 1),
+        "refine even" | "refine odd" | AT_BOUNDARY => (0, 1),
         LONGEST => (0, 10),
+        LONGEST_AT_BOUNDARY => (0, 9),
         "whole step" => (0, case.triangles),
         _ => (0, 0),
     };

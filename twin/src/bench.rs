@@ -54,7 +54,7 @@ impl<'a> Bench<'a> {
             return Err(difference(what, before, call));
         }
         let answer = by_twin.expect("a trespass has been handled");
-        if let Some(what) = claim_violated(&before, call, &answer) {
+        if let Some(what) = claim_violated(&before, call, &answer, store) {
             return Err(difference(what, before, call));
         }
         self.coverage.note(&before, call, &answer);
@@ -96,9 +96,9 @@ pub fn difference(what: String, store: Store, call: &Call) -> Box<Difference> {
 }
 
 /// The fourth claim of demand 3, for every refine that is carried out.
-fn claim_violated(before: &Store, call: &Call, answer: &Answer) -> Option<String> {
+fn claim_violated(before: &Store, call: &Call, answer: &Answer, after: &Store) -> Option<String> {
     match (call, answer.refusal) {
-        (&Call::Refine { triangle }, 0) => violated_by_refine(before, triangle as usize, answer),
+        (&Call::Refine { triangle }, 0) => violated_by_refine(before, triangle as usize, answer, after),
         _ => None,
     }
 }

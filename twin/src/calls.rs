@@ -3,7 +3,7 @@
 use crate::bench::{Bench, Outcome};
 use crate::claims::read_chain;
 use crate::rng::Rng;
-use crate::tables::{Call, LAST_GENERATION, Store};
+use crate::tables::{BOUNDARY, Call, LAST_GENERATION, Store};
 
 /// Three times this number is 2 in 32 bits.
 pub const WRAPPING: u32 = 0x5555_5556;
@@ -99,11 +99,15 @@ pub fn deepest_triangle(store: &Store) -> u32 {
     below_last.max_by_key(generation).map_or(0, |slot| slot as u32)
 }
 
-/// The triangle with the longest base chain over an even triangle in sound tables, the last of several.
+/// The triangle with the longest base chain in sound tables, the last of several.
 pub fn longest_chain_triangle(store: &Store) -> u32 {
-    let length = |slot: &usize| {
-        let chain = read_chain(&store.tables, *slot);
-        if chain.ends_at_boundary { 0 } else { chain.odd }
-    };
+    let length = |slot: &usize| read_chain(&store.tables, *slot).odd;
     (0..store.triangles()).max_by_key(length).map_or(0, |slot| slot as u32)
+}
+
+/// A triangle with a side on the boundary, or 0 where there is none.
+pub fn boundary_triangle(store: &Store, rng: &mut Rng) -> u32 {
+    let at_boundary = |slot: &usize| store.tables.links[3 * slot..][..3].contains(&BOUNDARY);
+    let all: Vec<usize> = (0..store.triangles()).filter(at_boundary).collect();
+    if all.is_empty() { 0 } else { rng.pick(&all) as u32 }
 }

@@ -33,6 +33,19 @@ pub fn read_chain(tables: &Tables, triangle: usize) -> ChainReading {
     chain
 }
 
+/// Edges: a linked pair counts once, at its lower side, and a boundary side once.
+fn edges(store: &Store) -> i64 {
+    let sides = 3 * store.counts.triangles as usize;
+    let links = store.tables.links[..sides].iter().enumerate();
+    links.filter(|&(side, &link)| link == BOUNDARY || side < link as usize).count() as i64
+}
+
+/// The odd triangles in use.
+fn odds(store: &Store) -> i64 {
+    let in_use = &store.tables.generations[..store.counts.triangles as usize];
+    in_use.iter().filter(|&&generation| generation % 2 == 1).count() as i64
+}
+
 /// What is wrong with the first three claims: mutual links, V − E + F, and the generations of neighbours.
 pub fn violated(store: &Store, euler_number: i64) -> Option<String> {
     let tables = &store.tables;
@@ -40,38 +53,59 @@ pub fn violated(store: &Store, euler_number: i64) -> Option<String> {
     if sides > tables.links.len() || store.counts.vertices as usize > store.vertex_slots() {
         return Some("the counts lie above the slots".to_string());
     }
-    let mut edges = 0;
-    for side in 0..sides {
+    for side in (0..sides).filter(|&side| tables.links[side] != BOUNDARY) {
         let partner = tables.links[side] as usize;
-        if tables.links[side] == BOUNDARY {
-            edges += 1;
-            continue;
-        }
         if partner >= sides || tables.links[partner] as usize != side {
             return Some(format!("the link of side {side} is not mutual"));
         }
-        // A pair counts at its lower side.
-        edges += i64::from(side < partner);
         let (g, h) = (tables.generations[side / 3], tables.generations[partner / 3]);
         let most = if g % 2 == 0 || h % 2 == 0 { 1 } else { 2 };
         if g.abs_diff(h) > most {
             return Some(format!("the generations across side {side} are {g} and {h}"));
         }
     }
-    let found = i64::from(store.counts.vertices) - edges + i64::from(store.counts.triangles);
+    let found = i64::from(store.counts.vertices) - edges(store) + i64::from(store.counts.triangles);
     (found != euler_number).then(|| format!("V - E + F is {found}, for the cage it is {euler_number}"))
 }
 
-/// What is wrong with the fourth claim, about the splits of a refine that was carried out.
-pub fn violated_by_refine(before: &Store, triangle: usize, answer: &Answer) -> Option<String> {
+/// A boundary side that no history from a load on gives. There it is a side of a generation that is a multiple of 4, the
+/// base of one more or a non-base side of three more; so no base of generation 19 is at the boundary.
+pub fn unreached_boundary(store: &Store) -> Option<String> {
+    let sides = 0..3 * store.counts.triangles as usize;
+    let mut at_boundary = sides.filter(|&side| store.tables.links[side] == BOUNDARY);
+    let unreached = at_boundary.find(|&side| {
+        let rest = store.tables.generations[side / 3] % 4;
+        !(rest == 0 || rest == 1 && side.is_multiple_of(3) || rest == 3 && !side.is_multiple_of(3))
+    })?;
+    Some(format!("side {unreached} is at the boundary, of generation {}", store.tables.generations[unreached / 3]))
+}
+
+/// What is wrong with the fourth claim, about the splits of a refine that was carried out, and with what they add: with
+/// s splits, q of them rim splits, V + s + q, F + 2s and E + 3s + q, and flips by the odd triangles, of which a face
+/// split makes three, a rim split one and a flip takes two away.
+pub fn violated_by_refine(before: &Store, triangle: usize, answer: &Answer, after: &Store) -> Option<String> {
     let generation = before.tables.generations[triangle];
-    let claimed = if generation % 2 == 1 { read_chain(&before.tables, triangle).odd as u32 } else { 1 };
-    let grown = answer.counts.triangles.wrapping_sub(before.counts.triangles);
-    if answer.splits != claimed {
-        return Some(format!("{} splits reported, the chain gives {claimed}", answer.splits));
+    let chain = read_chain(&before.tables, triangle);
+    let claimed = match chain.odd {
+        0 => 1,
+        odd if chain.ends_at_boundary => (odd - 1).max(1),
+        odd => odd,
+    };
+    let splits = i64::from(answer.splits);
+    if splits != claimed as i64 {
+        return Some(format!("{splits} splits reported, the chain gives {claimed}"));
     }
-    if generation % 2 == 1 && claimed > u32::from(generation).div_ceil(2) {
+    if generation % 2 == 1 && claimed > usize::from(generation).div_ceil(2) {
         return Some(format!("{claimed} splits at generation {generation}"));
     }
-    (grown != 2 * answer.splits).then(|| format!("{} splits reported, F has grown by {grown}", answer.splits))
+    let rim_splits = i64::from(chain.ends_at_boundary);
+    let grown = |count: fn(&Store) -> i64| count(after) - count(before);
+    let added = [
+        ("V", grown(|store| i64::from(store.counts.vertices)), splits + rim_splits),
+        ("F", grown(|store| i64::from(store.counts.triangles)), 2 * splits),
+        ("E", grown(edges), 3 * splits + rim_splits),
+        ("the odd triangles", grown(odds), 3 * splits - 2 * rim_splits - 2 * i64::from(answer.flips)),
+    ];
+    let wrong = added.iter().find(|(_, grown, due)| grown != due)?;
+    Some(format!("{splits} splits reported, {} grew by {} for {}", wrong.0, wrong.1, wrong.2))
 }

@@ -1,5 +1,5 @@
-//! What a run has met: each refusal of each call, each kind of linked pair, each chain length, each ring length of a
-//! whole step and of a limit query.
+//! What a run has met: each refusal of each call, each kind of linked pair, each chain length over an even triangle and
+//! over the boundary, each ring length of a whole step and of a limit query.
 
 use std::collections::{BTreeMap, BTreeSet};
 use std::fmt::{self, Display};
@@ -11,12 +11,15 @@ use crate::tables::{Answer, BOUNDARY, Call, Store};
 /// The calls, each with the refusals that it can give and 0 for none.
 const CALLS: &[(&str, &[u32])] = &[
     ("load", &[0, 1, 2, 3, 4, 5, 6]),
-    ("refine", &[0, 1, 7, 8, 9, 10, 11]),
+    ("refine", &[0, 1, 7, 8, 9, 11]),
     ("whole step", &[0, 1, 7, 9, 11, 12, 13]),
     ("ring", &[0, 1, 7, 8, 14]),
     ("position", &[0, 1, 7, 8]),
     ("limit", &[0, 1, 7, 12, 13, 15]),
 ];
+
+/// The refusal that no call gives: a base chain that ends at the boundary is split there.
+const NEVER_GIVEN: u32 = 10;
 
 #[derive(Default)]
 pub struct Coverage {
@@ -24,9 +27,13 @@ pub struct Coverage {
     answers: BTreeMap<(usize, u32), u64>,
     /// The five kinds, at the sides of triangles that were refined.
     kinds: [u64; 6],
-    /// Chains of refines carried out, and of those refused with 10, by their odd triangles.
+    /// Chains of refines carried out, over an even triangle and over the boundary, by their odd triangles.
     chains: [u64; 11],
     boundary_chains: [u64; 11],
+    /// Rim splits of the triangle refined itself, by their flips.
+    rim_flips: [u64; 3],
+    /// Refines refused with 9, by the triangle's generation.
+    too_old: [u64; 21],
     /// Sides by which chains of refines carried out enter an odd triangle.
     entered: [u64; 3],
     /// Rings of whole steps carried out, by their length.
@@ -68,9 +75,9 @@ impl Coverage {
     pub fn note(&mut self, before: &Store, call: &Call, answer: &Answer) {
         *self.answers.entry((row(call), answer.refusal)).or_default() += 1;
         match (call, answer.refusal) {
-            (&Call::Refine { triangle }, 0) => self.note_refine(before, triangle as usize),
-            (&Call::Refine { triangle }, 10) => {
-                count(&mut self.boundary_chains, read_chain(&before.tables, triangle as usize).odd);
+            (&Call::Refine { triangle }, 0) => self.note_refine(before, triangle as usize, answer),
+            (&Call::Refine { triangle }, 9) => {
+                count(&mut self.too_old, usize::from(before.tables.generations[triangle as usize]));
             }
             (Call::WholeStep, 0) => note_rings(&mut self.rings, before),
             (Call::Limit, 0) => note_rings(&mut self.limit_rings, before),
@@ -78,10 +85,13 @@ impl Coverage {
         }
     }
 
-    fn note_refine(&mut self, before: &Store, triangle: usize) {
+    fn note_refine(&mut self, before: &Store, triangle: usize, answer: &Answer) {
         let tables = &before.tables;
         let chain = read_chain(tables, triangle);
-        count(&mut self.chains, chain.odd);
+        count(if chain.ends_at_boundary { &mut self.boundary_chains } else { &mut self.chains }, chain.odd);
+        if chain.ends_at_boundary && chain.odd == 1 {
+            count(&mut self.rim_flips, answer.flips as usize);
+        }
         chain.entered_by.iter().for_each(|&side| count(&mut self.entered, side));
         let end = |side: usize| (tables.generations[side / 3], side % 3);
         for side in 3 * triangle..3 * triangle + 3 {
@@ -92,10 +102,10 @@ impl Coverage {
         }
     }
 
-    /// The refusals that can occur or were met.
+    /// The refusals that have a number or were met.
     fn refusals(&self) -> BTreeSet<u32> {
         let possible = CALLS.iter().flat_map(|(_, possible)| possible.iter().copied());
-        possible.chain(self.answers.keys().map(|&(_, refusal)| refusal)).collect()
+        possible.chain([NEVER_GIVEN]).chain(self.answers.keys().map(|&(_, refusal)| refusal)).collect()
     }
 
     /// What can occur and was never met, and what was met although it cannot occur.
@@ -116,8 +126,10 @@ impl Coverage {
             }
         };
         expect("kind of linked pair", &self.kinds, 1);
-        expect("chain carried out, length", &self.chains, 0);
-        expect("chain ending at the boundary, length", &self.boundary_chains, 1);
+        expect("chain over an even triangle, length", &self.chains, 0);
+        expect("chain over the boundary, length", &self.boundary_chains, 1);
+        expect("flips of a rim split", &self.rim_flips, 0);
+        expect("refine refused with 9, generation", &self.too_old, 19);
         expect("chain entering by side", &self.entered, 1);
         expect("ring in a whole step, length", &self.rings, 2);
         expect("ring in a limit query, length", &self.limit_rings, 2);
@@ -135,7 +147,8 @@ impl Display for Coverage {
             write!(out, "{name:<12}")?;
             for (number, (_, possible)) in CALLS.iter().enumerate() {
                 let met = self.answers.get(&(number, refusal)).copied().unwrap_or(0);
-                let shown = if met > 0 || possible.contains(&refusal) { met.to_string() } else { "-".to_string() };
+                let counted = met > 0 || possible.contains(&refusal) || refusal == NEVER_GIVEN;
+                let shown = if counted { met.to_string() } else { "-".to_string() };
                 write!(out, "{shown:>12}")?;
             }
             writeln!(out)?;
@@ -146,8 +159,10 @@ impl Display for Coverage {
             writeln!(out, "{name}  {}", shown.join("  "))
         };
         list("kinds of linked pairs at refined triangles", &self.kinds, 1)?;
-        list("base chains carried out", &self.chains, 0)?;
-        list("base chains ending at the boundary", &self.boundary_chains, 1)?;
+        list("base chains over an even triangle", &self.chains, 0)?;
+        list("base chains over the boundary", &self.boundary_chains, 1)?;
+        list("flips of a rim split", &self.rim_flips, 0)?;
+        list("generations refused with 9", &self.too_old, 19)?;
         list("sides by which chains enter odd triangles", &self.entered, 1)?;
         list("rings in whole steps", &self.rings, 2)?;
         list("rings in limit queries", &self.limit_rings, 2)

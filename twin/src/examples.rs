@@ -45,7 +45,8 @@ pub fn at_generation(cage: &Cage, generation: u8, spare: usize, rng: &mut Rng) -
     store
 }
 
-/// The example column of the table of refused inputs, in its order, and one for each number that a request adds.
+/// The example column of the table of refused inputs, in its order, and one for each number that a request adds. Of 10,
+/// which occurs no more, there is none.
 pub fn refusals(rng: &mut Rng) -> Vec<Example> {
     let tetrahedron = cages::tetrahedron();
     let roomy = Store::junk(20, 40, rng);
@@ -69,7 +70,6 @@ pub fn refusals(rng: &mut Rng) -> Vec<Example> {
         example(7, Store::fresh(20, 40), Call::Position { vertex: 0 }),
         example(8, refined(&tetrahedron, &[], 5, rng), refine(4)),
         example(9, at_generation(&tetrahedron, LAST_GENERATION, 5, rng), refine(0)),
-        example(10, refined(&cages::strip(1), &[0], 5, rng), refine(0)),
         example(11, narrow, refine(0)),
         example(12, refined(&tetrahedron, &[0], 50, rng), Call::WholeStep),
         example(13, refined(&cages::double_pyramid(13), &[], 50, rng), Call::WholeStep),
@@ -97,7 +97,21 @@ pub fn orders(rng: &mut Rng) -> Vec<Example> {
         example(7, Store::fresh(20, 40), refine(u32::MAX)),
         example(7, counts_above_slots, refine(0)),
         ring(8, refined(&tetrahedron, &[], 0, rng), 4, 0),
-        example(10, refined(&cages::strip(1), &[0], 0, rng), refine(0)),
+        // What was refused with 10 is refined. A rim split takes two vertices and two triangles.
+        example(0, refined(&cages::strip(1), &[0], 5, rng), refine(0)),
+        example(11, refined(&cages::strip(1), &[0], 0, rng), refine(0)),
+        example(0, chain(1, false, 16, &[], rng).store(2, 2, rng), refine(0)),
+        example(11, chain(1, false, 16, &[], rng).store(1, 2, rng), refine(0)),
+        example(11, chain(1, false, 16, &[], rng).store(2, 1, rng), refine(0)),
+        // Ten odd triangles that end at the boundary: nine splits.
+        example(0, chain(10, false, 0, &[], rng).store(10, 18, rng), refine(9)),
+        example(11, chain(10, false, 0, &[], rng).store(9, 18, rng), refine(9)),
+        example(11, chain(10, false, 0, &[], rng).store(10, 17, rng), refine(9)),
+        // A base of generation 19 on the boundary is too old by itself, before slots are asked for; across another
+        // base it is not.
+        example(9, chain(1, false, 18, &[], rng).store(2, 2, rng), refine(0)),
+        example(9, chain(1, false, 18, &[], rng).store(0, 0, rng), refine(0)),
+        example(0, chain(2, false, 16, &[], rng).store(2, 2, rng), refine(1)),
         example(0, exact, refine(0)),
         example(11, no_vertex_slot, refine(0)),
         example(12, at_generation(&cages::disc(14), LAST_GENERATION, 0, rng), Call::WholeStep),

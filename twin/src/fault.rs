@@ -34,7 +34,6 @@ faults! {
     SplitsFromGeneration: "refine reports (g+1)/2 splits for odd g",
     PartnerNotTold: "a moved side's partner keeps its old link",
     BackLinkUntested: "soundness does not test that links lead back",
-    SlotsBeforeBoundary: "refine tests 11 before 10",
     CountsOverSlotsUntested: "counts above the slots give 1",
     UseBeforeSound: "refine tests 8 before 7",
     FullBufferRefused: "a ring that fills its buffer is refused",
@@ -50,6 +49,12 @@ faults! {
     LongerTableAccepted: "limit lets a longer table pass",
     TableBeforeRings: "limit tests 15 before 13",
     LimitOfLastRefused: "limit refuses generation 20 with 9",
+    ThirdsExchanged: "a rim split exchanges the thirds of the base",
+    MiddleTwoAbove: "a rim split's middle child is two generations above",
+    OuterNotFlipped: "a rim split flips no child",
+    SplitsAsOdd: "refine reports all odd triangles at the boundary, too",
+    NineteenAtBoundary: "generation 19 with its base on the boundary is split",
+    RoomForOneVertex: "one vertex slot less is tested at the boundary",
 }
 
 impl Fault {

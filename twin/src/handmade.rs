@@ -157,6 +157,15 @@ pub fn raised(store: &Store, rng: &mut Rng) -> Store {
     raised
 }
 
+/// The vertices and triangles that refining the first triangle of such a chain adds.
+fn added(odd: usize, even_end: bool) -> (usize, usize) {
+    match (odd, even_end) {
+        (_, true) => (odd, 2 * odd),
+        (1, false) => (2, 2),
+        (_, false) => (odd, 2 * (odd - 1)),
+    }
+}
+
 /// Every chain length over an even triangle and over the boundary, entered by either side, with room, just room and
 /// too little.
 pub fn chains(bench: &mut Bench, rng: &mut Rng) -> Outcome {
@@ -168,7 +177,8 @@ pub fn chains(bench: &mut Bench, rng: &mut Rng) -> Outcome {
                 let mut gluing = chain(odd, even_end, lowest, &more, rng);
                 gluing.glue_at_random(40 * (round % 4), rng);
                 let first = (odd - usize::from(!even_end)) as u32;
-                for (vertices, triangles) in [(odd, 2 * odd), (odd - 1, 2 * odd), (odd, 2 * odd - 1), (30, 60)] {
+                let (v, f) = added(odd, even_end);
+                for (vertices, triangles) in [(v, f), (v - 1, f), (v, f - 1), (30, 60)] {
                     let mut store = gluing.store(vertices, triangles, rng);
                     bench.compare(&mut store, &Call::Refine { triangle: first })?;
                     bench.compare(&mut store, &Call::Refine { triangle: first })?;

@@ -52,7 +52,8 @@ impl History {
             return Ok(());
         };
         let look = Call::Position { vertex: 0 };
-        if let Some(what) = claims::violated(&self.store, euler_number) {
+        let wrong = claims::violated(&self.store, euler_number);
+        if let Some(what) = wrong.or_else(|| claims::unreached_boundary(&self.store)) {
             return Err(difference(what, self.store.clone(), &look));
         }
         if bench.compare_only(&self.store, &look)?.refusal != 0 {
@@ -143,6 +144,34 @@ pub fn deep(bench: &mut Bench, rounds: usize, rng: &mut Rng) -> Outcome {
             }
         }
         calls::compare_some(bench, &mut history.store, 6, rng)?;
+        history.check(bench, rng)?;
+    }
+    Ok(())
+}
+
+/// Refine histories of shells that go along their boundary, where rim splits are made, and deep at one place of it.
+pub fn shells(bench: &mut Bench, rounds: u32, rng: &mut Rng) -> Outcome {
+    for round in 0..rounds {
+        let size = 3 + round % 5;
+        let open = [cages::strip(size - 2), cages::disc(size), cages::band(size), cages::sheet(2, size)];
+        let cage = open[rng.below(open.len())].shuffled(rng).scattered(rng);
+        let spare = rng.pick(&[20, 150, 400]);
+        let mut history = History::begun(cage.points.len() + spare, cage.triangles.len() + 2 * spare, rng);
+        history.load(bench, cage.bytes())?;
+        let deep = rng.pick(&[10, 50, 90]);
+        for _ in 0..rng.pick(&[12, 40, 100]) {
+            let triangle = if rng.percent(deep) {
+                calls::deepest_triangle(&history.store)
+            } else {
+                calls::boundary_triangle(&history.store, rng)
+            };
+            if history.refine(bench, triangle)? != 0 {
+                calls::compare_some(bench, &mut history.store, 2, rng)?;
+            }
+        }
+        for vertex in 0..4 {
+            read_vertex(bench, &mut history.store, vertex, rng)?;
+        }
         history.check(bench, rng)?;
     }
     Ok(())

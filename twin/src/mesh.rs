@@ -67,8 +67,8 @@ impl Mesh {
 
     /// Writes the slots in use and no others.
     pub fn write(&self, tables: &mut Tables) {
-        for (slot, point) in self.points.iter().enumerate() {
-            tables.positions[3 * slot..][..3].copy_from_slice(point);
+        for (slot, point) in tables.positions.chunks_exact_mut(3).zip(&self.points) {
+            slot.copy_from_slice(point);
         }
         for (slot, triangle) in self.triangles.iter().enumerate() {
             tables.corners[3 * slot..][..3].copy_from_slice(&triangle.corners.map(|corner| corner as u32));

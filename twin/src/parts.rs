@@ -28,6 +28,7 @@ const PARTS: &[(&str, Part)] = &[
     ("damage that keeps order", |bench, rng| surgery::random_damage(bench, 8_000, rng)),
     ("limit positions", limits::run),
     ("whole steps", histories::whole_steps),
+    ("shells with boundary", |bench, rng| histories::shells(bench, 150, rng)),
     ("deep histories", |bench, rng| histories::deep(bench, 120, rng)),
     ("random histories", |bench, rng| histories::random(bench, 4_000, rng)),
     ("largest tables", histories::largest),
@@ -52,6 +53,7 @@ pub fn soak_round(bench: &mut Bench, rng: &mut Rng) -> Outcome {
     malformed::random_loads(bench, 20, rng)?;
     handmade::histories(bench, 20, rng)?;
     surgery::random_damage(bench, 30, rng)?;
+    histories::shells(bench, 1, rng)?;
     histories::deep(bench, 1, rng)?;
     histories::random(bench, 20, rng)
 }

@@ -112,16 +112,18 @@ fn directed(rng: &mut Rng) -> Vec<Files> {
     list
 }
 
-/// Lists around the lengths at which a reader's buffer ends. The longest meet a mesh that stays small, or none.
+/// Lists around the lengths at which a reader's buffer ends. The longest meet a mesh that stays small, as all triangles
+/// but the last are not in use, or none.
 fn long_lists(rng: &mut Rng) -> Vec<Files> {
     let mut list = Vec::new();
-    for (cage, lengths) in [
-        (cages::tetrahedron().bytes(), [1_023, 1_024, 1_025, 2_000]),
-        (cages::strip(1).bytes(), [4_095, 4_096, 16_385, 40_000]),
-        (Vec::new(), [16_383, 16_384, 16_385, 100_000]),
+    for (cage, least, lengths) in [
+        (cages::tetrahedron().bytes(), 0, [1_023, 1_024, 1_025, 2_000]),
+        (cages::strip(1).bytes(), 1, [4_095, 4_096, 16_385, 40_000]),
+        (Vec::new(), 0, [16_383, 16_384, 16_385, 100_000]),
     ] {
         for length in lengths {
-            let numbers: Vec<u32> = (0..length).map(|_| rng.below(2_100) as u32).collect();
+            let mut numbers: Vec<u32> = (1..length).map(|_| least + rng.below(2_100) as u32).collect();
+            numbers.push(0);
             list.push(Files::new(cage.clone(), &numbers, rng.below(4)));
         }
     }

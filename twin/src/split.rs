@@ -1,4 +1,4 @@
-//! The face split, the flip, the base chain and the refining of one triangle.
+//! The face split, the rim split, the flip, the base chain and the refining of one triangle.
 
 use crate::fault::Fault;
 use crate::mesh::{Mesh, Side, Triangle};
@@ -10,11 +10,19 @@ pub struct BaseChain {
     pub even_end: Option<usize>,
 }
 
-/// Face splits and flips, counted as they are made.
+/// Splits, face and rim, and flips, counted as they are made.
 #[derive(Clone, Copy, Debug, Default, PartialEq, Eq)]
 pub struct Work {
     pub splits: u32,
     pub flips: u32,
+}
+
+impl Work {
+    /// One split more, with its flips.
+    fn add(&mut self, flips: u32) {
+        self.splits += 1;
+        self.flips += flips;
+    }
 }
 
 impl Mesh {
@@ -39,10 +47,10 @@ impl Mesh {
         }
     }
 
-    /// The place of the new vertex: the nearest third in each coordinate.
-    fn centre(&self, corners: [usize; 3]) -> [i32; 3] {
+    /// The place of a new vertex: the nearest third of the sum of three vertices in each coordinate.
+    fn third_of(&self, vertices: [usize; 3]) -> [i32; 3] {
         std::array::from_fn(|axis| {
-            let sum: i64 = corners.iter().map(|&corner| i64::from(self.points[corner][axis])).sum();
+            let sum: i64 = vertices.iter().map(|&vertex| i64::from(self.points[vertex][axis])).sum();
             self.fault.unless(Fault::ThirdsTruncated, (sum + 1).div_euclid(3), sum / 3) as i32
         })
     }
@@ -60,7 +68,7 @@ impl Mesh {
     pub fn face_split(&mut self, t: usize) -> u32 {
         let Triangle { corners: [a, b, c], generation, .. } = self.triangles[t];
         let p = self.points.len();
-        self.points.push(self.centre([a, b, c]));
+        self.points.push(self.third_of([a, b, c]));
         let f = self.triangles.len();
         let slots = self.fault.unless(Fault::ChildSlotsExchanged, [t, f, f + 1], [t, f + 1, f]);
         self.triangles.extend([self.triangles[t]; 2]);
@@ -70,8 +78,51 @@ impl Mesh {
             self.triangles[slots[i]].generation = generation + 1;
             self.join(Side::new(slots[i], 1), Side::new(slots[(i + 1) % 3], 2));
         }
+        self.flip_those_of(&slots)
+    }
+
+    /// The rim split of an odd triangle whose base is on the boundary: the base is cut in three at A' and B', children
+    /// are in slots t, F and F+1, and the first and the last of them are flipped, in this order, where their base meets
+    /// a base. Answers the flips.
+    ///
+    /// ```text
+    ///             P                          P            Old side 2 becomes the base of the first child, old side
+    ///           .   .                     . / \ .         1 that of the last. The middle one is even, a generation
+    ///         .       .        →        .  /   \  .       above the other two.
+    ///       .     t     .             .   /     \   .
+    ///      A-------------B           A---A'-----B'---B
+    /// ```
+    fn rim_split(&mut self, t: usize) -> u32 {
+        let Triangle { corners: [a, b, p], generation, .. } = self.triangles[t];
+        let v = self.points.len();
+        let thirds = [[a, a, b], [a, b, b]].map(|vertices| self.third_of(vertices));
+        let [near_a, near_b] = self.fault.unless(Fault::ThirdsExchanged, thirds, [thirds[1], thirds[0]]);
+        self.points.extend([near_a, near_b]);
+        let (f, e) = (self.triangles.len(), self.triangles.len() + 1);
+        let middle = generation + self.fault.unless(Fault::MiddleTwoAbove, 3, 2);
+        let children = [(t, [p, a, v], generation + 2), (f, [v, v + 1, p], middle), (e, [b, p, v + 1], generation + 2)];
+        self.triangles.extend([self.triangles[t]; 2]);
+        self.move_sides(&[
+            (Side::new(t, 2), Side::new(t, 0)), // P→A
+            (Side::new(t, 1), Side::new(e, 0)), // B→P
+        ]);
+        for (slot, corners, generation) in children {
+            self.triangles[slot].corners = corners;
+            self.triangles[slot].generation = generation;
+        }
+        // A→A', A'→B' and B'→B.
+        for side in [Side::new(t, 1), Side::new(f, 0), Side::new(e, 2)] {
+            self.set_link(side, None);
+        }
+        self.join(Side::new(t, 2), Side::new(f, 2)); // A'→P and P→A'
+        self.join(Side::new(f, 1), Side::new(e, 1)); // B'→P and P→B'
+        if self.fault.has(Fault::OuterNotFlipped) { 0 } else { self.flip_those_of(&[t, e]) }
+    }
+
+    /// Flips each of these triangles, in this order, whose base meets a base. Answers the flips.
+    fn flip_those_of(&mut self, slots: &[usize]) -> u32 {
         let mut flips = 0;
-        for s in slots {
+        for &s in slots {
             if let Some(u) = self.base_meets_base(s) {
                 self.flip(s, u);
                 flips += 1;
@@ -129,25 +180,28 @@ impl Mesh {
         BaseChain { odd, even_end: Some(at) }
     }
 
-    /// Refines a triangle: one face split if it is even; else one for each odd triangle of its chain, from the even
-    /// end on, each at what lies across the previous base by then.
+    /// Refines a triangle. Even: one face split. Odd: splits from the chain's end on, until the triangle is flipped.
+    /// The face split of an even end flips the last odd triangle; the rim split at the boundary takes the last odd one,
+    /// and flips the one before it. Each of the others is flipped by the face split of what is then across its base.
     pub fn refine(&mut self, t: usize) -> Work {
         let chain = self.base_chain(t);
         let length = chain.odd.len();
-        let followed = self.fault.unless(Fault::ChainNotFollowed, length, length.min(1));
         let mut work = Work::default();
-        if chain.odd.is_empty() {
-            work.flips += self.face_split(t);
-            work.splits += 1;
+        let mut unflipped = length;
+        if chain.even_end.is_none() {
+            work.add(self.rim_split(chain.odd[length - 1]));
+            unflipped = length.saturating_sub(2);
+        } else if length == 0 {
+            work.add(self.face_split(t));
         }
+        let followed = self.fault.unless(Fault::ChainNotFollowed, unflipped, unflipped.min(1));
         for index in (0..followed).rev() {
             // The even triangle may stand in another slot than the chain member it comes from: the link is followed
             // each time.
             let base = Side::new(chain.odd[index], 0);
-            let even = self.across(base).expect("the chain does not end at the boundary").triangle;
+            let even = self.across(base).expect("only the last base of a chain can be on the boundary").triangle;
             let remembered = chain.odd.get(index + 1).copied().unwrap_or(even);
-            work.flips += self.face_split(self.fault.unless(Fault::ChainSlotsRemembered, even, remembered));
-            work.splits += 1;
+            work.add(self.face_split(self.fault.unless(Fault::ChainSlotsRemembered, even, remembered)));
         }
         work
     }

@@ -2,7 +2,7 @@
 
 use crate::fault::{Fault, Seeded};
 use crate::load::mesh_of_cage;
-use crate::mesh::Mesh;
+use crate::mesh::{Mesh, Side};
 use crate::smooth::{LONGEST_RING, limit_points, whole_step};
 use crate::sound::is_sound;
 use crate::tables::{
@@ -60,7 +60,7 @@ impl Twin {
         Ok(Answer { counts, ..Answer::default() })
     }
 
-    /// Refine: 1, 7, 8, 9, 10, 11.
+    /// Refine: 1, 7, 8, 9, 11. Condition 10 is no more.
     fn refine(&self, tables: &mut Tables, counts: Counts, t: usize) -> Result<Answer, u32> {
         refuse_unless(self.tables_agree(tables), 1)?;
         if self.fault.has(Fault::UseBeforeSound) {
@@ -70,18 +70,27 @@ impl Twin {
         refuse_unless(t < mesh.triangles.len(), 8)?;
         let generation = mesh.triangles[t].generation;
         refuse_unless(generation != LAST_GENERATION, 9)?;
+        let base_at_boundary = generation % 2 == 1 && mesh.across(Side::new(t, 0)).is_none();
+        let too_old = generation == LAST_GENERATION - 1 && base_at_boundary;
+        refuse_unless(!too_old || self.fault.has(Fault::NineteenAtBoundary), 9)?;
         let chain = mesh.base_chain(t);
-        // An even triangle takes one split, an odd one as many as its chain has odd triangles.
-        let splits = chain.odd.len().max(1);
-        let triangles_needed = self.fault.unless(Fault::SlotsOffByOne, 2 * splits, 2 * splits + 1);
-        if self.fault.has(Fault::SlotsBeforeBoundary) {
-            refuse_unless(has_slots(tables, &mesh, splits, triangles_needed), 11)?;
-        }
-        refuse_unless(chain.even_end.is_some(), 10)?;
-        refuse_unless(has_slots(tables, &mesh, splits, triangles_needed), 11)?;
+        let at_boundary = chain.even_end.is_none();
+        let (vertices_needed, triangles_needed) = match chain.odd.len() {
+            0 => (1, 2),
+            odd if !at_boundary => (odd, 2 * odd),
+            1 => (2, 2),
+            odd => (odd, 2 * (odd - 1)),
+        };
+        let fewer = at_boundary && self.fault.has(Fault::RoomForOneVertex);
+        let vertices_needed = if fewer { vertices_needed - 1 } else { vertices_needed };
+        let triangles_needed = self.fault.unless(Fault::SlotsOffByOne, triangles_needed, triangles_needed + 1);
+        refuse_unless(has_slots(tables, &mesh, vertices_needed, triangles_needed), 11)?;
         let mut work = mesh.refine(t);
         if self.fault.has(Fault::SplitsFromGeneration) && generation % 2 == 1 {
             work.splits = u32::from(generation).div_ceil(2);
+        }
+        if self.fault.has(Fault::SplitsAsOdd) && at_boundary {
+            work.splits = chain.odd.len() as u32;
         }
         mesh.write(tables);
         Ok(Answer { splits: work.splits, flips: work.flips, counts: mesh.counts(), ..Answer::default() })
@@ -182,7 +191,7 @@ fn rings_have_weights(mesh: &Mesh) -> bool {
     mesh.leaving_sides().iter().all(|leaving| mesh.ring(leaving).len() <= LONGEST_RING)
 }
 
-/// Condition 11: a face split takes one vertex slot and two triangle slots.
+/// The opposite of condition 11: so many slots are free.
 fn has_slots(tables: &Tables, mesh: &Mesh, vertices_needed: usize, triangles_needed: usize) -> bool {
     mesh.points.len() + vertices_needed <= tables.positions.len() / 3
         && mesh.triangles.len() + triangles_needed <= tables.generations.len()

@@ -1,27 +1,30 @@
-//! Refine: the base chain, the face split and the flip, in place.
+//! Refine: the base chain, the face split, the rim split and the flip, in place.
 
 use super::{LAST_GENERATION, triple};
 use crate::tables::{BOUNDARY, Counts, Tables, Worked};
 
-/// Refines a triangle of sound tables, or refuses with 8 to 11.
+/// Refines a triangle of sound tables, or refuses with 8, 9 or 11.
 pub fn refine(tables: &mut Tables, counts: Counts, t: u32) -> Result<Worked, u32> {
     if counts.triangles <= t {
         return Err(8);
     }
-    if tables.generations[t as usize] == LAST_GENERATION {
+    let (generation, base) = (tables.generations[t as usize], tables.links[3 * t as usize]);
+    if generation == LAST_GENERATION || (generation == LAST_GENERATION - 1 && base == BOUNDARY) {
         return Err(9);
     }
     let (odd, end) = base_chain(tables, t as usize);
-    let splits = odd.max(1);
-    if tables.generations[end] % 2 == 1 {
-        return Err(10);
-    }
+    let rim_splits = usize::from(tables.generations[end] % 2);
+    let splits = odd.saturating_sub(rim_splits).max(1);
     let room = (tables.positions.len() / 3, tables.generations.len());
-    if room.0 < counts.vertices as usize + splits || room.1 < counts.triangles as usize + 2 * splits {
+    if room.0 < counts.vertices as usize + splits + rim_splits || room.1 < counts.triangles as usize + 2 * splits {
         return Err(11);
     }
     let mut worked = Worked { counts, ..Worked::default() };
-    face_split(tables, &mut worked, end);
+    if rim_splits == 0 {
+        face_split(tables, &mut worked, end);
+    } else {
+        rim_split(tables, &mut worked, end);
+    }
     for _ in 1..splits {
         let (_, end) = base_chain(tables, t as usize);
         face_split(tables, &mut worked, end);
@@ -52,8 +55,7 @@ fn face_split(tables: &mut Tables, worked: &mut Worked, t: usize) {
     let (p, f) = (worked.counts.vertices, worked.counts.triangles as usize);
     let (corners, links) = (triple(&tables.corners, t), triple(&tables.links, t));
     let [x, y, z] = corners.map(|corner| triple(&tables.positions, corner as usize));
-    let centre = [0, 1, 2].map(|axis| third(x[axis] + y[axis] + z[axis]));
-    tables.positions[3 * p as usize..3 * p as usize + 3].copy_from_slice(&centre);
+    place(tables, p, [x, y, z]);
     let slots = [t, f, f + 1];
     let generation = tables.generations[t] + 1;
     for i in 0..3 {
@@ -66,7 +68,44 @@ fn face_split(tables: &mut Tables, worked: &mut Worked, t: usize) {
     }
     worked.counts = Counts { vertices: p + 1, triangles: f as u32 + 2 };
     worked.splits += 1;
-    for s in slots {
+    settle(tables, worked, &slots);
+}
+
+/// The rim split of t = (A,B,P) with its flips: A' is vertex v, B' is v + 1.
+fn rim_split(tables: &mut Tables, worked: &mut Worked, t: usize) {
+    let (v, f) = (worked.counts.vertices, worked.counts.triangles as usize);
+    let e = f + 1;
+    let ([a, b, p], [_, bp, pa]) = (triple(&tables.corners, t), triple(&tables.links, t));
+    let [x, y] = [a, b].map(|corner| triple(&tables.positions, corner as usize));
+    place(tables, v, [x, x, y]);
+    place(tables, v + 1, [x, y, y]);
+    let side = |slot: usize, number: u32| 3 * slot as u32 + number;
+    let generation = tables.generations[t] + 2;
+    for (slot, corners, links, generation) in [
+        (t, [p, a, v], [pa, BOUNDARY, side(f, 2)], generation),
+        (f, [v, v + 1, p], [BOUNDARY, side(e, 1), side(t, 2)], generation + 1),
+        (e, [b, p, v + 1], [bp, side(f, 1), BOUNDARY], generation),
+    ] {
+        tables.corners[3 * slot..3 * slot + 3].copy_from_slice(&corners);
+        tables.links[3 * slot..3 * slot + 3].copy_from_slice(&links);
+        tables.generations[slot] = generation;
+    }
+    relink(tables, pa, 3 * t);
+    relink(tables, bp, 3 * e);
+    worked.counts = Counts { vertices: v + 2, triangles: f as u32 + 2 };
+    worked.splits += 1;
+    settle(tables, worked, &[t, e]);
+}
+
+/// Places a vertex at the nearest third of three points.
+fn place(tables: &mut Tables, vertex: u32, [x, y, z]: [[i32; 3]; 3]) {
+    let point = [0, 1, 2].map(|axis| third(x[axis] + y[axis] + z[axis]));
+    tables.positions[3 * vertex as usize..3 * vertex as usize + 3].copy_from_slice(&point);
+}
+
+/// Flips each of these triangles whose base meets a base.
+fn settle(tables: &mut Tables, worked: &mut Worked, slots: &[usize]) {
+    for &s in slots {
         let across = tables.links[3 * s] as usize;
         if across.is_multiple_of(3) && tables.generations.get(across / 3).is_some_and(|g| g % 2 == 1) {
             flip(tables, s, across / 3);
