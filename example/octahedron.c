@@ -1,4 +1,5 @@
-/* Loads an octahedron, and reads where ever more whole steps would take its vertices. */
+/* Loads an octahedron, and reads where ever more whole steps without rounding would take its
+   vertices. */
 #include "rawplinth.h"
 
 #include <stdio.h>

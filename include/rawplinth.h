@@ -12,7 +12,8 @@
 extern "C" {
 #endif
 
-/* Raised by every change of a signature, a struct or an answer; docs/changes/README.md has a line for each. */
+/* Raised by every new call and every change of a signature, a struct or an answer; docs/changes/README.md has a line
+   for each. */
 #define RAWPLINTH_VERSION 3
 
 /* What a side without a partner links to. */
@@ -151,8 +152,8 @@ rawplinth_position_read rawplinth_position(
     rawplinth_counts counts,
     uint32_t vertex);
 
-/* Reads the limit positions of a closed mesh of one even generation: where ever more whole steps would take its
-   vertices, three coordinates a vertex, each to the nearest, half going up. The table has 3 entries for each vertex in
+/* Reads the limit positions of a closed mesh of one even generation: where ever more whole steps without
+   rounding would take its vertices, three coordinates a vertex, each to the nearest, half going up. The table has 3 entries for each vertex in
    use, neither fewer nor more, and is none of the mesh's own.
    Refuses with 1, 7, 12, 13, 15, in this order. Writes the table, and nothing else. */
 rawplinth_limit_read rawplinth_limit(
