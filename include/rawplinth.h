@@ -152,9 +152,9 @@ rawplinth_position_read rawplinth_position(
     rawplinth_counts counts,
     uint32_t vertex);
 
-/* Reads the limit positions of a closed mesh of one even generation: where ever more whole steps without
-   rounding would take its vertices, three coordinates a vertex, each to the nearest, half going up. The table has 3 entries for each vertex in
-   use, neither fewer nor more, and is none of the mesh's own.
+/* Reads the limit positions of a closed mesh of one even generation: where ever more whole steps without rounding would
+   take its vertices, three coordinates a vertex, each to the nearest, half going up. The table has 3 entries for each
+   vertex in use, neither fewer nor more, and is none of the mesh's own.
    Refuses with 1, 7, 12, 13, 15, in this order. Writes the table, and nothing else. */
 rawplinth_limit_read rawplinth_limit(
     const int32_t *positions, size_t positions_length,
