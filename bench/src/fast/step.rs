@@ -1,6 +1,6 @@
-//! The whole step in closed form, and the limit positions. On a closed mesh of one even generation every edge is flipped, so that each old
-//! side x gives one new triangle, in a slot that x alone decides: (origin of x, centre across x, centre of x's own
-//! triangle).
+//! The whole step in closed form, and the limit positions. On a closed mesh of one even generation every edge is
+//! flipped, so that each old side x gives one new triangle, in a slot that x alone decides: (origin of x, centre across
+//! x, centre of x's own triangle).
 
 use super::LAST_GENERATION;
 use super::split::third;
