@@ -2,16 +2,16 @@
 use libc::STDOUT_FILENO;
 use tables::Counts;
 use tables::Worked;
+ghost use Prim.Native.Nat.{_%_, _≤_};
 ghost use mathlib.Core.Path.{_≡_};
-ghost use mathlib.Core.List.{List};
-ghost use Prim.Native.Nat.{ℕ};
+ghost use lib.ListN.{length, take};
 ghost use Rattle.tables.specs.Lent.{meshNow};
-ghost use Rattle.refine.specs.Requests.{afterBytes};
+ghost use Rattle.refine.specs.Requests.{afterBytes, AllAnswered};
 
-// The counts after some requests, and whether there may be more.
+// The counts after the requests of a read, and how many bytes of the buffer it filled.
 struct Answered {
     counts: Counts,
-    more: bool,
+    read: usize,
 }
 
 fn put(n: u32, after: &[u8]) {
@@ -77,7 +77,7 @@ fn answer(
     at
 }
 
-// Reads and answers some requests. All four bytes of each are read at once, as the buffer's length is a multiple of 4.
+// Reads into the buffer, and answers the requests that it then holds.
 fn answer_some(
     positions: &mut [i32],
     corners: &mut [u32],
@@ -85,14 +85,15 @@ fn answer_some(
     generations: &mut [u8],
     counts: Counts,
     fd: i32,
+    requests: &mut [u8],
 ) -> Answered
-    ensures { λ r. ⌜ ((read : List ℕ) ×
-        (meshNow (r .counts) (now (positions .exit)) (now (corners .exit)) (now (links .exit)) (now (generations .exit))
-        ≡ afterBytes read (meshNow counts (now (positions .entry)) (now (corners .entry))
-        (now (links .entry)) (now (generations .entry))))) ⌝ }
+    ensures { λ r. ⌜ r .read ≤ length (now (requests .exit)) ⌝ }
+    ensures { λ r. ⌜
+        meshNow (r .counts) (now (positions .exit)) (now (corners .exit)) (now (links .exit)) (now (generations .exit))
+        ≡ afterBytes (take (r .read) (now (requests .exit))) (meshNow counts (now (positions .entry))
+        (now (corners .entry)) (now (links .entry)) (now (generations .entry))) ⌝ }
 {
-    let mut requests = io::large_buffer();
-    let n = io::read_full(fd, &mut requests);
+    let n = io::read_full(fd, requests);
     let after = answer(
         positions,
         corners,
@@ -103,12 +104,13 @@ fn answer_some(
     );
     Answered {
         counts: after,
-        more: n == 65536,
+        read: n,
     }
 }
 
-// Answers all requests. A proved loop has to end, and nothing says that a file does: its turns are counted down from a
-// number that no run uses up.
+// Answers all requests, read by read, until a read does not fill the buffer. Its length is a multiple of 4, so that no
+// request comes in two reads. A proved loop has to end, and nothing says that a file does: its turns are counted down
+// from a number that no run uses up.
 fn answer_all(
     positions: &mut [i32],
     corners: &mut [u32],
@@ -116,13 +118,30 @@ fn answer_all(
     generations: &mut [u8],
     counts: Counts,
     fd: i32,
-) {
-    let mut state = Answered { counts, more: true };
+    requests: &mut [u8],
+) -> Answered
+    requires { ⌜ length (now requests) % 4 ≡ 0 ⌝ }
+    ensures { λ r. ⌜ AllAnswered (length (now (requests .exit))) (take (r .read) (now (requests .exit)))
+        (meshNow counts (now (positions .entry)) (now (corners .entry)) (now (links .entry))
+        (now (generations .entry)))
+        (meshNow (r .counts) (now (positions .exit)) (now (corners .exit)) (now (links .exit))
+        (now (generations .exit))) ⌝ }
+{
+    let mut last = answer_some(positions, corners, links, generations, counts, fd, requests);
     let mut turns = u64::MAX;
-    while turns > 0 && state.more {
-        state = answer_some(positions, corners, links, generations, state.counts, fd);
+    while turns > 0 && last.read == requests.len() {
+        last = answer_some(
+            positions,
+            corners,
+            links,
+            generations,
+            last.counts,
+            fd,
+            requests,
+        );
         turns -= 1;
     }
+    last
 }
 
 fn main() {
@@ -142,6 +161,7 @@ fn main() {
     if fd < 0 {
         return;
     }
+    let mut requests = io::large_buffer();
     answer_all(
         &mut positions,
         &mut corners,
@@ -149,6 +169,7 @@ fn main() {
         &mut generations,
         loaded.counts,
         fd,
+        &mut requests,
     );
     libc::close(fd);
 }
