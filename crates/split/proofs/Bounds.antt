@@ -4,7 +4,7 @@ use native.Mathlib.Decide.{ℕ-discrete, decLt}
 use native.Mathlib.Omega.{arith}
 use native.Mathlib.Nat.{le-trans}
 use mathlib.Core.Bool.{Bool, true, false}
-use mathlib.Core.List.{List}
+use mathlib.Core.List.{List, [], _∷_}
 use mathlib.Core.Path.{_≡_, refl, sym}
 use lib.ListN.{length, getD, set, List·getD-eq-default}
 use lib.Seq.{getD-set-same, getD-set-other, set-out}
@@ -12,8 +12,8 @@ use Rattle.rules.proofs.Splits.Bases.{base-is}
 use Rattle.rules.proofs.Numbers.Decide.{when-true}
 use Rattle.rules.proofs.Chains.RefineLoop.{settle-counts}
 use Rattle.rules.proofs.Chains.Runs.{split-even, split-odd}
-use Rattle.rules.specs.Split.{Work, withSplit, split, rimCut, flip, withFlip, splitPlaced, rimPlaced, settle, faceSplit}
-use Rattle.rules.specs.Split.{rimSplit}
+use Rattle.rules.specs.Split.{Work, withSplit, split, rimCut, flip, withFlip, splitPlaced, rimPlaced, settle, settleAll}
+use Rattle.rules.specs.Split.{faceSplit, rimSplit, splitAt}
 use Rattle.rules.specs.Tables.{Topology, withTopology, link, generation, isBase}
 use Rattle.split.specs.Made.{Hands}
 
@@ -57,51 +57,43 @@ three-low l t f e a b c k i j h =
       le-trans (written-at-most two e c) h,
     )
 
+-- A cut that writes the generations g, h and g leaves three young triangles.
+cut-hands : (t g h : ℕ) (w : Work) (slots : List ℕ) (cut : Work) →
+    let m = w .mesh .topology in
+    cut .mesh .topology .generations ≡ set (set (set (m .generations) t g) (m .triangles) h) (m .triangles + 1) g
+    → cut .flips ≡ w .flips → g < 23 → h < 23 → settleAll slots cut ≡ splitAt t w → Hands t w slots cut
+cut-hands t g h w slots cut written flips i j settled =
+    let m : Topology = w .mesh .topology in
+    let low =
+    three-low (m .generations) t (m .triangles) (m .triangles + 1) g h g 22 (omega arith) (omega arith)
+    (omega arith) in
+    record {
+      settled = settled;
+      own = rw written (omega (arith, low .0));
+      second = rw written (omega (arith, low .1));
+      third = rw written (omega (arith, low .2));
+      flips = flips;
+    }
+
 module _ (t : ℕ) (w a : Work) (young : generation (w .mesh .topology) t < 20) where
-  -- A face split leaves three triangles one above t.
+  -- A face split leaves its three triangles, one above t.
   pub face-hands : a ≡ withSplit (splitPlaced t (w .mesh)) w → generation (w .mesh .topology) t % 2 ≡ 0
-      → Hands t w true a
+      → let f = w .mesh .topology .triangles in
+      Hands t w (t ∷ f ∷ (f + 1) ∷ []) a
   unfolding faceSplit splitPlaced split
   face-hands ea even =
-      let m : Topology = w .mesh .topology in
-      let g : ℕ = suc (generation m t) in
-      let low =
-      three-low (m .generations) t (m .triangles) (m .triangles + 1) g g g 20 (omega arith) (omega arith)
-      (omega arith) in
-      rw ea (record {
-        settled = sym (split-even t w even);
-        own = omega (arith, low .0);
-        second = omega (arith, low .1);
-        third = omega (arith, low .2);
-        flips = refl;
-      })
+      let g : ℕ = suc (generation (w .mesh .topology) t) in
+      rw ea (cut-hands t g g w _ _ refl refl (omega arith) (omega arith) (sym (split-even t w even)))
 
   -- A rim split leaves the outer two of its three triangles.
   pub rim-hands : a ≡ withSplit (rimPlaced t (w .mesh)) w → generation (w .mesh .topology) t % 2 ≡ 1
-      → Hands t w false a
+      → Hands t w (t ∷ (w .mesh .topology .triangles + 1) ∷ []) a
   unfolding rimSplit rimPlaced rimCut
   rim-hands ea odd =
-      let m : Topology = w .mesh .topology in
-      let g : ℕ = generation m t in
-      let low =
-      three-low (m .generations) t (m .triangles) (m .triangles + 1) (g + 2) (g + 3) (g + 2) 22 (omega arith)
-      (omega arith) (omega arith) in
-      rw ea (record {
-        settled = sym (split-odd t w odd);
-        own = omega (arith, low .0);
-        second = omega (arith, low .1);
-        third = omega (arith, low .2);
-        flips = refl;
-      })
+      let g : ℕ = generation (w .mesh .topology) t in
+      rw ea (cut-hands t (g + 2) (g + 3) w _ _ refl refl (omega arith) (omega arith) (sym (split-odd t w odd)))
 
 -- ---- the settlings
-
--- The children in the slots t, f and e are of generation k at most, with n flips counted at most.
-pub record Low (t f e k n : ℕ) (w : Work) : Type 0 where
-  pub at-t : generation (w .mesh .topology) t ≤ k
-  pub at-f : generation (w .mesh .topology) f ≤ k
-  pub at-e : generation (w .mesh .topology) e ≤ k
-  pub flips : w .flips ≤ n
 
 -- Settling s raises it by one, and brings another to the same generation.
 settle-young : (s x k : ℕ) (w : Work) → generation (w .mesh .topology) s ≤ k → generation (w .mesh .topology) x ≤ k
@@ -124,11 +116,7 @@ settle-young s x k w i j = go (isBase m h)
         kept-at-most (set (m .generations) s g) (h / 3) g x (suc k) b (omega arith)
     go false = omega arith
 
-pub low-settle : (s : ℕ) {t f e k n : ℕ} {w : Work} (a : Work) → Low t f e k n w → generation (w .mesh .topology) s ≤ k
-    → a ≡ settle s w → Low t f e (suc k) (suc n) a
-low-settle s {t} {f} {e} {k} {n} {w} a L i ea = rw ea (record {
-  at-t = settle-young s t k w i (L .at-t);
-  at-f = settle-young s f k w i (L .at-f);
-  at-e = settle-young s e k w i (L .at-e);
-  flips = omega (arith, settle-counts s w, L .flips);
-})
+-- After it another is one above k at most, and one flip more is counted at most.
+pub settle-low : (s x k : ℕ) (w a : Work) → generation (w .mesh .topology) s ≤ k → generation (w .mesh .topology) x ≤ k
+    → a ≡ settle s w → (generation (a .mesh .topology) x ≤ suc k) × (a .flips ≤ w .flips + 1)
+settle-low s x k w a i j ea = rw ea (settle-young s x k w i j, settle-counts s w)

@@ -9,12 +9,12 @@ use lib.ListN.{getD}
 use Rattle.points.specs.declared.Point.{Point}
 use Rattle.points.specs.Axes.{eachAxis, thirds}
 use Rattle.rules.specs.Split.{Work, withSplit, thirdOf, centre, firstThird, secondThird, split, splitPlaced, rimCut}
-use Rattle.rules.specs.Split.{rimPlaced, flip, settle, settleAll}
+use Rattle.rules.specs.Split.{rimPlaced, flip, settle}
 use Rattle.rules.specs.Tables.{Topology, Mesh, meshOf, withTopology, origin, link, isBase, coordinate, withCounts}
 use Rattle.rules.specs.Tables.{relink}
 use Rattle.tables.specs.declared.Triangle.{Triangle}
 use Rattle.tables.specs.Lent.{triangleAt, put, putPoint}
-use Rattle.split.specs.Made.{waiting, childrenOf, rimChildrenOf, blank, replaced, flippedOf}
+use Rattle.split.specs.Made.{childrenOf, rimChildrenOf, blank, replaced, flippedOf}
 
 pub flip-steps : (s u : ℕ) (m a b c d : Topology) (x y none : Triangle) (r : List Triangle)
     → x ≡ triangleAt m s → y ≡ triangleAt m u → r ≡ flippedOf x y s u
@@ -79,11 +79,3 @@ pub rim-cut-steps : (t : ℕ) (w : Work) (e : Topology) (p q : Point) (one two :
 unfolding rimPlaced rimCut firstThird secondThird
 rim-cut-steps t w e p q one two x r ep eq eo et ex er ee =
     rw (ee, er, ex, et, eo, eq, ep, rimPlaced, rimCut, firstThird, secondThird, add-one (w .splits))
-
-pub settle-three : (t f : ℕ) (w a b c : Work) (middle : Bool) → middle ≡ true → a ≡ settle t w → b ≡ settle f a
-    → c ≡ settle (f + 1) b → c ≡ settleAll (waiting middle t f) w
-settle-three t f w a b c middle em ea eb ec = rw (ec, eb, ea, em)
-
-pub settle-two : (t f : ℕ) (w a b : Work) (middle : Bool) → middle ≡ false → a ≡ settle t w → b ≡ settle (f + 1) a
-    → b ≡ settleAll (waiting middle t f) w
-settle-two t f w a b middle em ea eb = rw (eb, ea, em)

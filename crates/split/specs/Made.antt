@@ -1,6 +1,5 @@
 -- What splits, flips and chains make, as records of the code.
 use Prim.Native.Nat.{ℕ, suc, _+_, _*_, _%_, _≤_, _<_}
-use mathlib.Core.Bool.{Bool, true, false}
 use mathlib.Core.List.{List, [], _∷_}
 use mathlib.Core.Path.{_≡_}
 use lib.IntN.{ℤ}
@@ -40,15 +39,10 @@ pub record MaySplit (t : ℕ) (w : rules.Work) : Type 0 where
   pub splits : w .splits < 4294967295
   pub flips : w .flips + 3 ≤ 4294967295
 
--- The triangles that a split of t leaves to be settled: t and f + 1, and f between them where it is odd too.
-abbrev pub waiting : Bool → ℕ → ℕ → List ℕ
-waiting true t f = t ∷ f ∷ (f + 1) ∷ []
-waiting false t f = t ∷ (f + 1) ∷ []
-
--- What the split of t in w hands to its flips: its cut, of which they make the split. The three triangles are young,
--- and no flip is counted.
-pub record Hands (t : ℕ) (w : rules.Work) (middle : Bool) (cut : rules.Work) : Type 0 where
-  pub settled : settleAll (waiting middle t (w .mesh .topology .triangles)) cut ≡ splitAt t w
+-- What the split of t in w hands to its flips: its cut, of which they make the split by settling these slots. The three
+-- triangles are young, and no flip is counted.
+pub record Hands (t : ℕ) (w : rules.Work) (slots : List ℕ) (cut : rules.Work) : Type 0 where
+  pub settled : settleAll slots cut ≡ splitAt t w
   pub own : generation (cut .mesh .topology) t < 23
   pub second : generation (cut .mesh .topology) (w .mesh .topology .triangles) < 23
   pub third : generation (cut .mesh .topology) (w .mesh .topology .triangles + 1) < 23

@@ -4,11 +4,26 @@ use mathlib.Core.Path.{_∙_}
 use Rattle.split.proofs.split_at.Statement.{statement}
 use Rattle.split.proofs.split_at.Tie as tie
 
-cut-requires : tie.Need-cut-requires
-cut-requires c κs = search needs
+generation-at-requires : tie.Need-generation-at-requires
+generation-at-requires c κs = search needs
 
-settle-all-requires : tie.Need-settle-all-requires
-settle-all-requires c κs = search needs
+face-cut-requires : tie.Need-face-cut-requires
+face-cut-requires c κs = search needs
+
+add-settle-three : tie.Need-add-settle-three
+add-settle-three c = search needs
+
+settle-three-requires : tie.Need-settle-three-requires
+settle-three-requires c κs = search needs
+
+rim-cut-requires : tie.Need-rim-cut-requires
+rim-cut-requires c κs = search needs
+
+add-settle-two : tie.Need-add-settle-two
+add-settle-two c = search needs
+
+settle-two-requires : tie.Need-settle-two-requires
+settle-two-requires c κs = search needs
 
 same-length : tie.Need-same-length
 same-length c = search needs
@@ -24,19 +39,48 @@ same-length-4 c = search needs
 
 returns : tie.Need-returns
 returns c =
-    let at-settle-all = c .before .before .before .before .before .before in
-    let at-cut = at-settle-all .before .before .before .before .before .before .before .before .before .before
+    let at-settle-three = c .before .before .before .before .before .before in
+    let at-face-cut = at-settle-three .before .before .before .before .before .before .before .before .before .before
     .before in
-    at-settle-all .settle-all .ensures _ ∙ at-cut .cut .ensures .settled
+    at-settle-three .settle-three .ensures _ ∙ at-face-cut .face-cut .ensures .settled
+
+same-length-5 : tie.Need-same-length-5
+same-length-5 c = search needs
+
+same-length-6 : tie.Need-same-length-6
+same-length-6 c = search needs
+
+same-length-7 : tie.Need-same-length-7
+same-length-7 c = search needs
+
+same-length-8 : tie.Need-same-length-8
+same-length-8 c = search needs
+
+returns-2 : tie.Need-returns-2
+returns-2 c =
+    let at-settle-two = c .before .before .before .before .before .before in
+    let at-rim-cut = at-settle-two .before .before .before .before .before .before .before .before .before .before
+    .before in
+    at-settle-two .settle-two .ensures _ ∙ at-rim-cut .rim-cut .ensures .settled
 
 pub split-at-spec : {M : Type 1} → statement M
 split-at-spec =
     tie.close
     (tie.spec
-    cut-requires
-    settle-all-requires
+    generation-at-requires
+    face-cut-requires
+    add-settle-three
+    settle-three-requires
+    rim-cut-requires
+    add-settle-two
+    settle-two-requires
     same-length
     same-length-2
     same-length-3
     same-length-4
-    returns)
+    returns
+    same-length-5
+    same-length-6
+    same-length-7
+    same-length-8
+    returns-2)
