@@ -1,5 +1,5 @@
-/* Loads an octahedron, and reads where ever more whole steps without rounding would take its
-   vertices. */
+/* Loads an octahedron, reads where ever more whole steps without rounding would take its vertices, and shows how the
+   two rules round halves. */
 #include "rawplinth.h"
 
 #include <stdio.h>
@@ -15,23 +15,28 @@ static uint8_t generations[TRIANGLES];
 #define TABLES positions, 3 * VERTICES, corners, 3 * TRIANGLES, links, 3 * TRIANGLES, generations, TRIANGLES
 
 /* The sizes, the coordinates and the corners: 9 mm from the centre to each vertex. */
-static const int32_t cage[] = {
+static int32_t cage[] = {
     VERTICES, TRIANGLES,
     9216, 0, 0,  0, 9216, 0,  -9216, 0, 0,  0, -9216, 0,  0, 0, 9216,  0, 0, -9216,
     0, 1, 4,  1, 2, 4,  2, 3, 4,  3, 0, 4,  1, 0, 5,  2, 1, 5,  3, 2, 5,  0, 3, 5,
 };
 
-int main(void)
+/* Loads the cage by a rule. */
+static rawplinth_worked load(uint32_t rule)
 {
-    rawplinth_counts counts = {0, 0};
+    rawplinth_counts fresh = {0, 0, RAWPLINTH_HALF_UP};
     uint8_t bytes[sizeof cage];
     for (size_t i = 0; i < sizeof bytes; i++)
         bytes[i] = (uint32_t)cage[i / 4] >> 8 * (i % 4) & 255;
+    return rawplinth_load(TABLES, fresh, rule, bytes, sizeof bytes);
+}
 
-    rawplinth_worked done = rawplinth_load(TABLES, counts, bytes, sizeof bytes);
+int main(void)
+{
+    rawplinth_worked done = load(RAWPLINTH_HALF_UP);
     if (done.refusal != RAWPLINTH_OK)
         return 1;
-    counts = done.counts;
+    rawplinth_counts counts = done.counts;
 
     /* One entry for each coordinate of the vertices in use. */
     int32_t limits[3 * VERTICES];
@@ -45,5 +50,15 @@ int main(void)
 
     read = rawplinth_limit(TABLES, counts, limits, 3 * VERTICES - 1);
     printf("a table of %d entries: refused with %u\n", 3 * VERTICES - 1, read.refusal);
+
+    /* With vertex 2 at 305834 and -305834 and all others at 0, vertex 1 has its limit at 43690.5 and -43690.5: rule 2
+       keeps the two opposite. */
+    for (int i = 0; i < 3 * VERTICES; i++)
+        cage[2 + i] = i == 6 ? 305834 : i == 7 ? -305834 : 0;
+    for (uint32_t rule = RAWPLINTH_HALF_UP; rule <= RAWPLINTH_HALF_AWAY; rule++) {
+        counts = load(rule).counts;
+        rawplinth_limit(TABLES, counts, limits, 3 * VERTICES);
+        printf("halves by rule %u: %d and %d\n", counts.rule, limits[3], limits[4]);
+    }
     return 0;
 }

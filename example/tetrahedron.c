@@ -23,12 +23,12 @@ static const int32_t cage[] = {
 
 int main(void)
 {
-    rawplinth_counts counts = {0, 0};
+    rawplinth_counts counts = {0, 0, RAWPLINTH_HALF_UP};
     uint8_t bytes[sizeof cage];
     for (size_t i = 0; i < sizeof bytes; i++)
         bytes[i] = (uint32_t)cage[i / 4] >> 8 * (i % 4) & 255;
 
-    rawplinth_worked done = rawplinth_load(TABLES, counts, bytes, sizeof bytes);
+    rawplinth_worked done = rawplinth_load(TABLES, counts, RAWPLINTH_HALF_UP, bytes, sizeof bytes);
     if (done.refusal != RAWPLINTH_OK)
         return 1;
     counts = done.counts;

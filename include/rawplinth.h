@@ -14,7 +14,7 @@ extern "C" {
 
 /* Raised by every new call and every change of a signature, a struct or an answer; docs/changes/README.md has a line
    for each. */
-#define RAWPLINTH_VERSION 3
+#define RAWPLINTH_VERSION 4
 
 /* What a side without a partner links to. */
 #define RAWPLINTH_BOUNDARY UINT32_C(4294967295)
@@ -23,11 +23,21 @@ extern "C" {
 #define RAWPLINTH_MAX_VERTEX_SLOTS 32768
 #define RAWPLINTH_MAX_TRIANGLE_SLOTS 65536
 
-/* How many vertices and triangles are in use; none in a fresh store. Every call takes the counts, and its answer has
-   those for the next call. */
+/* The rules by which whole step and limit round what lies half-way between two whole numbers. Rule 2 keeps mirror
+   images: with one coordinate negated everywhere, in the tables, in a lent table and in the cage of a load, a call leaves
+   and answers the same but for this coordinate, which is negated. */
+enum {
+    RAWPLINTH_HALF_UP = 1,  /* 2.5 to 3, -2.5 to -2 */
+    RAWPLINTH_HALF_AWAY = 2 /* 2.5 to 3, -2.5 to -3 */
+};
+
+/* How many vertices and triangles are in use, and the rule that the mesh was loaded by. In a fresh store none are in
+   use, and the rule may be any number. Every call takes the counts, and its answer has those for the next call. Counts
+   that were saved before version 4 have no rule: their mesh goes on with RAWPLINTH_HALF_UP. */
 typedef struct {
     uint32_t vertices;
     uint32_t triangles;
+    uint32_t rule;
 } rawplinth_counts;
 
 /* The refusals. A refused call answers with the number, the counts that it was given and zeros, and writes nothing. */
@@ -39,7 +49,7 @@ enum {
     RAWPLINTH_COORDINATES = 4,     /* a coordinate beyond 16777216 either way */
     RAWPLINTH_SIDE_TWICE = 5,      /* two triangles with the same directed side */
     RAWPLINTH_FANS = 6,            /* a vertex whose triangles are none, or not one fan */
-    RAWPLINTH_NOT_SOUND = 7,       /* tables that are no mesh by the rules, such as a fresh store */
+    RAWPLINTH_NOT_SOUND = 7,       /* no mesh by the rules: a fresh store, damaged tables, a rule neither 1 nor 2 */
     RAWPLINTH_NOT_IN_USE = 8,      /* no such triangle or vertex in use */
     RAWPLINTH_GENERATION = 9,      /* generation 20, the last, or 19 with the base on the boundary */
     RAWPLINTH_CHAIN_OPEN = 10,     /* no call returns it: a base chain that ends at the boundary is split there */
@@ -47,7 +57,8 @@ enum {
     RAWPLINTH_NOT_UNIFORM = 12,    /* a boundary, or triangles not all of one even generation */
     RAWPLINTH_RING_LONG = 13,      /* a ring of more than 12 entries */
     RAWPLINTH_BUFFER_SHORT = 14,   /* a buffer shorter than the ring */
-    RAWPLINTH_TABLE_LENGTH = 15    /* a table that has not exactly three entries for each vertex in use */
+    RAWPLINTH_TABLE_LENGTH = 15,   /* a table that has not exactly three entries for each vertex in use */
+    RAWPLINTH_RULE = 16            /* a load by a rule that is neither 1 nor 2 */
 };
 
 /* The answer of load, refine and whole step. */
@@ -95,17 +106,19 @@ typedef struct {
    overlap, and nobody else may use it while the call runs: calls on different meshes may run at the same time. */
 
 /* Loads a cage: its numbers of vertices and triangles, 3 signed coordinates a vertex, 3 corners a triangle,
-   each number 4 bytes, low byte first. What is loaded depends neither on the counts nor on what the tables held.
-   Refuses with 1, 2, 3, 4, 5, 6, in this order. Writes the first slots of all tables. Needs 2.8 MB of stack. */
+   each number 4 bytes, low byte first. What is loaded depends neither on the counts nor on what the tables held. The
+   rule is the mesh's until the next load that is carried out.
+   Refuses with 1, 16, 2, 3, 4, 5, 6, in this order. Writes the first slots of all tables. Needs 2.8 MB of stack. */
 rawplinth_worked rawplinth_load(
     int32_t *positions, size_t positions_length,
     uint32_t *corners, size_t corners_length,
     uint32_t *links, size_t links_length,
     uint8_t *generations, size_t generations_length,
     rawplinth_counts counts,
+    uint32_t rule,
     const uint8_t *cage, size_t cage_length);
 
-/* Refines one triangle: an even one by a face split, an odd one by splits along its base chain until it is flipped.
+/* Refines one triangle: an even one by a face split, an odd one by splits along its base chain until it has risen.
    A chain that ends at the boundary is split there first: the odd triangle on the boundary becomes three, its boundary
    side is cut in three at two new vertices, and the odd triangle before it in the chain is flipped. So a chain of m odd
    triangles takes m splits, or m-1 at the boundary, one at least. Each takes one vertex and two triangles, the one at
@@ -120,7 +133,8 @@ rawplinth_worked rawplinth_refine(
     rawplinth_counts counts,
     uint32_t triangle);
 
-/* Refines every triangle of a closed mesh of one even generation, and smooths the old vertices, all at once.
+/* Refines every triangle of a closed mesh of one even generation, and smooths the old vertices, all at once, each
+   coordinate to the nearest, a half by the mesh's rule.
    Refuses with 1, 7, 12, 9, 13, 11, in this order. Writes slots in use and those that it takes. Needs 0.6 MB of stack,
    as does limit. */
 rawplinth_worked rawplinth_whole_step(
@@ -154,8 +168,8 @@ rawplinth_position_read rawplinth_position(
     uint32_t vertex);
 
 /* Reads the limit positions of a closed mesh of one even generation: where ever more whole steps without rounding would
-   take its vertices, three coordinates a vertex, each to the nearest, half going up. The table has 3 entries for each
-   vertex in use, neither fewer nor more, and is none of the mesh's own.
+   take its vertices, three coordinates a vertex, each to the nearest, a half by the mesh's rule. The table has 3
+   entries for each vertex in use, neither fewer nor more, and is none of the mesh's own.
    Refuses with 1, 7, 12, 13, 15, in this order. Writes the table, and nothing else. */
 rawplinth_limit_read rawplinth_limit(
     const int32_t *positions, size_t positions_length,

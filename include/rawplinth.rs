@@ -3,14 +3,19 @@
 
 /// Raised with that of the header. A program may go without it.
 #[allow(dead_code)]
-pub const RAWPLINTH_VERSION: u32 = 3;
+pub const RAWPLINTH_VERSION: u32 = 4;
 
-/// The vertices and triangles in use.
+/// The rules by which a mesh rounds halves: up, or away from zero.
+pub const RAWPLINTH_HALF_UP: u32 = 1;
+pub const RAWPLINTH_HALF_AWAY: u32 = 2;
+
+/// The vertices and triangles in use, and the mesh's rule. A mesh saved before version 4 goes on with rule 1.
 #[repr(C)]
 #[derive(Clone, Copy, Debug, Default, PartialEq, Eq)]
 pub struct Counts {
     pub vertices: u32,
     pub triangles: u32,
+    pub rule: u32,
 }
 
 /// The answer of load, refine and whole step. Refine splits at the boundary, too, and no call returns 10.
@@ -62,6 +67,7 @@ unsafe extern "C" {
         generations: *mut u8,
         generations_length: usize,
         counts: Counts,
+        rule: u32,
         cage: *const u8,
         cage_length: usize,
     ) -> Worked;

@@ -2,15 +2,18 @@
 
 use crate::cages::{self, Cage};
 use crate::fast;
-use crate::tables::{Answer, BOUNDARY, Call, Lent};
+use crate::tables::{Answer, BOUNDARY, Call, HALF_AWAY, HALF_UP, Lent};
 
 /// The refine that makes the most splits.
 pub const LONGEST: &str = "refine, chain of 10";
 /// A rim split, and the longest chain that ends with one, on a cage with a boundary.
 pub const AT_BOUNDARY: &str = "refine at the boundary";
 pub const LONGEST_AT_BOUNDARY: &str = "refine at the boundary, chain of 10";
+/// The calls that round halves, by either rule.
+pub const STEPS: [&str; 2] = ["whole step", "whole step, rule 2"];
+pub const LIMITS: [&str; 2] = ["limit", "limit, rule 2"];
 
-const NAMES: [&str; 11] = [
+const NAMES: [&str; 13] = [
     "load",
     "soundness",
     "refine even",
@@ -18,10 +21,12 @@ const NAMES: [&str; 11] = [
     LONGEST,
     AT_BOUNDARY,
     LONGEST_AT_BOUNDARY,
-    "whole step",
+    STEPS[0],
+    STEPS[1],
     "ring",
     "position",
-    "limit",
+    LIMITS[0],
+    LIMITS[1],
 ];
 
 pub struct Case {
@@ -45,7 +50,7 @@ pub fn all() -> Vec<Case> {
     let step_spheres = [10, 33].map(cages::sphere);
     let mut list = Vec::new();
     for name in NAMES {
-        let spheres = if name == "whole step" { &step_spheres } else { &spheres };
+        let spheres = if STEPS.contains(&name) { &step_spheres } else { &spheres };
         for cage in [cages::tetrahedron()].iter().chain(spheres) {
             let open = name == AT_BOUNDARY || name == LONGEST_AT_BOUNDARY;
             let cage = if open { &cage.clone().opened() } else { cage };
@@ -59,8 +64,9 @@ pub fn all() -> Vec<Case> {
 /// The middle triangle or vertex is taken, so that neither end of the tables is favoured.
 fn case(name: &'static str, cage: &Cage, shuffled: bool) -> Case {
     let mut lent = cage.lent();
-    set_up(&mut lent, Call::Load);
-    if name == "limit" {
+    let rule = if name == STEPS[1] || name == LIMITS[1] { HALF_AWAY } else { HALF_UP };
+    set_up(&mut lent, Call::Load(rule));
+    if LIMITS.contains(&name) {
         lent.table = vec![0; 3 * lent.counts.vertices as usize];
     }
     if name == "load" {
@@ -82,12 +88,12 @@ fn case(name: &'static str, cage: &Cage, shuffled: bool) -> Case {
         triangle = end_of_long_chain(&mut lent, triangle);
     }
     let call = match name {
-        "load" => Call::Load,
+        "load" => Call::Load(rule),
         "soundness" => Call::Refine(lent.counts.triangles),
-        "whole step" => Call::WholeStep,
         "ring" => Call::Ring(vertex),
         "position" => Call::Position(vertex),
-        "limit" => Call::Limit,
+        name if STEPS.contains(&name) => Call::WholeStep,
+        name if LIMITS.contains(&name) => Call::Limit,
         _ => Call::Refine(triangle),
     };
     Case { name, triangles: cage.triangles(), shuffled, lent, call }

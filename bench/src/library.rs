@@ -27,7 +27,7 @@ macro_rules! call {
 
 pub fn answer(lent: &mut Lent, call: Call) -> Answer {
     match call {
-        Call::Load => Answer::Worked(call!(rawplinth_load, lent, lent.cage.as_ptr(), lent.cage.len())),
+        Call::Load(rule) => Answer::Worked(call!(rawplinth_load, lent, rule, lent.cage.as_ptr(), lent.cage.len())),
         Call::Refine(triangle) => Answer::Worked(call!(rawplinth_refine, lent, triangle)),
         Call::WholeStep => Answer::Worked(call!(rawplinth_whole_step, lent)),
         Call::Ring(vertex) => {

@@ -7,7 +7,7 @@ use std::path::Path;
 use std::process::Command;
 use std::time::Instant;
 
-use crate::cases::{AT_BOUNDARY, Case, LONGEST, LONGEST_AT_BOUNDARY};
+use crate::cases::{AT_BOUNDARY, Case, LONGEST, LONGEST_AT_BOUNDARY, STEPS};
 use crate::tables::{Answer, Lent, scan_tables};
 use crate::{fast, library};
 
@@ -59,7 +59,7 @@ pub fn compare(case: &Case) {
         "refine even" | "refine odd" | AT_BOUNDARY => (0, 1),
         LONGEST => (0, 10),
         LONGEST_AT_BOUNDARY => (0, 9),
-        "whole step" => (0, case.triangles),
+        name if STEPS.contains(&name) => (0, case.triangles),
         _ => (0, 0),
     };
     assert!((refusal, splits) == expected, "{}, {} triangles: {answer:?}", case.name, case.triangles);

@@ -1,6 +1,6 @@
 //! The table.
 
-use crate::cases::Case;
+use crate::cases::{Case, LIMITS};
 use crate::measure::{Counted, Timed};
 
 /// Instructions of a C program without proofs, written by an expert, for closed meshes in order.
@@ -73,8 +73,10 @@ fn expert(case: &Case) -> Option<u64> {
 /// What a call may take beyond soundness on the same tables, where its bound is stated by this.
 fn most_beyond(case: &Case, soundness: u64) -> Option<u64> {
     match case.name {
-        "limit" if case.triangles == 4 => Some(MOST_OF_SMALL.saturating_sub(soundness)),
-        "limit" => Some(MOST_FOR_EACH * case.triangles as u64),
+        name if LIMITS.contains(&name) => match case.triangles {
+            4 => Some(MOST_OF_SMALL.saturating_sub(soundness)),
+            triangles => Some(MOST_FOR_EACH * triangles as u64),
+        },
         "ring" | "position" => Some(MOST_BEYOND),
         name => name.starts_with("refine").then_some(MOST_BEYOND),
     }

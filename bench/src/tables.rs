@@ -1,6 +1,7 @@
 //! What a call is lent and what it answers.
 
 pub use crate::rawplinth::{Counts, LimitRead, PositionRead, RingRead, Worked};
+pub use crate::rawplinth::{RAWPLINTH_HALF_AWAY as HALF_AWAY, RAWPLINTH_HALF_UP as HALF_UP};
 
 /// The link of a boundary side.
 pub const BOUNDARY: u32 = u32::MAX;
@@ -29,10 +30,10 @@ pub struct Lent {
     pub table: Vec<i32>,
 }
 
-/// A call with the number it is given.
+/// A call with the number it is given, which for a load is the rule.
 #[derive(Clone, Copy, Debug)]
 pub enum Call {
-    Load,
+    Load(u32),
     Refine(u32),
     WholeStep,
     Ring(u32),

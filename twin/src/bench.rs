@@ -1,5 +1,5 @@
 //! The comparison: two services get the same call on the same tables, and everything they return and leave is
-//! compared.
+//! compared; then the second gets the mirror images of the call.
 
 use std::fmt::Debug;
 use std::fs;
@@ -8,7 +8,8 @@ use std::path::PathBuf;
 use crate::case::Case;
 use crate::claims::violated_by_refine;
 use crate::coverage::Coverage;
-use crate::tables::{Answer, Call, Service, Store, Tables};
+use crate::mirror;
+use crate::tables::{Answer, Call, Counts, HALF_AWAY, HALF_UP, Service, Store};
 
 /// A case on which the services differ, or on which a claim of demand 3 fails.
 #[derive(Debug)]
@@ -27,11 +28,13 @@ pub struct Bench<'a> {
     pub watch: Option<PathBuf>,
     pub coverage: Coverage,
     pub comparisons: u64,
+    /// Calls of the other service on mirror images.
+    pub mirrored: u64,
 }
 
 impl<'a> Bench<'a> {
     pub fn new(twin: &'a dyn Service, other: &'a dyn Service) -> Bench<'a> {
-        Bench { twin, other, watch: None, coverage: Coverage::default(), comparisons: 0 }
+        Bench { twin, other, watch: None, coverage: Coverage::default(), comparisons: 0, mirrored: 0 }
     }
 
     /// Runs one call on both services and leaves the store as the call leaves it.
@@ -41,24 +44,9 @@ impl<'a> Bench<'a> {
             let case = Case { store: before.clone(), call: call.clone() };
             fs::write(path, case.to_string()).expect("the watched case can be written");
         }
-        let mut others = before.clone();
-        let by_twin = self.twin.answer(store, call);
-        let by_other = self.other.answer(&mut others, call);
         self.comparisons += 1;
-        let what = match (&by_twin, &by_other) {
-            (_, Err(trespass)) | (Err(trespass), _) => Some(trespass.clone()),
-            (Ok(one), Ok(other)) if one != other => Some(self.told_apart("answers differ", one, other)),
-            _ => self.first_difference(store, &others),
-        };
-        if let Some(what) = what {
-            return Err(difference(what, before, call));
-        }
-        let answer = by_twin.expect("a trespass has been handled");
-        if let Some(what) = claim_violated(&before, call, &answer, store) {
-            return Err(difference(what, before, call));
-        }
-        self.coverage.note(&before, call, &answer);
-        Ok(answer)
+        let answered = self.answer_of_both(store, &before, call);
+        answered.map_err(|what| difference(what, before, call))
     }
 
     /// Runs one call on both services and leaves the store as it is.
@@ -66,27 +54,80 @@ impl<'a> Bench<'a> {
         self.compare(&mut store.clone(), call)
     }
 
-    fn told_apart(&self, what: &str, one: &impl Debug, other: &impl Debug) -> String {
-        format!("{what}\n  {}: {one:?}\n  {}: {other:?}", self.twin.name(), self.other.name())
+    /// The answer of both services, with the store as they leave it, or what differs.
+    fn answer_of_both(&mut self, store: &mut Store, before: &Store, call: &Call) -> Result<Answer, String> {
+        let mut others = before.clone();
+        let answer = self.twin.answer(store, call)?;
+        let by_other = self.other.answer(&mut others, call)?;
+        if let Some(apart) = Apart::first((&answer, store), (&by_other, &others)) {
+            return Err(apart.told([&self.twin.name(), &self.other.name()]));
+        }
+        if let Some(what) = claim_violated(before, call, &answer, store) {
+            return Err(what);
+        }
+        self.compare_mirrored(before, call, &answer, store)?;
+        self.coverage.note(before, call, &answer);
+        Ok(answer)
     }
 
-    /// The first entry in which what was lent differs, slots past the counts included.
-    fn first_difference(&self, one: &Store, other: &Store) -> Option<String> {
-        self.first_in_tables(&one.tables, &other.tables)
-            .or_else(|| self.first_entry("ring buffers", &one.room.ring, &other.room.ring))
-            .or_else(|| self.first_entry("limit tables", &one.room.table, &other.room.table))
+    /// Compares what the other service makes of the mirror images of a call with the mirror images of what is made of
+    /// the call. Rule 1 does not keep them in calls that round halves: these are compared by rule 2.
+    fn compare_mirrored(&mut self, before: &Store, call: &Call, answer: &Answer, after: &Store) -> Result<(), String> {
+        if before.counts.rule == HALF_UP && mirror::rounds_halves(call) {
+            let before = Store { counts: Counts { rule: HALF_AWAY, ..before.counts }, ..before.clone() };
+            let mut after = before.clone();
+            let answer = self.other.answer(&mut after, call)?;
+            return self.compare_mirrored(&before, call, &answer, &after);
+        }
+        for axis in mirror::AXES {
+            let mut image = mirror::of_store(before, axis);
+            let of_image = self.other.answer(&mut image, &mirror::of_call(call, axis))?;
+            self.mirrored += 1;
+            let image_after = mirror::of_store(after, axis);
+            let expected = (&mirror::of_answer(answer, axis), &image_after);
+            if let Some(apart) = Apart::first(expected, (&of_image, &image)) {
+                let names = ["the mirror image of the outcome", "the outcome of the mirror image"];
+                return Err(format!("coordinate {axis} negated: {}", apart.told(names)));
+            }
+        }
+        Ok(())
+    }
+}
+
+/// What differs in two outcomes, and what it is in each.
+struct Apart {
+    what: String,
+    one: String,
+    other: String,
+}
+
+impl Apart {
+    /// The answers, or the first entry in which what was lent differs, slots past the counts included.
+    fn first(one: (&Answer, &Store), other: (&Answer, &Store)) -> Option<Apart> {
+        if one.0 != other.0 {
+            return Some(Apart::of("answers differ".to_string(), one.0, other.0));
+        }
+        let ((tables, room), (others, other_room)) = ((&one.1.tables, &one.1.room), (&other.1.tables, &other.1.room));
+        Apart::entry("positions", &tables.positions, &others.positions)
+            .or_else(|| Apart::entry("corners", &tables.corners, &others.corners))
+            .or_else(|| Apart::entry("links", &tables.links, &others.links))
+            .or_else(|| Apart::entry("generations", &tables.generations, &others.generations))
+            .or_else(|| Apart::entry("ring buffers", &room.ring, &other_room.ring))
+            .or_else(|| Apart::entry("limit tables", &room.table, &other_room.table))
     }
 
-    fn first_in_tables(&self, one: &Tables, other: &Tables) -> Option<String> {
-        self.first_entry("positions", &one.positions, &other.positions)
-            .or_else(|| self.first_entry("corners", &one.corners, &other.corners))
-            .or_else(|| self.first_entry("links", &one.links, &other.links))
-            .or_else(|| self.first_entry("generations", &one.generations, &other.generations))
-    }
-
-    fn first_entry<T: PartialEq + Debug>(&self, table: &str, one: &[T], other: &[T]) -> Option<String> {
+    fn entry<T: PartialEq + Debug>(table: &str, one: &[T], other: &[T]) -> Option<Apart> {
         let place = one.iter().zip(other).position(|(one, other)| one != other)?;
-        Some(self.told_apart(&format!("{table} differ in entry {place}"), &one[place], &other[place]))
+        Some(Apart::of(format!("{table} differ in entry {place}"), &one[place], &other[place]))
+    }
+
+    fn of(what: String, one: &impl Debug, other: &impl Debug) -> Apart {
+        Apart { what, one: format!("{one:?}"), other: format!("{other:?}") }
+    }
+
+    /// As text, the two by their names.
+    fn told(&self, [one, other]: [&str; 2]) -> String {
+        format!("{}\n  {one}: {}\n  {other}: {}", self.what, self.one, self.other)
     }
 }
 

@@ -3,7 +3,7 @@
 use crate::bench::{Bench, Outcome};
 use crate::claims::read_chain;
 use crate::rng::Rng;
-use crate::tables::{BOUNDARY, Call, LAST_GENERATION, Store};
+use crate::tables::{BOUNDARY, Call, HALF_AWAY, HALF_UP, LAST_GENERATION, NO_RULES, Store};
 
 /// Three times this number is 2 in 32 bits.
 pub const WRAPPING: u32 = 0x5555_5556;
@@ -68,6 +68,16 @@ pub fn compare_limits(bench: &mut Bench, store: &mut Store, rng: &mut Rng) -> Ou
         bench.compare_only(store, &Call::Limit)?;
     }
     Ok(())
+}
+
+/// Rule 1 or 2.
+pub fn either_rule(rng: &mut Rng) -> u32 {
+    rng.pick(&[HALF_UP, HALF_AWAY])
+}
+
+/// Mostly rule 1 or 2, else a number that is no rule.
+pub fn some_rule(rng: &mut Rng) -> u32 {
+    if rng.percent(85) { either_rule(rng) } else { rng.pick(&NO_RULES) }
 }
 
 /// A number mostly below the count, else at it, past it or far off.

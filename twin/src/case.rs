@@ -20,11 +20,11 @@ impl Display for Case {
         writeln!(out, "corners{}", numbers(&tables.corners))?;
         writeln!(out, "links{}", numbers(&tables.links))?;
         writeln!(out, "generations{}", numbers(&tables.generations))?;
-        writeln!(out, "counts {} {}", counts.vertices, counts.triangles)?;
+        writeln!(out, "counts {} {} {}", counts.vertices, counts.triangles, counts.rule)?;
         writeln!(out, "ring-buffer{}", numbers(&room.ring))?;
         writeln!(out, "limit-table{}", numbers(&room.table))?;
         match &self.call {
-            Call::Load { cage } => writeln!(out, "load{}", numbers(cage)),
+            Call::Load { rule, cage } => writeln!(out, "load {rule}{}", numbers(cage)),
             Call::Refine { triangle } => writeln!(out, "refine {triangle}"),
             Call::WholeStep => writeln!(out, "whole-step"),
             Call::Ring { vertex } => writeln!(out, "ring {vertex}"),
@@ -75,23 +75,26 @@ impl FromStr for Case {
             generations: parsed(line("generations")?)?,
         };
         let counts: Vec<u32> = parsed(line("counts")?)?;
-        let [vertices, triangles] = counts[..] else {
-            return Err("counts are two numbers".to_string());
+        let [vertices, triangles, rule] = counts[..] else {
+            return Err("counts are three numbers".to_string());
         };
         let room = Room { ring: parsed(line("ring-buffer")?)?, table: parsed(line("limit-table")?)? };
         let call = parsed_call(lines.last().expect("there are lines"))?;
-        Ok(Case { store: Store { tables, counts: Counts { vertices, triangles }, room }, call })
+        Ok(Case { store: Store { tables, counts: Counts { vertices, triangles, rule }, room }, call })
     }
 }
 
 fn parsed_call(words: &[&str]) -> Result<Call, String> {
-    let first = |list: Vec<u32>| list.first().copied().ok_or("a number is missing".to_string());
+    let number = || -> Result<u32, String> {
+        let word = words.get(1).ok_or("a number is missing")?;
+        word.parse().map_err(|_| format!("not a number: {word}"))
+    };
     match words[0] {
-        "load" => Ok(Call::Load { cage: parsed(&words[1..])? }),
-        "refine" => Ok(Call::Refine { triangle: first(parsed(&words[1..])?)? }),
+        "load" => Ok(Call::Load { rule: number()?, cage: parsed(&words[2..])? }),
+        "refine" => Ok(Call::Refine { triangle: number()? }),
         "whole-step" => Ok(Call::WholeStep),
-        "ring" => Ok(Call::Ring { vertex: first(parsed(&words[1..])?)? }),
-        "position" => Ok(Call::Position { vertex: first(parsed(&words[1..])?)? }),
+        "ring" => Ok(Call::Ring { vertex: number()? }),
+        "position" => Ok(Call::Position { vertex: number()? }),
         "limit" => Ok(Call::Limit),
         other => Err(format!("no call `{other}`")),
     }

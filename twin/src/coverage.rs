@@ -1,16 +1,19 @@
-//! What a run has met: each refusal of each call, each kind of linked pair, each chain length over an even triangle and
-//! over the boundary, each ring length of a whole step and of a limit query.
+//! What a run has met: each refusal of each call, each rule, each kind of linked pair, each chain length over an even
+//! triangle and over the boundary, each ring length of a whole step and of a limit query, and halves in these.
 
 use std::collections::{BTreeMap, BTreeSet};
 use std::fmt::{self, Display};
 
 use crate::claims::read_chain;
+use crate::fault::Seeded;
+use crate::mesh::Mesh;
+use crate::smooth::{Fraction, fractions};
 use crate::sound::kind;
-use crate::tables::{Answer, BOUNDARY, Call, Store};
+use crate::tables::{Answer, BOUNDARY, Call, HALF_UP, Store};
 
 /// The calls, each with the refusals that it can give and 0 for none.
 const CALLS: &[(&str, &[u32])] = &[
-    ("load", &[0, 1, 2, 3, 4, 5, 6]),
+    ("load", &[0, 1, 2, 3, 4, 5, 6, 16]),
     ("refine", &[0, 1, 7, 8, 9, 11]),
     ("whole step", &[0, 1, 7, 9, 11, 12, 13]),
     ("ring", &[0, 1, 7, 8, 14]),
@@ -40,7 +43,15 @@ pub struct Coverage {
     rings: [u64; 13],
     /// Rings of limit queries carried out, by their length.
     limit_rings: [u64; 13],
+    /// Calls carried out, by the rule that they leave.
+    rules: [u64; 3],
+    /// Coordinates that lay half-way in whole steps and in limit queries carried out, as `HALVES` lists them.
+    step_halves: [u64; 4],
+    limit_halves: [u64; 4],
 }
+
+/// The halves that are told apart.
+const HALVES: [&str; 4] = ["rule 1, below zero", "rule 1, above", "rule 2, below zero", "rule 2, above"];
 
 /// The place of a call in the list.
 fn row(call: &Call) -> usize {
@@ -70,17 +81,34 @@ fn note_rings(met: &mut [u64], before: &Store) {
     lengths.into_iter().for_each(|length| count(met, length));
 }
 
+fn note_halves(met: &mut [u64; 4], before: &Store, rounded: impl Fn([Fraction; 2]) -> Fraction) {
+    let mesh = Mesh::read(&before.tables, before.counts, Seeded(None));
+    for half in fractions(&mesh).into_iter().map(rounded).filter(|fraction| fraction.is_half()) {
+        let by_rule = if before.counts.rule == HALF_UP { 0 } else { 2 };
+        count(met, by_rule + usize::from(!half.is_negative()));
+    }
+}
+
 impl Coverage {
     /// Notes a call on the tables as they were before it, and its answer.
     pub fn note(&mut self, before: &Store, call: &Call, answer: &Answer) {
         *self.answers.entry((row(call), answer.refusal)).or_default() += 1;
+        if answer.refusal == 0 {
+            count(&mut self.rules, answer.counts.rule as usize);
+        }
         match (call, answer.refusal) {
             (&Call::Refine { triangle }, 0) => self.note_refine(before, triangle as usize, answer),
             (&Call::Refine { triangle }, 9) => {
                 count(&mut self.too_old, usize::from(before.tables.generations[triangle as usize]));
             }
-            (Call::WholeStep, 0) => note_rings(&mut self.rings, before),
-            (Call::Limit, 0) => note_rings(&mut self.limit_rings, before),
+            (Call::WholeStep, 0) => {
+                note_rings(&mut self.rings, before);
+                note_halves(&mut self.step_halves, before, |[moved, _]| moved);
+            }
+            (Call::Limit, 0) => {
+                note_rings(&mut self.limit_rings, before);
+                note_halves(&mut self.limit_halves, before, |[_, limit]| limit);
+            }
             _ => {}
         }
     }
@@ -133,6 +161,11 @@ impl Coverage {
         expect("chain entering by side", &self.entered, 1);
         expect("ring in a whole step, length", &self.rings, 2);
         expect("ring in a limit query, length", &self.limit_rings, 2);
+        expect("call by rule", &self.rules, 1);
+        for (call, met) in [("whole step", &self.step_halves), ("limit query", &self.limit_halves)] {
+            let missed = HALVES.iter().zip(met).filter(|(_, met)| **met == 0);
+            gaps.extend(missed.map(|(half, _)| format!("half in a {call}, {half}: never met")));
+        }
         gaps
     }
 }
@@ -165,6 +198,12 @@ impl Display for Coverage {
         list("generations refused with 9", &self.too_old, 19)?;
         list("sides by which chains enter odd triangles", &self.entered, 1)?;
         list("rings in whole steps", &self.rings, 2)?;
-        list("rings in limit queries", &self.limit_rings, 2)
+        list("rings in limit queries", &self.limit_rings, 2)?;
+        list("calls carried out by rule", &self.rules, 1)?;
+        for (calls, met) in [("whole steps", &self.step_halves), ("limit queries", &self.limit_halves)] {
+            let shown: Vec<String> = HALVES.iter().zip(met).map(|(half, met)| format!("{half}: {met}")).collect();
+            writeln!(out, "halves in {calls}  {}", shown.join("  "))?;
+        }
+        Ok(())
     }
 }

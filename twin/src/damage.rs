@@ -5,14 +5,14 @@ use crate::cages;
 use crate::calls;
 use crate::handmade;
 use crate::rng::Rng;
-use crate::tables::{BOUNDARY, Call, Counts, FARTHEST, Service, Store};
+use crate::tables::{BOUNDARY, Call, Counts, FARTHEST, HALF_AWAY, HALF_UP, NO_RULES, Service, Store};
 use crate::twin::Twin;
 
-/// The store after a load and a list of refines, with some slots to spare that hold anything.
+/// The store after a load by either rule and a list of refines, with some slots to spare that hold anything.
 pub fn refined(cage: &cages::Cage, requests: &[u32], spare: usize, rng: &mut Rng) -> Store {
     let most = requests.len() * 4 + spare;
     let mut store = Store::junk(cage.points.len() + most, cage.triangles.len() + 2 * most, rng);
-    let load = Call::Load { cage: cage.bytes() };
+    let load = Call::Load { rule: calls::either_rule(rng), cage: cage.bytes() };
     let refines = requests.iter().map(|&triangle| Call::Refine { triangle });
     for call in std::iter::once(load).chain(refines) {
         Twin::UNBROKEN.answer(&mut store, &call).expect("the twin stays inside");
@@ -22,6 +22,13 @@ pub fn refined(cage: &cages::Cage, requests: &[u32], spare: usize, rng: &mut Rng
     store.tables.corners.truncate(3 * (triangles + 2 * spare));
     store.tables.links.truncate(3 * (triangles + 2 * spare));
     store.tables.generations.truncate(triangles + 2 * spare);
+    store
+}
+
+/// A loaded cage whose generations are all raised to the same even one.
+pub fn at_generation(cage: &cages::Cage, generation: u8, spare: usize, rng: &mut Rng) -> Store {
+    let mut store = refined(cage, &[], spare, rng);
+    store.tables.generations[..cage.triangles.len()].fill(generation);
     store
 }
 
@@ -51,7 +58,7 @@ pub fn small_stores(rng: &mut Rng) -> Vec<Store> {
 /// Every single entry of small sound tables overwritten with every interesting value.
 pub fn single_entries(bench: &mut Bench, rng: &mut Rng) -> Outcome {
     for store in small_stores(rng) {
-        let Counts { vertices, triangles } = store.counts;
+        let Counts { vertices, triangles, .. } = store.counts;
         for place in 0..store.tables.positions.len() {
             for value in [0, 1, -1, FARTHEST, -FARTHEST, FARTHEST + 1, -FARTHEST - 1, i32::MAX, i32::MIN] {
                 compare_damaged(bench, &store, rng, |damaged| damaged.tables.positions[place] = value)?;
@@ -90,7 +97,7 @@ fn compare_damaged(bench: &mut Bench, store: &Store, rng: &mut Rng, damage: impl
     Ok(())
 }
 
-/// Counts off by one, at the slots, past them and far off.
+/// Counts off by one, at the slots, past them and far off; and every rule, and what is none.
 pub fn counts(bench: &mut Bench, rng: &mut Rng) -> Outcome {
     for store in small_stores(rng) {
         let near = |count: u32, slots: usize| {
@@ -100,12 +107,13 @@ pub fn counts(bench: &mut Bench, rng: &mut Rng) -> Outcome {
         };
         for vertices in near(store.counts.vertices, store.vertex_slots()) {
             for triangles in near(store.counts.triangles, store.triangle_slots()) {
-                let counts = Counts { vertices, triangles };
-                let mut damaged = Store { counts, ..store.clone() };
-                for call in calls::one_of_each(&mut damaged, rng) {
-                    bench.compare_only(&damaged, &call)?;
-                }
+                compare_damaged(bench, &store, rng, |damaged| {
+                    damaged.counts = Counts { vertices, triangles, ..store.counts };
+                })?;
             }
+        }
+        for rule in [HALF_UP, HALF_AWAY].into_iter().chain(NO_RULES) {
+            compare_damaged(bench, &store, rng, |damaged| damaged.counts.rule = rule)?;
         }
     }
     Ok(())
@@ -143,7 +151,7 @@ fn compare_lengths(bench: &mut Bench, store: &Store, lengths: [usize; 4], rng: &
     changed.tables.corners.resize(lengths[1], 6);
     changed.tables.links.resize(lengths[2], 7);
     changed.tables.generations.resize(lengths[3], 8);
-    let load = Call::Load { cage: cages::strip(2).bytes() };
+    let load = Call::Load { rule: calls::some_rule(rng), cage: cages::strip(2).bytes() };
     for call in calls::one_of_each(&mut changed, rng).iter().chain([&load]) {
         bench.compare_only(&changed, call)?;
     }

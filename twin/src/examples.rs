@@ -3,10 +3,10 @@
 
 use crate::bench::{Bench, Outcome, difference};
 use crate::cages::{self, Cage};
-use crate::damage::refined;
+use crate::damage::{at_generation, refined};
 use crate::handmade::{chain, foil};
 use crate::rng::Rng;
-use crate::tables::{Call, FARTHEST, LAST_GENERATION, Store};
+use crate::tables::{Call, FARTHEST, HALF_AWAY, HALF_UP, LAST_GENERATION, Store};
 
 pub struct Example {
     pub refusal: u32,
@@ -19,7 +19,11 @@ fn example(refusal: u32, store: Store, call: Call) -> Example {
 }
 
 fn load(cage: &Cage) -> Call {
-    Call::Load { cage: cage.bytes() }
+    load_by(HALF_UP, cage.bytes())
+}
+
+fn load_by(rule: u32, cage: Vec<u8>) -> Call {
+    Call::Load { rule, cage }
 }
 
 fn refine(triangle: u32) -> Call {
@@ -38,10 +42,9 @@ fn limit(refusal: u32, mut store: Store, entries: usize) -> Example {
     example(refusal, store, Call::Limit)
 }
 
-/// A loaded cage whose generations are all raised to the same even one.
-pub fn at_generation(cage: &Cage, generation: u8, spare: usize, rng: &mut Rng) -> Store {
-    let mut store = refined(cage, &[], spare, rng);
-    store.tables.generations[..cage.triangles.len()].fill(generation);
+/// The same store with another rule in its counts.
+fn ruled(mut store: Store, rule: u32) -> Store {
+    store.counts.rule = rule;
     store
 }
 
@@ -62,11 +65,11 @@ pub fn refusals(rng: &mut Rng) -> Vec<Example> {
     narrow.tables.generations.truncate(5);
     vec![
         example(1, unequal, load(&tetrahedron)),
-        example(2, roomy.clone(), Call::Load { cage: vec![0; 7] }),
+        example(2, roomy.clone(), load_by(HALF_UP, vec![0; 7])),
         example(3, roomy.clone(), load(&Cage::of(vec![[0, 0, 1]]))),
         example(4, roomy.clone(), load(&far)),
         example(5, roomy.clone(), load(&Cage::of(vec![[0, 1, 2], [0, 1, 3]]))),
-        example(6, roomy, load(&lonely)),
+        example(6, roomy.clone(), load(&lonely)),
         example(7, Store::fresh(20, 40), Call::Position { vertex: 0 }),
         example(8, refined(&tetrahedron, &[], 5, rng), refine(4)),
         example(9, at_generation(&tetrahedron, LAST_GENERATION, 5, rng), refine(0)),
@@ -75,6 +78,7 @@ pub fn refusals(rng: &mut Rng) -> Vec<Example> {
         example(13, refined(&cages::double_pyramid(13), &[], 50, rng), Call::WholeStep),
         ring(14, refined(&tetrahedron, &[], 0, rng), 0, 2),
         limit(15, refined(&tetrahedron, &[], 0, rng), 11),
+        example(16, roomy, load_by(3, tetrahedron.bytes())),
     ]
 }
 
@@ -85,6 +89,8 @@ pub fn orders(rng: &mut Rng) -> Vec<Example> {
     let mut last_corner_first_coordinate = tetrahedron.clone();
     last_corner_first_coordinate.points[0][0] = FARTHEST + 1;
     last_corner_first_coordinate.triangles[3] = [2, 3, 4];
+    let mut unequal = Store::junk(9, 9, rng);
+    unequal.tables.generations.pop();
     let mut counts_above_slots = refined(&tetrahedron, &[], 0, rng);
     counts_above_slots.counts.triangles = 5;
     let mut exact = refined(&tetrahedron, &[], 1, rng);
@@ -123,9 +129,6 @@ pub fn orders(rng: &mut Rng) -> Vec<Example> {
         ring(0, refined(&cages::strip(1), &[], 0, rng), 0, 3),
         // Generation 19 may become 20.
         example(0, chain(1, true, 18, &[], rng).store(1, 2, rng), refine(1)),
-        // Halves: 18204.5 goes to 18205 and −18204.5 to −18204.
-        example(0, refined(&halves(98_304), &[], 4, rng), Call::WholeStep),
-        example(0, refined(&halves(-98_304), &[], 4, rng), Call::WholeStep),
         // A limit query takes a table of exactly three entries a vertex, and the last generation.
         limit(15, refined(&tetrahedron, &[], 3, rng), 13),
         limit(15, refined(&tetrahedron, &[], 3, rng), 21),
@@ -134,45 +137,20 @@ pub fn orders(rng: &mut Rng) -> Vec<Example> {
         limit(7, Store::fresh(20, 40), 0),
         limit(0, at_generation(&tetrahedron, LAST_GENERATION, 0, rng), 12),
         limit(0, foil(LAST_GENERATION).store(0, 0, rng), 9),
-        // Halves: 43690.5 goes to 43691 and −43690.5 to −43690.
-        limit(0, refined(&OCTAHEDRON.cage(false), &[], 0, rng), 18),
-        limit(0, refined(&OCTAHEDRON.cage(true), &[], 0, rng), 18),
+        // A load by no rule is refused after 1 and before all that the cage is refused for.
+        example(1, unequal, load_by(3, tetrahedron.bytes())),
+        example(16, Store::junk(20, 40, rng), load_by(0, vec![0; 7])),
+        example(16, Store::junk(20, 40, rng), load_by(u32::MAX, cages::bow_tie().bytes())),
+        // The old rule is nothing to a load, and is kept by a refused one.
+        example(0, ruled(Store::junk(20, 40, rng), 3), load_by(HALF_AWAY, tetrahedron.bytes())),
+        example(2, ruled(Store::junk(20, 40, rng), HALF_UP), load_by(HALF_AWAY, vec![0; 7])),
+        example(2, ruled(Store::junk(20, 40, rng), 3), load_by(HALF_AWAY, vec![0; 7])),
+        // Counts by no rule are not sound; by rule 2 they are.
+        example(7, ruled(refined(&tetrahedron, &[], 4, rng), 0), refine(u32::MAX)),
+        example(7, ruled(refined(&tetrahedron, &[], 4, rng), 3), Call::WholeStep),
+        example(7, ruled(refined(&tetrahedron, &[], 4, rng), u32::MAX), Call::Position { vertex: 0 }),
+        example(0, ruled(refined(&tetrahedron, &[], 4, rng), HALF_AWAY), refine(0)),
     ]
-}
-
-/// A tetrahedron whose vertex 0 comes to lie half-way between two whole numbers in a whole step.
-pub fn halves(x: i32) -> Cage {
-    let points = vec![[0, 0, 0], [x, 0, 0], [0, 0, 0], [0, 0, 0]];
-    Cage { points, ..cages::tetrahedron() }
-}
-
-/// A ring of so many entries at the origin, save one at x: the limit of a vertex there lies half-way between two
-/// whole numbers.
-pub struct Halfway {
-    pub entries: u32,
-    pub x: i32,
-}
-
-/// For four entries, on the octahedron.
-const OCTAHEDRON: Halfway = Halfway { entries: 4, x: 305_834 };
-
-/// One for each even number of entries; with odd ones there is no half.
-pub const HALFWAY: [Halfway; 6] = [
-    Halfway { entries: 2, x: 196_609 },
-    OCTAHEDRON,
-    Halfway { entries: 6, x: 131_071 },
-    Halfway { entries: 8, x: 488_092 },
-    Halfway { entries: 10, x: 117_571 },
-    Halfway { entries: 12, x: 230_162 },
-];
-
-impl Halfway {
-    /// A cage with such a ring, or its mirror image.
-    pub fn cage(&self, mirrored: bool) -> Cage {
-        let mut cage = if self.entries == 2 { cages::foil() } else { cages::double_pyramid(self.entries) };
-        cage.points[2][0] = if mirrored { -self.x } else { self.x };
-        cage
-    }
 }
 
 /// The lists of requests in the papers, each with its cage.

@@ -55,6 +55,18 @@ faults! {
     SplitsAsOdd: "refine reports all odd triangles at the boundary, too",
     NineteenAtBoundary: "generation 19 with its base on the boundary is split",
     RoomForOneVertex: "one vertex slot less is tested at the boundary",
+    HalfUpByRuleTwo: "rule 2 rounds halves below zero up",
+    StepByRuleOne: "the whole step rounds by rule 1 always",
+    LimitByRuleOne: "limit rounds by rule 1 always",
+    LoadByRuleOne: "load gives the mesh rule 1 always",
+    OldRuleKept: "load leaves the rule that the counts had",
+    RefusedLoadSetsRule: "a load refused with 2 answers its rule",
+    RefusedWithoutRule: "a refused call answers rule 0",
+    RefinedByRuleOne: "refine answers rule 1 always",
+    RuleThreeStored: "stored counts with rule 3 are let pass",
+    RuleZeroLoaded: "load lets rule 0 pass",
+    RuleBeforeTables: "load tests 16 before 1",
+    SizesBeforeRule: "load tests 2 before 16",
 }
 
 impl Fault {

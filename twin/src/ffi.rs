@@ -141,9 +141,9 @@ impl Service for Library {
         let counts = store.counts;
         let (mut lent, mut room) = (LentTables::new(&store.tables), LentRoom::new(&store.room));
         let answer: Answer = match call {
-            Call::Load { cage } => {
+            Call::Load { rule, cage } => {
                 let mut bytes = Lent::new(cage, 0xA5);
-                let worked = call!(rawplinth_load, lent, counts, bytes.pointer(), bytes.length);
+                let worked = call!(rawplinth_load, lent, counts, *rule, bytes.pointer(), bytes.length);
                 bytes.unwritten("cage", cage)?;
                 worked.into()
             }

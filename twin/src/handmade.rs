@@ -87,7 +87,8 @@ impl Gluing {
         let mut number: Vec<u32> = (0..count as u32).collect();
         rng.shuffle(&mut number);
         let mut store = Store::junk(count + spare_vertices, self.generations.len() + spare_triangles, rng);
-        store.counts = Counts { vertices: count as u32, triangles: self.generations.len() as u32 };
+        let triangles = self.generations.len() as u32;
+        store.counts = Counts { vertices: count as u32, triangles, rule: calls::either_rule(rng) };
         let reach = rng.pick(&[3, 1000, FARTHEST]);
         store.tables.positions[..3 * count].fill_with(|| rng.between(-reach, reach));
         store.tables.generations[..self.generations.len()].copy_from_slice(&self.generations);

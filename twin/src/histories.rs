@@ -26,16 +26,17 @@ impl History {
         };
         if rng.percent(30) {
             let vertices = calls::some_number(vertex_slots as u32, rng);
-            store.counts = Counts { vertices, triangles: calls::some_number(triangle_slots as u32, rng) };
+            let triangles = calls::some_number(triangle_slots as u32, rng);
+            store.counts = Counts { vertices, triangles, rule: calls::some_rule(rng) };
         }
         History { store, euler_number: None }
     }
 
-    /// The cage of the last accepted load.
-    fn load(&mut self, bench: &mut Bench, cage: Vec<u8>) -> Outcome {
-        let call = Call::Load { cage };
+    /// Loads a cage by a rule.
+    fn load(&mut self, bench: &mut Bench, rule: u32, cage: Vec<u8>) -> Outcome {
+        let call = Call::Load { rule, cage };
         let answer = bench.compare(&mut self.store, &call)?;
-        if let (Call::Load { cage }, 0) = (&call, answer.refusal) {
+        if let (Call::Load { cage, .. }, 0) = (&call, answer.refusal) {
             self.euler_number = Some(Cage::of_bytes(cage).euler_number());
         }
         Ok(())
@@ -76,7 +77,7 @@ pub fn shapes(bench: &mut Bench, rng: &mut Rng) -> Outcome {
             let cage = if shuffle == 0 { shape.clone() } else { shape.shuffled(rng).scattered(rng) };
             let spare = rng.pick(&[0, 30, 200]);
             let mut history = History::begun(cage.points.len() + spare, cage.triangles.len() + 2 * spare, rng);
-            history.load(bench, cage.bytes())?;
+            history.load(bench, calls::either_rule(rng), cage.bytes())?;
             for vertex in 0..cage.points.len() as u32 {
                 read_vertex(bench, &mut history.store, vertex, rng)?;
             }
@@ -109,7 +110,7 @@ pub fn whole_steps(bench: &mut Bench, rng: &mut Rng) -> Outcome {
         let mut history = History::begun(vertices, triangles, rng);
         let closed = [cages::tetrahedron(), cages::foil(), cages::double_pyramid(3 + round % 11), cages::torus(3, 4)];
         let cage = closed[round as usize % 4].clone().shuffled(rng).scattered(rng);
-        history.load(bench, cage.bytes())?;
+        history.load(bench, calls::either_rule(rng), cage.bytes())?;
         for _ in 0..6 {
             calls::compare_limits(bench, &mut history.store, rng)?;
             bench.compare(&mut history.store, &Call::WholeStep)?;
@@ -126,7 +127,7 @@ pub fn deep(bench: &mut Bench, rounds: usize, rng: &mut Rng) -> Outcome {
         let spare = rng.pick(&[60, 250, 500]);
         let cage = random_cage(rng);
         let mut history = History::begun(cage.points.len() + spare, cage.triangles.len() + 2 * spare, rng);
-        history.load(bench, cage.bytes())?;
+        history.load(bench, calls::either_rule(rng), cage.bytes())?;
         if history.euler_number.is_none() {
             continue;
         }
@@ -157,7 +158,7 @@ pub fn shells(bench: &mut Bench, rounds: u32, rng: &mut Rng) -> Outcome {
         let cage = open[rng.below(open.len())].shuffled(rng).scattered(rng);
         let spare = rng.pick(&[20, 150, 400]);
         let mut history = History::begun(cage.points.len() + spare, cage.triangles.len() + 2 * spare, rng);
-        history.load(bench, cage.bytes())?;
+        history.load(bench, calls::either_rule(rng), cage.bytes())?;
         let deep = rng.pick(&[10, 50, 90]);
         for _ in 0..rng.pick(&[12, 40, 100]) {
             let triangle = if rng.percent(deep) {
@@ -198,12 +199,12 @@ pub fn random(bench: &mut Bench, rounds: usize, rng: &mut Rng) -> Outcome {
         let mut history = History::begun(cage.points.len() + vertices, cage.triangles.len() + triangles, rng);
         if rng.percent(90) {
             calls::compare_some(bench, &mut history.store, rng.below(3), rng)?;
-            history.load(bench, cage.bytes())?;
+            history.load(bench, calls::some_rule(rng), cage.bytes())?;
         }
         for _ in 0..10 + rng.below(40) {
             match rng.below(40) {
-                0 => history.load(bench, random_cage(rng).bytes())?,
-                1 => history.load(bench, malformed::random(rng))?,
+                0 => history.load(bench, calls::some_rule(rng), random_cage(rng).bytes())?,
+                1 => history.load(bench, calls::some_rule(rng), malformed::random(rng))?,
                 _ => calls::compare_some(bench, &mut history.store, 1, rng)?,
             }
         }
@@ -229,7 +230,7 @@ pub fn small_cages(bench: &mut Bench, rng: &mut Rng) -> Outcome {
     });
     for triangles in ones.chain(twos).chain(threes) {
         let mut store = Store::junk(8, 9, rng);
-        let call = Call::Load { cage: Cage::of(triangles).bytes() };
+        let call = Call::Load { rule: calls::either_rule(rng), cage: Cage::of(triangles).bytes() };
         if bench.compare(&mut store, &call)?.refusal == 0 {
             calls::compare_some(bench, &mut store, 2, rng)?;
         }
@@ -264,7 +265,7 @@ pub fn largest(bench: &mut Bench, rng: &mut Rng) -> Outcome {
     let fans = [cages::double_pyramid(32_700), cages::open_fan(32_766)];
     for cage in [cages::torus(128, 256), cages::torus(106, 103)].into_iter().chain(fans) {
         let mut history = History::begun(32_768, 65_536, rng);
-        history.load(bench, cage.shuffled(rng).scattered(rng).bytes())?;
+        history.load(bench, calls::either_rule(rng), cage.shuffled(rng).scattered(rng).bytes())?;
         for _ in 0..2 {
             history.store.room.table = vec![7; 3 * history.store.vertices()];
             bench.compare(&mut history.store, &Call::Limit)?;

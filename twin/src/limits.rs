@@ -1,9 +1,9 @@
-//! Limit positions: closed meshes of every even generation, and places where rounding shows.
+//! Limit positions: closed meshes of every even generation.
 
 use crate::bench::{Bench, Outcome};
 use crate::cages;
 use crate::calls;
-use crate::examples::{HALFWAY, at_generation};
+use crate::damage::at_generation;
 use crate::handmade;
 use crate::rng::Rng;
 use crate::tables::LAST_GENERATION;
@@ -19,12 +19,6 @@ pub fn run(bench: &mut Bench, rng: &mut Rng) -> Outcome {
         }
         let mut stored = handmade::foil(generation).store(1, 1, rng);
         calls::compare_limits(bench, &mut stored, rng)?;
-        for halfway in &HALFWAY {
-            for mirrored in [false, true] {
-                let mut store = at_generation(&halfway.cage(mirrored), generation, 0, rng);
-                calls::compare_limits(bench, &mut store, rng)?;
-            }
-        }
     }
     Ok(())
 }

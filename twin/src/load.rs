@@ -7,11 +7,11 @@ use crate::mesh::{Mesh, Side, Triangle};
 use crate::sound::{coordinates_are_in_range, corners_fit, has_one_fan_each};
 use crate::tables::refuse_unless;
 
-/// The mesh of a cage: generation 0 everywhere, opposite sides linked. Each condition is tested over the whole cage
-/// before the next.
-pub fn mesh_of_cage(cage: &[u8], vertex_slots: usize, triangle_slots: usize, fault: Seeded) -> Result<Mesh, u32> {
-    let (vertices, triangles) = sizes(cage, vertex_slots, triangle_slots, fault)?;
-    let mut mesh = unlinked_mesh(cage, vertices, triangles, fault);
+/// The mesh of a cage, with the rule it is loaded by: generation 0 everywhere, opposite sides linked. Each condition is
+/// tested over the whole cage before the next.
+pub fn mesh_of_cage(cage: &[u8], rule: u32, slots: [usize; 2], fault: Seeded) -> Result<Mesh, u32> {
+    let (vertices, triangles) = sizes(cage, slots, fault)?;
+    let mut mesh = unlinked_mesh(cage, rule, vertices, triangles, fault);
     if fault.has(Fault::CoordinatesBeforeCorners) {
         refuse_unless(coordinates_are_in_range(&mesh), 4)?;
     }
@@ -26,7 +26,7 @@ pub fn mesh_of_cage(cage: &[u8], vertex_slots: usize, triangle_slots: usize, fau
 }
 
 /// Condition 2.
-fn sizes(cage: &[u8], vertex_slots: usize, triangle_slots: usize, fault: Seeded) -> Result<(usize, usize), u32> {
+fn sizes(cage: &[u8], [vertex_slots, triangle_slots]: [usize; 2], fault: Seeded) -> Result<(usize, usize), u32> {
     refuse_unless(cage.len() >= 8, 2)?;
     let (vertices, triangles) = (word(cage, 0) as usize, word(cage, 1) as usize);
     refuse_unless((1..=vertex_slots).contains(&vertices), 2)?;
@@ -44,7 +44,7 @@ fn word(cage: &[u8], place: usize) -> u32 {
 }
 
 /// The sizes, the coordinates and the corners, as they follow each other.
-fn unlinked_mesh(cage: &[u8], vertices: usize, triangles: usize, fault: Seeded) -> Mesh {
+fn unlinked_mesh(cage: &[u8], rule: u32, vertices: usize, triangles: usize, fault: Seeded) -> Mesh {
     let triple = |place: usize| [0, 1, 2].map(|i| word(cage, place + i));
     Mesh {
         points: (0..vertices).map(|v| triple(2 + 3 * v).map(|coordinate| coordinate as i32)).collect(),
@@ -55,6 +55,7 @@ fn unlinked_mesh(cage: &[u8], vertices: usize, triangles: usize, fault: Seeded) 
                 generation: 0,
             })
             .collect(),
+        rule,
         fault,
     }
 }

@@ -11,12 +11,14 @@ mod examples;
 mod fault;
 #[cfg(linked)]
 mod ffi;
+mod halves;
 mod handmade;
 mod histories;
 mod limits;
 mod load;
 mod malformed;
 mod mesh;
+mod mirror;
 mod options;
 mod parts;
 mod program;
@@ -107,7 +109,8 @@ fn run_differential(options: &Options, other: &dyn Service) -> bool {
             false
         }
         Ok(()) => {
-            println!("{}", bench.coverage);
+            print!("{}", bench.coverage);
+            println!("calls on mirror images  {}\n", bench.mirrored);
             let gaps = bench.coverage.gaps();
             gaps.iter().for_each(|gap| println!("coverage: {gap}"));
             let lacking = if gaps.is_empty() { "" } else { ", coverage incomplete" };

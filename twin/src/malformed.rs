@@ -1,10 +1,11 @@
-//! Cages with faults, several at once, so that the order of the refusals shows.
+//! Cages with faults and loads by no rule, several at once, so that the order of the refusals shows.
 
 use crate::bench::{Bench, Outcome};
 use crate::cages::{self, Cage};
+use crate::calls::{either_rule, some_rule};
 use crate::random_cages::random_cage;
 use crate::rng::Rng;
-use crate::tables::{Call, FARTHEST, Store};
+use crate::tables::{Call, FARTHEST, NO_RULES, Store};
 
 /// The numbers of a cage, which need not fit together, and what is done to its bytes at the end.
 pub struct RawCage {
@@ -111,10 +112,11 @@ impl RawCage {
     }
 }
 
-/// Every set of the refusals 2 to 6 at once, on several cages, in tables that agree and in tables that do not.
+/// Every set of the refusals 2 to 6 at once, on several cages, by a rule and by none, in tables that agree and in
+/// tables that do not.
 pub fn sets_of_faults(bench: &mut Bench, rng: &mut Rng) -> Outcome {
     for cage in cages::shapes() {
-        for set in 0..64_u32 {
+        for set in 0..128_u32 {
             let mut raw = RawCage::new(&cage);
             // Faults that add triangles come first, so that the others may hit what they add.
             for refusal in (2..=6).rev().filter(|refusal| set & (1 << (refusal - 2)) != 0) {
@@ -124,7 +126,8 @@ pub fn sets_of_faults(bench: &mut Bench, rng: &mut Rng) -> Outcome {
             if set & 32 != 0 {
                 store.tables.links.pop();
             }
-            bench.compare(&mut store, &Call::Load { cage: raw.bytes() })?;
+            let rule = if set & 64 != 0 { rng.pick(&NO_RULES) } else { either_rule(rng) };
+            bench.compare(&mut store, &Call::Load { rule, cage: raw.bytes() })?;
         }
     }
     Ok(())
@@ -139,12 +142,12 @@ pub fn lengths_and_slots(bench: &mut Bench, rng: &mut Rng) -> Outcome {
             let mut changed = bytes.clone();
             changed.resize(length, 0);
             let mut store = Store::junk(cage.points.len() + 1, cage.triangles.len() + 1, rng);
-            bench.compare(&mut store, &Call::Load { cage: changed })?;
+            bench.compare(&mut store, &Call::Load { rule: either_rule(rng), cage: changed })?;
         }
         for vertex_slots in cage.points.len() - 1..cage.points.len() + 2 {
             for triangle_slots in cage.triangles.len() - 1..cage.triangles.len() + 2 {
                 let mut store = Store::junk(vertex_slots, triangle_slots, rng);
-                bench.compare(&mut store, &Call::Load { cage: bytes.clone() })?;
+                bench.compare(&mut store, &Call::Load { rule: either_rule(rng), cage: bytes.clone() })?;
                 bench.compare(&mut store, &Call::WholeStep)?;
             }
         }
@@ -162,7 +165,7 @@ pub fn fitting_lengths(bench: &mut Bench, rng: &mut Rng) -> Outcome {
             let corners = [[0, 1, 2], [0, 2, 1], [1, 2, 3]].concat();
             raw.corners.extend_from_slice(&corners[..3 * triangles as usize]);
             let mut store = Store::junk(vertex_slots, triangle_slots, rng);
-            bench.compare(&mut store, &Call::Load { cage: raw.bytes() })?;
+            bench.compare(&mut store, &Call::Load { rule: either_rule(rng), cage: raw.bytes() })?;
         }
     }
     Ok(())
@@ -189,8 +192,8 @@ pub fn random(rng: &mut Rng) -> Vec<u8> {
 pub fn random_loads(bench: &mut Bench, rounds: usize, rng: &mut Rng) -> Outcome {
     for _ in 0..rounds {
         let mut store = Store::junk(rng.below(40), rng.below(60), rng);
-        bench.compare(&mut store, &Call::Load { cage: random(rng) })?;
-        bench.compare(&mut store, &Call::Load { cage: random_cage(rng).bytes() })?;
+        bench.compare(&mut store, &Call::Load { rule: some_rule(rng), cage: random(rng) })?;
+        bench.compare(&mut store, &Call::Load { rule: some_rule(rng), cage: random_cage(rng).bytes() })?;
     }
     Ok(())
 }

@@ -45,6 +45,8 @@ impl Triangle {
 pub struct Mesh {
     pub points: Vec<[i32; 3]>,
     pub triangles: Vec<Triangle>,
+    /// How halves are rounded: 1 up, 2 away from zero.
+    pub rule: u32,
     pub fault: Seeded,
 }
 
@@ -62,7 +64,7 @@ impl Mesh {
             generation: tables.generations[slot],
         };
         let triangles = (0..counts.triangles as usize).map(triangle).collect();
-        Mesh { points, triangles, fault }
+        Mesh { points, triangles, rule: counts.rule, fault }
     }
 
     /// Writes the slots in use and no others.
@@ -78,7 +80,7 @@ impl Mesh {
     }
 
     pub fn counts(&self) -> Counts {
-        Counts { vertices: self.points.len() as u32, triangles: self.triangles.len() as u32 }
+        Counts { vertices: self.points.len() as u32, triangles: self.triangles.len() as u32, rule: self.rule }
     }
 
     /// The side across, or none at the boundary.

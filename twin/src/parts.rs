@@ -4,13 +4,14 @@ use std::time::Instant;
 
 use crate::bench::{Bench, Outcome};
 use crate::rng::Rng;
-use crate::{damage, examples, handmade, histories, limits, malformed, surgery, unsound};
+use crate::{damage, examples, halves, handmade, histories, limits, malformed, surgery, unsound};
 
 type Part = fn(&mut Bench, &mut Rng) -> Outcome;
 
 /// All parts of one run, in order; each has its own random numbers.
 const PARTS: &[(&str, Part)] = &[
     ("examples of the papers", examples::run),
+    ("halves by both rules", halves::run),
     ("cages with sets of faults", malformed::sets_of_faults),
     ("cages of all lengths", malformed::lengths_and_slots),
     ("cages of fitting lengths", malformed::fitting_lengths),

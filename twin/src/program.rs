@@ -10,7 +10,7 @@ use crate::examples;
 use crate::malformed;
 use crate::random_cages::random_cage;
 use crate::rng::Rng;
-use crate::tables::{Answer, Call, Service, Store};
+use crate::tables::{Answer, Call, HALF_UP, Service, Store};
 use crate::twin::Twin;
 
 /// The two files; none for a missing one.
@@ -32,8 +32,8 @@ impl Files {
 pub fn model(files: &Files) -> String {
     // The program's own store.
     let mut store = Store::fresh(1_024, 2_048);
-    // A missing file is empty.
-    let load = Call::Load { cage: files.cage.clone().unwrap_or_default() };
+    // A missing file is empty. The program's rule is 1, which none of its lines shows.
+    let load = Call::Load { rule: HALF_UP, cage: files.cage.clone().unwrap_or_default() };
     let requests = files.requests.clone().unwrap_or_default();
     // Bytes left over at the end are dropped.
     let numbers = requests.chunks_exact(4).map(|b| u32::from_le_bytes([b[0], b[1], b[2], b[3]]));

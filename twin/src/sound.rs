@@ -2,7 +2,7 @@
 
 use crate::fault::Fault;
 use crate::mesh::{Mesh, Side};
-use crate::tables::{FARTHEST, LAST_GENERATION};
+use crate::tables::{FARTHEST, HALF_AWAY, HALF_UP, LAST_GENERATION};
 
 /// What a side is to its triangle: a side of an even triangle, the base of an odd one, or one of its two other
 /// sides.
@@ -42,10 +42,16 @@ pub fn kind(one: (u8, usize), other: (u8, usize)) -> Option<usize> {
     }
 }
 
+/// Whether a number is a rule.
+pub fn is_rule(number: u32) -> bool {
+    number == HALF_UP || number == HALF_AWAY
+}
+
 /// Whether the mesh read from tables is sound; that its counts lie within the slots is known.
 pub fn is_sound(mesh: &Mesh) -> bool {
     !mesh.points.is_empty()
         && !mesh.triangles.is_empty()
+        && (is_rule(mesh.rule) || mesh.fault.has(Fault::RuleThreeStored) && mesh.rule == 3)
         && corners_fit(mesh)
         && sides(mesh).all(|side| link_is_sound(mesh, side))
         && has_one_fan_each(mesh)

@@ -1,6 +1,6 @@
 //! What a call is lent, the calls and their answers.
 
-pub use crate::rawplinth::Counts;
+pub use crate::rawplinth::{Counts, RAWPLINTH_HALF_AWAY as HALF_AWAY, RAWPLINTH_HALF_UP as HALF_UP};
 use crate::rng::Rng;
 
 /// The link of a boundary side; the paper's rim.
@@ -12,6 +12,8 @@ pub const MOST_TRIANGLE_SLOTS: usize = 65_536;
 pub const FARTHEST: i32 = 16_777_216;
 /// The greatest generation.
 pub const LAST_GENERATION: u8 = 20;
+/// Numbers that are no rule: beside 1 and 2, far off, and 1 and 2 in their low bits.
+pub const NO_RULES: [u32; 8] = [0, 3, 4, 257, 65_538, 1 << 31, 1 << 31 | 1, u32::MAX];
 
 /// The lent tables: three positions to a vertex slot; three corners, three links and a generation to a triangle slot.
 #[derive(Clone, Debug, Default, PartialEq, Eq)]
@@ -40,7 +42,7 @@ pub struct Store {
 }
 
 impl Store {
-    /// A fresh store: nothing in use.
+    /// A fresh store: nothing in use. Its rule does not matter.
     pub fn fresh(vertex_slots: usize, triangle_slots: usize) -> Store {
         Store {
             tables: Tables {
@@ -53,7 +55,7 @@ impl Store {
         }
     }
 
-    /// A store whose slots hold anything, so that a write past the counts shows.
+    /// A store whose slots hold anything, so that a write past the counts shows, with any rule.
     pub fn junk(vertex_slots: usize, triangle_slots: usize, rng: &mut Rng) -> Store {
         let mut store = Store::fresh(vertex_slots, triangle_slots);
         let tables = &mut store.tables;
@@ -61,6 +63,8 @@ impl Store {
         tables.corners.fill_with(|| rng.word() >> rng.below(32));
         tables.links.fill_with(|| rng.word() >> rng.below(32));
         tables.generations.fill_with(|| rng.word() as u8);
+        let no_rule = rng.pick(&NO_RULES);
+        store.counts.rule = rng.pick(&[HALF_UP, HALF_AWAY, no_rule]);
         store
     }
 
@@ -86,7 +90,7 @@ impl Store {
 /// One call with its arguments, apart from what it is lent.
 #[derive(Clone, Debug, PartialEq, Eq)]
 pub enum Call {
-    Load { cage: Vec<u8> },
+    Load { rule: u32, cage: Vec<u8> },
     Refine { triangle: u32 },
     WholeStep,
     Ring { vertex: u32 },

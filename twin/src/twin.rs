@@ -4,9 +4,9 @@ use crate::fault::{Fault, Seeded};
 use crate::load::mesh_of_cage;
 use crate::mesh::{Mesh, Side};
 use crate::smooth::{LONGEST_RING, limit_points, whole_step};
-use crate::sound::is_sound;
+use crate::sound::{is_rule, is_sound};
 use crate::tables::{
-    Answer, Call, Counts, LAST_GENERATION, MOST_TRIANGLE_SLOTS, MOST_VERTEX_SLOTS, Service, Store, Tables,
+    Answer, Call, Counts, HALF_UP, LAST_GENERATION, MOST_TRIANGLE_SLOTS, MOST_VERTEX_SLOTS, Service, Store, Tables,
     refuse_unless,
 };
 
@@ -27,14 +27,16 @@ impl Service for Twin {
     fn answer(&self, store: &mut Store, call: &Call) -> Result<Answer, String> {
         let Store { tables, counts, room } = store;
         let answered = match call {
-            Call::Load { cage } => self.load(tables, cage),
+            Call::Load { rule, cage } => self.load(tables, *counts, *rule, cage),
             Call::Refine { triangle } => self.refine(tables, *counts, *triangle as usize),
             Call::WholeStep => self.whole_step(tables, *counts),
             Call::Ring { vertex } => self.ring(tables, *counts, *vertex as usize, &mut room.ring),
             Call::Position { vertex } => self.position(tables, *counts, *vertex as usize),
             Call::Limit => self.limit(tables, *counts, &mut room.table),
         };
-        let answer = answered.unwrap_or_else(|refusal| Answer { refusal, counts: *counts, ..Answer::default() });
+        let rule = self.fault.unless(Fault::RefusedWithoutRule, counts.rule, 0);
+        let kept = Counts { rule, ..*counts };
+        let answer = answered.unwrap_or_else(|refusal| Answer { refusal, counts: kept, ..Answer::default() });
         *counts = answer.counts;
         Ok(answer)
     }
@@ -43,15 +45,24 @@ impl Service for Twin {
 impl Twin {
     pub const UNBROKEN: Twin = Twin { fault: Seeded(None) };
 
-    /// Load: 1 to 6, whatever the tables held.
-    fn load(&self, tables: &mut Tables, cage: &[u8]) -> Result<Answer, u32> {
+    /// Load: 1, 16, 2 to 6, whatever the tables held. The counts of before are what a refusal answers, and no more.
+    fn load(&self, tables: &mut Tables, before: Counts, rule: u32, cage: &[u8]) -> Result<Answer, u32> {
+        let good_rule = is_rule(rule) || self.fault.has(Fault::RuleZeroLoaded) && rule == 0;
+        refuse_unless(good_rule || !self.fault.has(Fault::RuleBeforeTables), 16)?;
         refuse_unless(self.tables_agree(tables), 1)?;
-        let (vertex_slots, triangle_slots) = (tables.positions.len() / 3, tables.generations.len());
-        let mesh = mesh_of_cage(cage, vertex_slots, triangle_slots, self.fault);
+        refuse_unless(good_rule || self.fault.has(Fault::SizesBeforeRule), 16)?;
+        let slots = [tables.positions.len() / 3, tables.generations.len()];
+        let mesh = mesh_of_cage(cage, rule, slots, self.fault);
         if self.fault.has(Fault::RefusedLoadWrites) && mesh == Err(6) {
             tables.positions[0] = 0;
         }
-        let mesh = mesh?;
+        if self.fault.has(Fault::RefusedLoadSetsRule) && mesh == Err(2) {
+            return Ok(Answer { refusal: 2, counts: Counts { rule, ..before }, ..Answer::default() });
+        }
+        let mut mesh = mesh?;
+        refuse_unless(good_rule, 16)?;
+        mesh.rule = self.fault.unless(Fault::LoadByRuleOne, mesh.rule, HALF_UP);
+        mesh.rule = self.fault.unless(Fault::OldRuleKept, mesh.rule, before.rule);
         mesh.write(tables);
         let counts = mesh.counts();
         if self.fault.has(Fault::PastCountsWritten) {
@@ -92,6 +103,7 @@ impl Twin {
         if self.fault.has(Fault::SplitsAsOdd) && at_boundary {
             work.splits = chain.odd.len() as u32;
         }
+        mesh.rule = self.fault.unless(Fault::RefinedByRuleOne, mesh.rule, HALF_UP);
         mesh.write(tables);
         Ok(Answer { splits: work.splits, flips: work.flips, counts: mesh.counts(), ..Answer::default() })
     }

@@ -3,7 +3,7 @@
 use crate::bench::{Bench, Outcome, difference};
 use crate::calls;
 use crate::rng::Rng;
-use crate::tables::{BOUNDARY, Call, Counts, FARTHEST, Store};
+use crate::tables::{BOUNDARY, Call, Counts, FARTHEST, HALF_UP, NO_RULES, Store};
 
 /// A triangle as it stands in the tables: corners, links and generation.
 type Row = ([u32; 3], [u32; 3], u8);
@@ -14,7 +14,7 @@ const B: u32 = BOUNDARY;
 /// Tables with these triangles and so many vertices, all slots past the counts in range, too.
 fn tables(vertices: u32, rows: &[Row]) -> Store {
     let mut store = Store::fresh(vertices as usize + 3, rows.len() + 6);
-    store.counts = Counts { vertices, triangles: rows.len() as u32 };
+    store.counts = Counts { vertices, triangles: rows.len() as u32, rule: HALF_UP };
     for (slot, (corners, links, generation)) in rows.iter().enumerate() {
         store.tables.corners[3 * slot..][..3].copy_from_slice(corners);
         store.tables.links[3 * slot..][..3].copy_from_slice(links);
@@ -33,7 +33,12 @@ fn two_apart(generations: [u8; 2]) -> Store {
 }
 
 fn with_counts(mut store: Store, vertices: u32, triangles: u32) -> Store {
-    store.counts = Counts { vertices, triangles };
+    store.counts = Counts { vertices, triangles, ..store.counts };
+    store
+}
+
+fn with_rule(mut store: Store, rule: u32) -> Store {
+    store.counts.rule = rule;
     store
 }
 
@@ -51,7 +56,7 @@ pub fn one_way_each() -> Vec<(&'static str, Store)> {
     let upper = [([0, 1, 2], [5, 8, 11], 0), ([0, 3, 1], [10, 6, B], 0)];
     let lower = [([1, 3, 2], [4, 9, 1], 0), ([2, 3, 0], [7, 3, 2], 0)];
     let two_fans = [([0, 1, 2], [B; 3], 0), ([0, 3, 4], [B; 3], 0)];
-    vec![
+    let broken = vec![
         ("1 <= F", with_counts(foil(), 3, 0)),
         ("1 <= V", with_counts(foil(), 0, 2)),
         ("V within the slots", with_counts(foil(), 7, 2)),
@@ -70,7 +75,8 @@ pub fn one_way_each() -> Vec<(&'static str, Store)> {
         ("generations 0 to 20", two_apart([21, 0])),
         ("generations 0 to 20", two_apart([20, 22])),
         ("generations 0 to 20", two_apart([0, 255])),
-    ]
+    ];
+    broken.into_iter().chain(NO_RULES.map(|rule| ("rule 1 or 2", with_rule(foil(), rule)))).collect()
 }
 
 /// All of them on both services, each call but load.

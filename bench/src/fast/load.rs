@@ -8,8 +8,8 @@ use crate::tables::{BOUNDARY, Counts, Tables};
 /// The end of a thread.
 const NONE: u32 = u32::MAX;
 
-/// Loads the cage, or refuses it with 2 to 6.
-pub fn load(tables: &mut Tables, cage: &[u8]) -> Result<Counts, u32> {
+/// Loads the cage by a rule, or refuses it with 2 to 6.
+pub fn load(tables: &mut Tables, rule: u32, cage: &[u8]) -> Result<Counts, u32> {
     let (words, rest) = cage.as_chunks::<4>();
     let &[vertices, triangles, ..] = words else {
         return Err(2);
@@ -34,7 +34,7 @@ pub fn load(tables: &mut Tables, cage: &[u8]) -> Result<Counts, u32> {
     for (place, &word) in tables.positions.iter_mut().zip(coordinates) {
         *place = i32::from_le_bytes(word);
     }
-    Ok(Counts { vertices: vertices as u32, triangles: triangles as u32 })
+    Ok(Counts { vertices: vertices as u32, triangles: triangles as u32, rule })
 }
 
 /// The sides out of each vertex, as a thread through all of them.

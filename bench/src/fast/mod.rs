@@ -7,8 +7,8 @@ mod split;
 mod step;
 
 use crate::tables::{
-    Answer, BOUNDARY, Call, Counts, Lent, LimitRead, MOST_TRIANGLE_SLOTS, MOST_VERTEX_SLOTS, PositionRead, RingRead,
-    Tables, Worked,
+    Answer, BOUNDARY, Call, Counts, HALF_AWAY, HALF_UP, Lent, LimitRead, MOST_TRIANGLE_SLOTS, MOST_VERTEX_SLOTS,
+    PositionRead, RingRead, Tables, Worked,
 };
 
 const LAST_GENERATION: u8 = 20;
@@ -16,7 +16,7 @@ const LAST_GENERATION: u8 = 20;
 pub fn answer(lent: &mut Lent, call: Call) -> Answer {
     let Lent { tables, counts, cage, buffer, table } = lent;
     match call {
-        Call::Load => Answer::Worked(fast_load(tables, *counts, cage)),
+        Call::Load(rule) => Answer::Worked(fast_load(tables, *counts, rule, cage)),
         Call::Refine(triangle) => Answer::Worked(fast_refine(tables, *counts, triangle)),
         Call::WholeStep => Answer::Worked(fast_whole_step(tables, *counts)),
         Call::Ring(vertex) => Answer::Ring(fast_ring(tables, *counts, vertex, buffer)),
@@ -27,8 +27,12 @@ pub fn answer(lent: &mut Lent, call: Call) -> Answer {
 
 #[unsafe(no_mangle)]
 #[inline(never)]
-fn fast_load(tables: &mut Tables, counts: Counts, cage: &[u8]) -> Worked {
-    let loaded = if tables_agree(tables) { load::load(tables, cage) } else { Err(1) };
+fn fast_load(tables: &mut Tables, counts: Counts, rule: u32, cage: &[u8]) -> Worked {
+    let loaded = match (tables_agree(tables), is_rule(rule)) {
+        (false, _) => Err(1),
+        (_, false) => Err(16),
+        _ => load::load(tables, rule, cage),
+    };
     match loaded {
         Ok(counts) => Worked { counts, ..Worked::default() },
         Err(refusal) => Worked { refusal, counts, ..Worked::default() },
@@ -81,6 +85,10 @@ fn fast_limit(tables: &Tables, counts: Counts, table: &mut [i32]) -> LimitRead {
     LimitRead { refusal: refused.unwrap_or(0), counts }
 }
 
+fn is_rule(number: u32) -> bool {
+    number == HALF_UP || number == HALF_AWAY
+}
+
 /// Condition 1.
 fn tables_agree(tables: &Tables) -> bool {
     let (vertex_slots, triangle_slots) = (tables.positions.len() / 3, tables.generations.len());
@@ -95,6 +103,9 @@ fn tables_agree(tables: &Tables) -> bool {
 fn starts(tables: &Tables, counts: Counts) -> Result<Vec<u32>, u32> {
     if !tables_agree(tables) {
         return Err(1);
+    }
+    if !is_rule(counts.rule) {
+        return Err(7);
     }
     sound::starts_if_sound(tables, counts).ok_or(7)
 }

@@ -9,7 +9,9 @@ pub const FARTHEST: i32 = 16_777_216;
 /// No start seen yet.
 const NONE: u32 = u32::MAX;
 
-/// The side where the ring of each vertex starts, if the tables are sound.
+/// The side where the ring of each vertex starts, if the tables are sound; the rule has been tested. It is not inlined,
+/// as its loops are slower where a caller's values take their registers.
+#[inline(never)]
 pub fn starts_if_sound(tables: &Tables, counts: Counts) -> Option<Vec<u32>> {
     let (vertices, triangles) = (counts.vertices as usize, counts.triangles as usize);
     if vertices == 0 || triangles == 0 {

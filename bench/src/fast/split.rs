@@ -66,7 +66,7 @@ fn face_split(tables: &mut Tables, worked: &mut Worked, t: usize) {
         relink(tables, links[i], 3 * slot);
         tables.generations[slot] = generation;
     }
-    worked.counts = Counts { vertices: p + 1, triangles: f as u32 + 2 };
+    worked.counts = Counts { vertices: p + 1, triangles: f as u32 + 2, ..worked.counts };
     worked.splits += 1;
     settle(tables, worked, &slots);
 }
@@ -92,7 +92,7 @@ fn rim_split(tables: &mut Tables, worked: &mut Worked, t: usize) {
     }
     relink(tables, pa, 3 * t);
     relink(tables, bp, 3 * e);
-    worked.counts = Counts { vertices: v + 2, triangles: f as u32 + 2 };
+    worked.counts = Counts { vertices: v + 2, triangles: f as u32 + 2, ..worked.counts };
     worked.splits += 1;
     settle(tables, worked, &[t, e]);
 }

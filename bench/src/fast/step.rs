@@ -4,7 +4,7 @@
 
 use super::LAST_GENERATION;
 use super::split::third;
-use crate::tables::{BOUNDARY, Counts, Tables, Worked};
+use crate::tables::{BOUNDARY, Counts, HALF_AWAY, Tables, Worked};
 
 /// The weights for rings of 0 to 12 entries, out of 65536.
 const WEIGHTS: [i64; 13] = [0, 0, 43691, 36409, 29127, 24627, 21845, 20047, 18829, 17971, 17345, 16875, 16515];
@@ -16,7 +16,8 @@ pub fn whole_step(tables: &mut Tables, counts: Counts) -> Result<Worked, u32> {
     if generation == LAST_GENERATION {
         return Err(9);
     }
-    let moved = moved_vertices(tables, vertices, triangles).ok_or(13u32)?;
+    let moved = if counts.rule == HALF_AWAY { moved_vertices::<true> } else { moved_vertices::<false> };
+    let moved = moved(tables, vertices, triangles).ok_or(13u32)?;
     if tables.positions.len() / 3 < vertices + triangles || tables.generations.len() < 3 * triangles {
         return Err(11);
     }
@@ -30,7 +31,7 @@ pub fn whole_step(tables: &mut Tables, counts: Counts) -> Result<Worked, u32> {
     split_all(tables, vertices, triangles);
     tables.generations[..3 * triangles].fill(generation + 2);
     let (splits, flips) = (counts.triangles, counts.triangles / 2 * 3);
-    let counts = Counts { vertices: counts.vertices + splits, triangles: 3 * splits };
+    let counts = Counts { vertices: counts.vertices + splits, triangles: 3 * splits, ..counts };
     Ok(Worked { refusal: 0, splits, flips, counts })
 }
 
@@ -45,18 +46,23 @@ pub fn limit(tables: &Tables, counts: Counts, table: &mut [i32]) -> Result<(), u
     if table.len() != 3 * vertices {
         return Err(15);
     }
+    let write = if counts.rule == HALF_AWAY { write_limits::<true> } else { write_limits::<false> };
+    write(tables, &rings, table);
+    Ok(())
+}
+
+fn write_limits<const AWAY: bool>(tables: &Tables, rings: &[[i32; 4]], table: &mut [i32]) {
     let (points, _) = tables.positions.as_chunks::<3>();
     let (limits, _) = table.as_chunks_mut::<3>();
-    for ((limit, point), &[x, y, z, entries]) in limits.iter_mut().zip(points).zip(&rings) {
+    for ((limit, point), &[x, y, z, entries]) in limits.iter_mut().zip(points).zip(rings) {
         let (n, w) = (i64::from(entries), WEIGHTS[entries as usize]);
         let denominator = n * (65536 + 3 * w);
         let nearest = |p: i32, sum: i32| {
             let numerator = 65536 * n * i64::from(p) + 3 * w * i64::from(sum);
-            (2 * numerator + denominator).div_euclid(2 * denominator) as i32
+            (2 * numerator + denominator + half_down::<AWAY>(numerator)).div_euclid(2 * denominator) as i32
         };
         *limit = [nearest(point[0], x), nearest(point[1], y), nearest(point[2], z)];
     }
-    Ok(())
 }
 
 /// The generation of all triangles, if it is one even one and no side is on the boundary.
@@ -82,8 +88,14 @@ fn ring_sums(tables: &Tables, vertices: usize, triangles: usize) -> Vec<[i32; 4]
     rings
 }
 
+/// −1 below zero if halves go away from it, and 0 elsewhere. Added before a division, it changes the floor where there
+/// is a half, and nowhere else.
+fn half_down<const AWAY: bool>(numerator: i64) -> i64 {
+    if AWAY { numerator >> 63 } else { 0 }
+}
+
 /// Where the vertices move, if no ring has more than 12 entries.
-fn moved_vertices(tables: &Tables, vertices: usize, triangles: usize) -> Option<Vec<[i32; 3]>> {
+fn moved_vertices<const AWAY: bool>(tables: &Tables, vertices: usize, triangles: usize) -> Option<Vec<[i32; 3]>> {
     let (points, _) = tables.positions[..3 * vertices].as_chunks::<3>();
     let rings = ring_sums(tables, vertices, triangles);
     let moved = |(&point, &[x, y, z, entries]): (&[i32; 3], &[i32; 4])| {
@@ -91,8 +103,8 @@ fn moved_vertices(tables: &Tables, vertices: usize, triangles: usize) -> Option<
         let n = i64::from(entries);
         let nearest = |p: i32, sum: i32| {
             let numerator = n * (65536 - w) * i64::from(p) + w * i64::from(sum);
-            // Halves go up; the two divisions, both down, are as good as one by 65536 × n.
-            (((numerator + 32768 * n) >> 16) as i32).div_euclid(entries)
+            // The two divisions, both down, are as good as one by 65536 × n.
+            (((numerator + 32768 * n + half_down::<AWAY>(numerator)) >> 16) as i32).div_euclid(entries)
         };
         Some([nearest(point[0], x), nearest(point[1], y), nearest(point[2], z)])
     };

@@ -10,14 +10,15 @@ use Rattle.rules.specs.Conditions.{SizesFit}
 use Rattle.rules.specs.Numbers.{numberAt}
 use Rattle.rules.specs.Tables.{Mesh, TablesAgree}
 use Rattle.soundness.proofs.Starts.{zeroed}
-use Rattle.cage.specs.Answers.{lent}
+use Rattle.cage.specs.Answers.{lent, cageCounts}
 use Rattle.cage.specs.Decoded.{Sized, WorkingRoom}
 
 -- Tables with the sizes v and f, as they are read, have the cage's counts.
-pub lent-sized : (bytes : List ℕ) {p : List ℤ} {c l n : List ℕ} {v f : ℕ} → v ≡ numberAt bytes 0 → f ≡ numberAt bytes 4
-    → lent p c l n v f ≡ lent p c l n (cageOf bytes .vertices) (cageOf bytes .triangles)
+pub lent-sized : (rule : ℕ) (bytes : List ℕ) {p : List ℤ} {c l n : List ℕ} {v f : ℕ} → v ≡ numberAt bytes 0
+    → f ≡ numberAt bytes 4
+    → lent p c l n (record { vertices = v; triangles = f; rule = rule }) ≡ lent p c l n (cageCounts rule bytes)
 unfolding cageOf
-lent-sized bytes e g = rw (e, g) refl
+lent-sized rule bytes e g = rw (e, g) refl
 
 pub sized : {bytes : List ℕ} {m : Mesh} {v f : ℕ} → v ≡ numberAt bytes 0 → f ≡ numberAt bytes 4 → TablesAgree m
     → SizesFit bytes m → Sized bytes v f

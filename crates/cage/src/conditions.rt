@@ -6,7 +6,8 @@ ghost use lib.ListN.{length};
 ghost use Rattle.rules.specs.Below.{all, fill};
 ghost use Rattle.rules.specs.Cage.{sizesFit, cornersFit};
 ghost use Rattle.rules.specs.Numbers.{numberAt, signed, inRange};
-ghost use Rattle.rules.specs.Tables.{topologyOf, meshOf};
+ghost use Rattle.tables.specs.declared.Counts.{Counts};
+ghost use Rattle.tables.specs.Lent.{meshNow};
 ghost use Rattle.cage.specs.Decoded.{decoded, cornerFits};
 use crate::wide;
 use tables::sides::next;
@@ -15,9 +16,8 @@ use tables::sides::next;
 // In 64 bits nothing wraps.
 pub fn sizes_fit(cage: &[u8], positions: &[i32], generations: &[u8]) -> bool
     ensures { λ r. ⌜
-        ((v f : ℕ) (c l : List ℕ)
-        → r ≡ sizesFit (now (cage .entry))
-        (meshOf (topologyOf v f c l (now (generations .entry))) (now (positions .entry)))) ⌝ }
+        ((n : Counts) (c l : List ℕ)
+        → r ≡ sizesFit (now (cage .entry)) (meshNow n (now (positions .entry)) c l (now (generations .entry)))) ⌝ }
 {
     if cage.len() < 8 {
         return false;

@@ -1,22 +1,20 @@
 // Loads a cage into the lent tables, or refuses it and leaves them.
+use tables::Counts;
+use tables::Worked;
 ghost use mathlib.Core.Path.{_≡_};
-ghost use Prim.Native.Nat.{_≤_};
+ghost use Prim.Native.Nat.{ℕ, _≤_};
 ghost use lib.ListN.{length};
 ghost use Rattle.rules.specs.Cage.{cageOf};
 ghost use Rattle.rules.specs.Calls.{loadCall};
+ghost use Rattle.rules.specs.Numbers.{KnownRule};
+ghost use Rattle.tables.specs.Answers.{workedOutcome};
+ghost use Rattle.tables.specs.Lent.{meshNow};
 ghost use Rattle.cage.specs.Answers.{lent, Loadable, Refuses, Leaves};
 ghost use Rattle.cage.specs.Decoded.{Sized, WorkingRoom, Holds};
 
 mod conditions;
 mod pairing;
 mod writing;
-
-// What a load answers: 0 or the number of the condition that refuses it, and the counts then in use.
-pub struct Loaded {
-    pub refusal: u32,
-    pub vertices: u32,
-    pub triangles: u32,
-}
 
 // The same number, as wide as an index.
 fn wide(x: u32) -> usize
@@ -75,9 +73,9 @@ fn load_by(
     requires { ⌜ Loadable (now cage) (lent (now positions) (now corners) (now links) (now generations)) ⌝ }
     requires { ⌜ WorkingRoom (cageOf (now cage) .vertices) (cageOf (now cage) .triangles) (now origins) (now partners)
         (now heads) (now nexts) (now slots) ⌝ }
-    ensures { λ r. ⌜ Leaves (now (cage .entry)) r
+    ensures { λ r. ⌜ ((rule : ℕ) → KnownRule rule → Leaves rule (now (cage .entry)) r
         (lent (now (positions .entry)) (now (corners .entry)) (now (links .entry)) (now (generations .entry)))
-        (lent (now (positions .exit)) (now (corners .exit)) (now (links .exit)) (now (generations .exit))) ⌝ }
+        (lent (now (positions .exit)) (now (corners .exit)) (now (links .exit)) (now (generations .exit)))) ⌝ }
 {
     let v = points::number_at(cage, 0);
     let f = points::number_at(cage, 4);
@@ -109,9 +107,9 @@ fn load_within_256(
 ) -> u32
     requires { ⌜ Loadable (now cage) (lent (now positions) (now corners) (now links) (now generations)) ⌝ }
     requires { ⌜ length (now cage) ≤ 3080 ⌝ }
-    ensures { λ r. ⌜ Leaves (now (cage .entry)) r
+    ensures { λ r. ⌜ ((rule : ℕ) → KnownRule rule → Leaves rule (now (cage .entry)) r
         (lent (now (positions .entry)) (now (corners .entry)) (now (links .entry)) (now (generations .entry)))
-        (lent (now (positions .exit)) (now (corners .exit)) (now (links .exit)) (now (generations .exit))) ⌝ }
+        (lent (now (positions .exit)) (now (corners .exit)) (now (links .exit)) (now (generations .exit)))) ⌝ }
 {
     let mut origins = [0u32; 768];
     let mut partners = [0u32; 768];
@@ -142,9 +140,9 @@ fn load_within_3072(
 ) -> u32
     requires { ⌜ Loadable (now cage) (lent (now positions) (now corners) (now links) (now generations)) ⌝ }
     requires { ⌜ length (now cage) ≤ 36872 ⌝ }
-    ensures { λ r. ⌜ Leaves (now (cage .entry)) r
+    ensures { λ r. ⌜ ((rule : ℕ) → KnownRule rule → Leaves rule (now (cage .entry)) r
         (lent (now (positions .entry)) (now (corners .entry)) (now (links .entry)) (now (generations .entry)))
-        (lent (now (positions .exit)) (now (corners .exit)) (now (links .exit)) (now (generations .exit))) ⌝ }
+        (lent (now (positions .exit)) (now (corners .exit)) (now (links .exit)) (now (generations .exit)))) ⌝ }
 {
     let mut origins = [0u32; 9216];
     let mut partners = [0u32; 9216];
@@ -179,9 +177,9 @@ fn load_within_98304(
     cage: &[u8],
 ) -> u32
     requires { ⌜ Loadable (now cage) (lent (now positions) (now corners) (now links) (now generations)) ⌝ }
-    ensures { λ r. ⌜ Leaves (now (cage .entry)) r
+    ensures { λ r. ⌜ ((rule : ℕ) → KnownRule rule → Leaves rule (now (cage .entry)) r
         (lent (now (positions .entry)) (now (corners .entry)) (now (links .entry)) (now (generations .entry)))
-        (lent (now (positions .exit)) (now (corners .exit)) (now (links .exit)) (now (generations .exit))) ⌝ }
+        (lent (now (positions .exit)) (now (corners .exit)) (now (links .exit)) (now (generations .exit)))) ⌝ }
 {
     let mut origins = side_room();
     let mut partners = side_room();
@@ -202,20 +200,24 @@ fn load_within_98304(
     )
 }
 
-// The same for all, with the conditions 1 and 2. A small cage has little room to clear.
+// The same for all, with the conditions 1, 16 and 2. A small cage has little room to clear.
 fn load_tables(
     positions: &mut [i32],
     corners: &mut [u32],
     links: &mut [u32],
     generations: &mut [u8],
+    rule: u32,
     cage: &[u8],
 ) -> u32
-    ensures { λ r. ⌜ Leaves (now (cage .entry)) r
+    ensures { λ r. ⌜ Leaves rule (now (cage .entry)) r
         (lent (now (positions .entry)) (now (corners .entry)) (now (links .entry)) (now (generations .entry)))
         (lent (now (positions .exit)) (now (corners .exit)) (now (links .exit)) (now (generations .exit))) ⌝ }
 {
     if !soundness::tables_agree(positions, corners, links, generations) {
         return 1;
+    }
+    if !points::known_rule(rule) {
+        return 16;
     }
     if !conditions::sizes_fit(cage, positions, generations) {
         return 2;
@@ -229,36 +231,41 @@ fn load_tables(
     load_within_98304(positions, corners, links, generations, cage)
 }
 
-// Loads the cage. A refusal leaves the tables and the counts.
+// Loads the cage, to be rounded by this rule. A refusal leaves the tables and the counts.
 pub fn load(
     positions: &mut [i32],
     corners: &mut [u32],
     links: &mut [u32],
     generations: &mut [u8],
-    vertices: u32,
-    triangles: u32,
+    counts: Counts,
+    rule: u32,
     cage: &[u8],
-) -> Loaded
-    ensures { λ r. ⌜ r .refusal ≡ loadCall (now (cage .entry)) (lent (now (positions .entry)) (now (corners .entry))
-        (now (links .entry)) (now (generations .entry)) vertices triangles) .answer .refusal ⌝ }
-    ensures { λ r. ⌜ lent (now (positions .exit)) (now (corners .exit)) (now (links .exit)) (now (generations .exit))
-        (r .vertices) (r .triangles)
-        ≡ loadCall (now (cage .entry)) (lent (now (positions .entry)) (now (corners .entry)) (now (links .entry))
-        (now (generations .entry)) vertices triangles) .mesh ⌝ }
+) -> Worked
+    ensures { λ r. ⌜
+        workedOutcome r (now (positions .exit)) (now (corners .exit)) (now (links .exit)) (now (generations .exit))
+        ≡ loadCall rule (now (cage .entry)) (meshNow counts (now (positions .entry)) (now (corners .entry))
+        (now (links .entry)) (now (generations .entry))) ⌝ }
 {
-    let refusal = load_tables(positions, corners, links, generations, cage);
+    let refusal = load_tables(positions, corners, links, generations, rule, cage);
     if refusal == 0 {
         let v = points::number_at(cage, 0);
         let f = points::number_at(cage, 4);
-        return Loaded {
-            refusal,
+        let loaded = Counts {
             vertices: v,
             triangles: f,
+            rule,
+        };
+        return Worked {
+            refusal,
+            splits: 0,
+            flips: 0,
+            counts: loaded,
         };
     }
-    Loaded {
+    Worked {
         refusal,
-        vertices,
-        triangles,
+        splits: 0,
+        flips: 0,
+        counts,
     }
 }

@@ -1,11 +1,13 @@
 // Writes a cage that is not refused into the lent tables.
 ghost use mathlib.Core.Path.{_≡_};
-ghost use Prim.Native.Nat.{ℕ, _+_, _*_, _≤_};
+ghost use Prim.Native.Nat.{_+_, _*_, _≤_};
 ghost use lib.ListN.{length, getD};
 ghost use Rattle.rules.specs.Below.{fill};
 ghost use Rattle.rules.specs.Cage.{cageOf, loaded};
 ghost use Rattle.rules.specs.Numbers.{numberAt, signed};
 ghost use Rattle.rules.specs.Tables.{topologyOf, meshOf};
+ghost use Rattle.tables.specs.declared.Counts.{Counts};
+ghost use Rattle.tables.specs.Lent.{meshNow};
 ghost use Rattle.cage.specs.Decoded.{Holds};
 
 // The first coordinates of the cage into the positions.
@@ -67,12 +69,11 @@ pub fn write(
         (3 * vertices ≤ length (now positions)) × (3 * triangles ≤ length (now corners))
         × (3 * triangles ≤ length (now links)) × (triangles ≤ length (now generations)) ⌝ }
     ensures { λ _. ⌜
-        ((v f : ℕ)
+        ((n : Counts)
         → meshOf (topologyOf vertices triangles (now (corners .exit)) (now (links .exit)) (now (generations .exit)))
-        (now (positions .exit))
+        (now (positions .exit)) (n .rule)
         ≡ loaded (cageOf (now (cage .entry)))
-        (meshOf (topologyOf v f (now (corners .entry)) (now (links .entry)) (now (generations .entry)))
-        (now (positions .entry)))) ⌝ }
+        (meshNow n (now (positions .entry)) (now (corners .entry)) (now (links .entry)) (now (generations .entry)))) ⌝ }
 {
     let coordinates = 3 * (vertices as usize);
     let sides = 3 * (triangles as usize);

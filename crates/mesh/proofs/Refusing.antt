@@ -9,12 +9,12 @@ use native.Mathlib.Omega.{arith}
 use lib.Dec.{eqb, leb, ltb}
 use lib.IntN.{ℤ}
 use lib.ListN.{length}
-use Rattle.rules.proofs.Calls.CallRefusals.{load-judged, position-refusal-first}
+use Rattle.rules.proofs.Calls.CallRefusals.{position-refusal-first}
 use Rattle.rules.proofs.Numbers.Decide.{Decides, stable}
-use Rattle.rules.proofs.Calls.FirstThatHolds.{refuses, carries, Judged, carried, refused, none-hold}
+use Rattle.rules.proofs.Calls.FirstThatHolds.{refuses, carries, none-hold}
 use Rattle.rules.proofs.Soundness.SoundTest.{tables-agree-is, sound-is}
-use Rattle.rules.specs.Calls.{Test, _if_, firstOf, Outcome, answerOf, noRoom, ringRoom, outcomeOf, zeroPoint}
-use Rattle.rules.specs.Calls.{refusedWith, roomFor, worked, loadCall, refineRefusal, refineCall, closedEven, longRing}
+use Rattle.rules.specs.Calls.{Test, _if_, firstOf, noRoom, ringRoom}
+use Rattle.rules.specs.Calls.{refusedWith, roomFor, worked, refineRefusal, refineCall, closedEven, longRing}
 use Rattle.rules.specs.Calls.{wholeStepRefusal, limitRefusal, ringRefusal, ringRead, ringCall, positionRefusal}
 use Rattle.rules.specs.Calls.{positionRead, positionCall, verticesOf, trianglesOf, tooOld}
 use Rattle.rules.specs.Ring.{ring}
@@ -244,19 +244,6 @@ module _ (v : ℕ) (m : Mesh) where
     position-none a = sym (position-passed ∙ rw a refl)
 
 -- ---- outcomes
-
--- A load's outcome is its refusal and its mesh; the rest is zero.
-pub load-whole : (bytes : List ℕ) (m : Mesh)
-    →
-    (let n = loadCall bytes m .mesh in
-    outcomeOf (answerOf (loadCall bytes m .answer .refusal) 0 0 0 zeroPoint n) n noRoom)
-    ≡ loadCall bytes m
-load-whole bytes m = go (load-judged bytes m)
-  where
-    go : {n : ℕ} {l : Mesh} {o : Outcome} → Judged n m noRoom (worked (atFirst l)) o
-        → outcomeOf (answerOf (o .answer .refusal) 0 0 0 zeroPoint (o .mesh)) (o .mesh) noRoom ≡ o
-    go (carried z) = refl
-    go (refused z) = refl
 
 module _ (t : ℕ) (m : Mesh) (r : ℕ) (e : r ≡ refineRefusal t m) where
   pub refine-refused : r ≢ 0 → refusedWith r m noRoom ≡ refineCall t m

@@ -63,38 +63,29 @@ fn not_sound(
         generations,
         counts.vertices,
         counts.triangles,
+        counts.rule,
     ) {
         return 7;
     }
     0
 }
 
-// Loads a cage, whatever the tables held before.
+// Loads a cage, to be rounded by this rule, whatever the tables held before.
 pub fn load(
     positions: &mut [i32],
     corners: &mut [u32],
     links: &mut [u32],
     generations: &mut [u8],
     counts: Counts,
+    rule: u32,
     cage: &[u8],
 ) -> Worked
     ensures { λ r. ⌜
         workedOutcome r (now (positions .exit)) (now (corners .exit)) (now (links .exit)) (now (generations .exit))
-        ≡ loadCall (now (cage .entry)) (meshNow counts (now (positions .entry)) (now (corners .entry))
+        ≡ loadCall rule (now (cage .entry)) (meshNow counts (now (positions .entry)) (now (corners .entry))
         (now (links .entry)) (now (generations .entry))) ⌝ }
 {
-    let v = counts.vertices;
-    let f = counts.triangles;
-    let done = cage::load(positions, corners, links, generations, v, f, cage);
-    Worked {
-        refusal: done.refusal,
-        splits: 0,
-        flips: 0,
-        counts: Counts {
-            vertices: done.vertices,
-            triangles: done.triangles,
-        },
-    }
+    cage::load(positions, corners, links, generations, counts, rule, cage)
 }
 
 // Whether t may rise no more: it is of generation 20, or of 19 with its base on the boundary.
@@ -182,6 +173,7 @@ fn refine_known(
         counts: Counts {
             vertices: done.vertices,
             triangles: done.triangles,
+            rule: counts.rule,
         },
     }
 }
@@ -321,6 +313,7 @@ fn find_ring(
         generations,
         counts.vertices,
         counts.triangles,
+        counts.rule,
         v,
     );
     if start == 0 {

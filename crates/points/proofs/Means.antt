@@ -37,9 +37,9 @@ module _ (n w : ℕ) (e : w ≡ weight n) where
       most = omega (arith, light);
     }
 
-  module _ (p s r : Point) where
-    pub move-by : r ≡ meanPoint (n * (65536 - w)) w n p s → r ≡ movedPoint n p s
-    move-by q = q ∙ rw (e, moved-is n (p .x) (s .x), moved-is n (p .y) (s .y), moved-is n (p .z) (s .z))
+  module _ (rule : ℕ) (p s r : Point) where
+    pub move-by : r ≡ meanPoint rule (n * (65536 - w)) w n p s → r ≡ movedPoint rule n p s
+    move-by q = q ∙ rw (e, moved-is rule n (p .x) (s .x), moved-is rule n (p .y) (s .y), moved-is rule n (p .z) (s .z))
 
-    pub limit-by : r ≡ meanPoint (65536 * n) (3 * w) n p s → r ≡ limitPoint n p s
-    limit-by q = q ∙ rw (e, limit-is n (p .x) (s .x), limit-is n (p .y) (s .y), limit-is n (p .z) (s .z))
+    pub limit-by : r ≡ meanPoint rule (65536 * n) (3 * w) n p s → r ≡ limitPoint rule n p s
+    limit-by q = q ∙ rw (e, limit-is rule n (p .x) (s .x), limit-is rule n (p .y) (s .y), limit-is rule n (p .z) (s .z))

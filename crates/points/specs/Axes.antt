@@ -34,17 +34,17 @@ pub record Parts (a b n : ℕ) : Type 0 where
   pub ownMost : a ≤ 786432
   pub most : b ≤ 131073
 
--- The mean of a parts at p and b parts at each of n points that add up to s.
-abbrev pub meanPoint : ℕ → ℕ → ℕ → Point → Point → Point
-meanPoint a b n p s = eachAxis (λ k. mean a b n (coordinate p k) (coordinate s k))
+-- The mean of a parts at p and b parts at each of n points that add up to s, rounded by a rule.
+abbrev pub meanPoint : ℕ → ℕ → ℕ → ℕ → Point → Point → Point
+meanPoint rule a b n p s = eachAxis (λ k. mean rule a b n (coordinate p k) (coordinate s k))
 
--- Where a vertex moves: it is at p and has n ring entries that add up to s.
-abbrev pub movedPoint : ℕ → Point → Point → Point
-movedPoint n p s = eachAxis (λ k. moved n (coordinate p k) (coordinate s k))
+-- Where a vertex moves by a rule: it is at p and has n ring entries that add up to s.
+abbrev pub movedPoint : ℕ → ℕ → Point → Point → Point
+movedPoint rule n p s = eachAxis (λ k. moved rule n (coordinate p k) (coordinate s k))
 
 -- Its limit position.
-abbrev pub limitPoint : ℕ → Point → Point → Point
-limitPoint n p s = eachAxis (λ k. limit n (coordinate p k) (coordinate s k))
+abbrev pub limitPoint : ℕ → ℕ → Point → Point → Point
+limitPoint rule n p s = eachAxis (λ k. limit rule n (coordinate p k) (coordinate s k))
 
 -- The sum of two points.
 abbrev pub plus : Point → Point → Point

@@ -1,10 +1,12 @@
 // Points with whole coordinates, the rules that make new coordinates, and numbers of four bytes.
 ghost use mathlib.Core.Path.{_≡_};
 ghost use Prim.Native.Nat.{_+_, _*_, _≤_, _<_};
+ghost use mathlib.Core.Bool.{_&&_, _||_};
+ghost use lib.Dec.{eqb, ltb};
 ghost use lib.IntN.{pos, _+ℤ_, _-ℤ_};
 ghost use lib.ListN.{length};
 ghost use Rattle.rules.proofs.Numbers.Rounding.{mean};
-ghost use Rattle.rules.specs.Numbers.{inRange, nearestThird, halfUp, weight, numberAt, signed};
+ghost use Rattle.rules.specs.Numbers.{inRange, nearestThird, knownRule, rounded, weight, numberAt, signed};
 ghost use Rattle.points.specs.Axes.{at, thirds, Parts, meanPoint, movedPoint, limitPoint, plus, SumOf, Fits};
 
 // A point, in units of 1/1024 mm.
@@ -50,34 +52,34 @@ impl Point {
         }
     }
 
-    // The mean of a parts at this point and b parts at each of n points that add up to sum.
-    fn mean(self, a: u64, b: u64, n: usize, sum: Point) -> Self
+    // The mean of a parts at this point and b parts at each of n points that add up to sum, rounded by the rule.
+    fn mean(self, rule: u32, a: u64, b: u64, n: usize, sum: Point) -> Self
         requires { ⌜ Parts a b n ⌝ }
-        ensures { λ r. ⌜ r ≡ meanPoint a b n self sum ⌝ }
+        ensures { λ r. ⌜ r ≡ meanPoint rule a b n self sum ⌝ }
     {
         Self {
-            x: mean_of(a, b, n, self.x, sum.x),
-            y: mean_of(a, b, n, self.y, sum.y),
-            z: mean_of(a, b, n, self.z, sum.z),
+            x: mean_of(rule, a, b, n, self.x, sum.x),
+            y: mean_of(rule, a, b, n, self.y, sum.y),
+            z: mean_of(rule, a, b, n, self.z, sum.z),
         }
     }
 
     // Where a vertex moves in a whole step: it has n ring entries, which add up to sum.
-    pub fn moved(self, n: usize, sum: Point) -> Self
+    pub fn moved(self, rule: u32, n: usize, sum: Point) -> Self
         requires { ⌜ (1 ≤ n) × (n ≤ 12) ⌝ }
-        ensures { λ r. ⌜ r ≡ movedPoint n self sum ⌝ }
+        ensures { λ r. ⌜ r ≡ movedPoint rule n self sum ⌝ }
     {
         let w = weight_of(n);
-        self.mean(n as u64 * (65536 - w), w, n, sum)
+        self.mean(rule, n as u64 * (65536 - w), w, n, sum)
     }
 
     // Its limit position.
-    pub fn limit(self, n: usize, sum: Point) -> Self
+    pub fn limit(self, rule: u32, n: usize, sum: Point) -> Self
         requires { ⌜ (1 ≤ n) × (n ≤ 12) ⌝ }
-        ensures { λ r. ⌜ r ≡ limitPoint n self sum ⌝ }
+        ensures { λ r. ⌜ r ≡ limitPoint rule n self sum ⌝ }
     {
         let w = weight_of(n);
-        self.mean(65536 * n as u64, 3 * w, n, sum)
+        self.mean(rule, 65536 * n as u64, 3 * w, n, sum)
     }
 }
 
@@ -127,13 +129,32 @@ fn third(a: i32, b: i32, c: i32) -> i32
     lowered((sum + 1) / 3)
 }
 
-// m / d to the nearest, half going up.
-fn half_up(m: u64, d: u64) -> u64
+// Whether there is such a rule of rounding.
+pub fn known_rule(rule: u32) -> bool
+    ensures { λ r. ⌜ r ≡ knownRule rule ⌝ }
+{
+    rule == 1 || rule == 2
+}
+
+// Whether a fraction goes down to this whole number, rest / (2 d) below it: short of a half; by rule 2 at a half too,
+// below zero, which is counted as 2147483648.
+fn goes_down(rule: u32, down: u64, rest: u64, d: u64) -> bool
+    ensures { λ r. ⌜ r ≡ (ltb rest d || (eqb rest d && (eqb rule 2 && ltb down 2147483648))) ⌝ }
+{
+    rest < d || (rest == d && (rule == 2 && down < 2147483648))
+}
+
+// m / d to the nearest by the rule, with fraction and answer so counted.
+fn rounded(rule: u32, m: u64, d: u64) -> u64
     requires { ⌜ (0 < d) × (m + d < 9223372036854775808) ⌝ }
-    ensures { λ r. ⌜ pos r ≡ halfUp (pos m) d ⌝ }
+    ensures { λ r. ⌜ pos r -ℤ pos 2147483648 ≡ rounded rule (pos m -ℤ pos (2147483648 * d)) d ⌝ }
 {
     let down = m / d;
-    if 2 * (m % d) < d { down } else { down + 1 }
+    if goes_down(rule, down, 2 * (m % d), d) {
+        down
+    } else {
+        down + 1
+    }
 }
 
 // By the number of ring entries, out of 65536.
@@ -160,14 +181,14 @@ fn weight_of(n: usize) -> u64
     WEIGHTS[n]
 }
 
-// The mean of a parts at p and b parts at each of n places that add up to s, in one coordinate.
-fn mean_of(a: u64, b: u64, n: usize, p: i32, s: i32) -> i32
+// The mean of a parts at p and b parts at each of n places that add up to s, in one coordinate, rounded by the rule.
+fn mean_of(rule: u32, a: u64, b: u64, n: usize, p: i32, s: i32) -> i32
     requires { ⌜ Parts a b n ⌝ }
-    ensures { λ r. ⌜ r ≡ mean a b n p s ⌝ }
+    ensures { λ r. ⌜ r ≡ mean rule a b n p s ⌝ }
 {
     let k = n as u64;
     let m = a * raised(p) + b * raised_sum(s as i64, k);
-    lowered(half_up(m, a + b * k))
+    lowered(rounded(rule, m, a + b * k))
 }
 
 // The number of four bytes, low byte first.

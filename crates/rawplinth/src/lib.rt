@@ -11,7 +11,7 @@ ghost use Rattle.tables.specs.Answers.{workedOutcome};
 ghost use Rattle.tables.specs.Lent.{meshNow};
 ghost use Rattle.mesh.specs.Answers.{limitOutcome, ringOutcome, positionOutcome};
 
-// Loads a cage.
+// Loads a cage, to be rounded by a rule.
 #[no_mangle]
 pub extern "C" fn rawplinth_load(
     positions: &mut [i32],
@@ -19,14 +19,15 @@ pub extern "C" fn rawplinth_load(
     links: &mut [u32],
     generations: &mut [u8],
     counts: Counts,
+    rule: u32,
     cage: &[u8],
 ) -> Worked
     ensures { λ r. ⌜ workedOutcome r (now (positions .exit)) (now (corners .exit)) (now (links .exit))
         (now (generations .exit))
-        ≡ loadCall (now (cage .entry)) (meshNow counts (now (positions .entry)) (now (corners .entry))
+        ≡ loadCall rule (now (cage .entry)) (meshNow counts (now (positions .entry)) (now (corners .entry))
         (now (links .entry)) (now (generations .entry))) ⌝ }
 {
-    mesh::load(positions, corners, links, generations, counts, cage)
+    mesh::load(positions, corners, links, generations, counts, rule, cage)
 }
 
 // Refines one triangle.

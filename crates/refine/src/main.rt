@@ -28,27 +28,30 @@ fn print(answer: Worked) {
     put(answer.counts.triangles, b"\n");
 }
 
-// Loads the cage in a file; one that is missing is empty. The buffer has a byte more than the largest cage of this
-// store, so that a longer file is longer here too.
+// Loads the cage in a file by rule 1; one that is missing is empty. The buffer has a byte more than the largest cage of
+// this store, so that a longer file is longer here too.
 fn load(
     positions: &mut [i32],
     corners: &mut [u32],
     links: &mut [u32],
     generations: &mut [u8],
     path: &[u8],
-) -> Worked {
+) -> Worked
+    ensures { λ r. ⌜ r .counts .rule ≡ 1 ⌝ }
+{
     let fresh = Counts {
         vertices: 0,
         triangles: 0,
+        rule: 1,
     };
     let mut cage = [0u8; 36873];
     let fd = os::open_read(path);
     if fd < 0 {
-        return mesh::load(positions, corners, links, generations, fresh, b"");
+        return mesh::load(positions, corners, links, generations, fresh, 1, b"");
     }
     let n = io::read_full(fd, &mut cage);
     libc::close(fd);
-    mesh::load(positions, corners, links, generations, fresh, &cage[..n])
+    mesh::load(positions, corners, links, generations, fresh, 1, &cage[..n])
 }
 
 // Answers the requests in these bytes, four to each, and drops what is left over.

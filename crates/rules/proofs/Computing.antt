@@ -9,7 +9,8 @@ use Rattle.rules.specs.Calls.{Outcome, closedEven, loadRefusal, refineRe
 use Rattle.rules.specs.Calls.{positionRefusal, limitRefusal, loadCall, refineCall, wholeStepCall, ringCall}
 use Rattle.rules.specs.Calls.{positionCall, limitCall}
 use Rattle.rules.specs.History.{Change, changes, after, outcomes, lastLoad, edges, cageEdges}
-use Rattle.rules.specs.Numbers.{numberAt, signed, floorDiv, nearestThird, halfUp, weights, weight, moved, limit}
+use Rattle.rules.specs.Numbers.{numberAt, signed, floorDiv, nearestThird, halfUp, rounded, weights, weight, moved}
+use Rattle.rules.specs.Numbers.{limit}
 use Rattle.rules.specs.Ring.{firstSide, fanFrom, fan, neighbours, ring}
 use Rattle.rules.specs.Sound.{isLinked, soundSide, hasOneFan, isSound}
 use Rattle.rules.specs.Split.{split, flip, centre, splitPlaced, settle, faceSplit, chainEndWithin, chainOddWithin}
@@ -23,8 +24,8 @@ unfoldable pub computing : Unit {0}
 unfolding all any lowest total fill cageOf partner loaded sizesFit cornersFit coordinatesFit sidesDiffer fansFit
     closedEven loadRefusal refineRefusal wholeStepRefusal ringRefusal positionRefusal loadCall refineCall
     wholeStepCall ringCall positionCall after outcomes lastLoad edges cageEdges numberAt signed floorDiv nearestThird
-    halfUp weights weight moved firstSide fanFrom fan neighbours ring isLinked soundSide hasOneFan isSound split flip
-    limit limitCoordinate limitPositions limitRefusal limitCall centre firstThird secondThird splitPlaced rimCut
+    halfUp rounded weights weight moved firstSide fanFrom fan neighbours ring isLinked soundSide hasOneFan isSound split
+    flip limit limitCoordinate limitPositions limitRefusal limitCall centre firstThird secondThird splitPlaced rimCut
     rimPlaced settle faceSplit rimSplit chainEndWithin chainOddWithin raise refine sumOver movedCoordinate
     moveVertices refineFirst wholeStep tablesAgree
 computing = tt
@@ -36,10 +37,11 @@ made cs m = after (map changes cs) m
 abbrev pub madeEach : List Change → Mesh → List Outcome
 madeEach cs m = outcomes (map changes cs) m
 
--- A store of v vertex and f triangle slots, without content.
+-- A store of v vertex and f triangle slots, without content and with rule 1.
 unfoldable pub fresh : ℕ → ℕ → Mesh
 fresh v f =
     meshOf (topologyOf 0 0 (replicate (3 * f) 0) (replicate (3 * f) 0) (replicate f 0)) (replicate (3 * v) (pos 0))
+    1
 
 -- Numbers below 256 as the four bytes of each, low byte first.
 unfoldable pub bytes : List ℕ → List ℕ

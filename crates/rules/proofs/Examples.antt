@@ -28,13 +28,13 @@ pointOf m v = coordinate m v 0 ∷ coordinate m v 1 ∷ coordinate m v 2 ∷ []
 -- ---- the table
 
 unfoldable pub run : List Change
-run = loads tetrahedron ∷ refines 0 ∷ refines 0 ∷ refines 0 ∷ refines 0 ∷ refines 99 ∷ []
+run = loads 1 tetrahedron ∷ refines 0 ∷ refines 0 ∷ refines 0 ∷ refines 0 ∷ refines 99 ∷ []
 
 unfoldable pub store : Mesh
 store = fresh 1024 2048
 
 unfoldable pub smoothing : List Change
-smoothing = loads tetrahedron ∷ steps ∷ []
+smoothing = loads 1 tetrahedron ∷ steps ∷ []
 
 pub record Table : Type 0 where
   pub p1-to-p6 : map lineOf (madeEach run store) ≡
@@ -73,12 +73,12 @@ unfolding bytes
 oneTriangle = bytes (3 ∷ 1 ∷ 0 ∷ 0 ∷ 0 ∷ 9 ∷ 0 ∷ 0 ∷ 0 ∷ 9 ∷ 0 ∷ 0 ∷ 1 ∷ 2 ∷ [])
 
 unfoldable pub nineRun : List Change
-nineRun = loads oneTriangle ∷ refines 0 ∷ refines 0 ∷ refines 1 ∷ refines 2 ∷ []
+nineRun = loads 1 oneTriangle ∷ refines 0 ∷ refines 0 ∷ refines 1 ∷ refines 2 ∷ []
 
 -- A second run: the seventh refine meets a chain of four odd triangles that ends at the boundary.
 unfoldable pub deepRun : List Change
 deepRun =
-    loads oneTriangle ∷ refines 0 ∷ refines 0 ∷ refines 0 ∷ refines 0 ∷ refines 0 ∷ refines 0 ∷ refines 0 ∷ refines 0
+    loads 1 oneTriangle ∷ refines 0 ∷ refines 0 ∷ refines 0 ∷ refines 0 ∷ refines 0 ∷ refines 0 ∷ refines 0 ∷ refines 0
     ∷ refines 0 ∷ []
 
 unfoldable pub shellStore : Mesh
@@ -150,6 +150,7 @@ chainOf n v f =
     (chainLinks n 0 boundary ++ replicate (3 * f) 0)
     (chainGenerations n 0 ++ replicate f 0))
     (replicate (3 * (n + 2 + v)) (pos 0))
+    1
 
 -- Its last triangle refined: with room for v vertices and f triangles more.
 unfoldable pub lastRefined : ℕ × ℕ × ℕ → List ℕ

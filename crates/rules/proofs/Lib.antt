@@ -8,6 +8,7 @@ pub mod Soundness
 pub mod Loads
 pub mod Steps
 pub mod Calls
+pub mod Mirrors
 pub mod Results
 pub mod Computing
 pub mod Examples

@@ -2,16 +2,16 @@
 use Prim.Native.Nat.{ℕ}
 use mathlib.Core.List.{List, [], _∷_, _++_, map}
 use mathlib.Core.Path.{_≡_, refl}
-use lib.IntN.{pos, negsuc}
-use lib.ListN.{replicate, drop}
+use lib.IntN.{ℤ, pos, negsuc}
+use lib.ListN.{replicate, drop, getD}
 use Rattle.rules.proofs.Computing.{computing, made, madeEach, fresh, bytes, tetrahedron}
 use Rattle.rules.proofs.Examples.{lineOf, triangleOf, pointOf}
 use Rattle.rules.proofs.Refusals.{refusalAfter, cageAtOrigin, triangle}
 use Rattle.rules.specs.History.{Change, loads, refines, steps, ringOf, positionOf, limitsOf, asked, changes}
 use Rattle.rules.specs.History.{nothing, cage, lastLoad, edges}
-use Rattle.rules.specs.Numbers.{nearestThird, halfUp}
-use Rattle.rules.specs.Step.{limitCoordinate}
-use Rattle.rules.specs.Tables.{Mesh, topologyOf, meshOf, link, generation}
+use Rattle.rules.specs.Mirror.{mirror, mirrorTable}
+use Rattle.rules.specs.Numbers.{nearestThird, rounded}
+use Rattle.rules.specs.Tables.{Mesh, topologyOf, meshOf, link, generation, coordinate}
 
 unfoldable pub store : Mesh
 unfolding fresh
@@ -19,27 +19,45 @@ store = fresh 12 20
 
 unfoldable pub sideOne : List Change
 unfolding tetrahedron
-sideOne = loads tetrahedron ∷ refines 0 ∷ refines 3 ∷ refines 7 ∷ refines 9 ∷ []
+sideOne = loads 1 tetrahedron ∷ refines 0 ∷ refines 3 ∷ refines 7 ∷ refines 9 ∷ []
 
 unfoldable pub octahedron : List Change
 unfolding cageAtOrigin
 octahedron =
-    loads (cageAtOrigin 6 8 (
+    loads 1 (cageAtOrigin 6 8 (
     0 ∷ 1 ∷ 4 ∷ 1 ∷ 2 ∷ 4 ∷ 2 ∷ 3 ∷ 4 ∷ 3 ∷ 0 ∷ 4 ∷ 1 ∷ 0 ∷ 5 ∷ 2 ∷ 1 ∷ 5 ∷ 3 ∷ 2 ∷ 5 ∷ 0 ∷ 3 ∷ 5 ∷ []
     )) ∷ refines 0 ∷ refines 4 ∷ []
 
--- The same with only vertex 2 away from the origin, at this x, whose four bytes are given.
-unfoldable pub pulled : List ℕ → List Change
+-- The same by a rule, with only vertex 2 away from the origin, at this x, whose four bytes are given.
+unfoldable pub pulled : ℕ → List ℕ → List Change
 unfolding bytes
-pulled x =
-    loads (bytes (6 ∷ 8 ∷ []) ++ replicate 24 0 ++ x ++ replicate 44 0 ++ bytes (
+pulled rule x =
+    loads rule (bytes (6 ∷ 8 ∷ []) ++ replicate 24 0 ++ x ++ replicate 44 0 ++ bytes (
     0 ∷ 1 ∷ 4 ∷ 1 ∷ 2 ∷ 4 ∷ 2 ∷ 3 ∷ 4 ∷ 3 ∷ 0 ∷ 4 ∷ 1 ∷ 0 ∷ 5 ∷ 2 ∷ 1 ∷ 5 ∷ 3 ∷ 2 ∷ 5 ∷ 0 ∷ 3 ∷ 5 ∷ []
     )) ∷ []
+
+-- A tetrahedron by a rule, with only vertex 1 away from the origin, at x = 98304.
+unfoldable pub spike : ℕ → List Change
+unfolding bytes
+spike rule =
+    loads rule (bytes (4 ∷ 4 ∷ []) ++ replicate 12 0 ++ (0 ∷ 128 ∷ 1 ∷ 0 ∷ []) ++ replicate 32 0 ++ bytes (
+    0 ∷ 1 ∷ 2 ∷ 0 ∷ 3 ∷ 1 ∷ 1 ∷ 3 ∷ 2 ∷ 2 ∷ 3 ∷ 0 ∷ []
+    )) ∷ []
+
+-- Coordinate 0 of vertex 0 after a whole step, here and in the mirror.
+abbrev pub stepped : Mesh → List ℤ
+stepped m = coordinate (made (steps ∷ []) m) 0 0 ∷ coordinate (made (steps ∷ []) (mirror 0 m)) 0 0 ∷ []
+
+-- Coordinate 0 of the limit of vertex 1, here and in the mirror.
+abbrev pub limitsAt : Mesh → List ℤ
+limitsAt m =
+    let at : Mesh → ℤ = λ n. getD (asked (limitsOf (replicate 18 (pos 0))) n .room .table) 3 (pos 0) in
+    at m ∷ at (mirror 0 m) ∷ []
 
 unfoldable pub longChain : List Change
 unfolding tetrahedron
 longChain =
-    loads tetrahedron ∷ refines 0 ∷ refines 0 ∷ refines 0 ∷ refines 7 ∷ refines 8 ∷ refines 8 ∷ []
+    loads 1 tetrahedron ∷ refines 0 ∷ refines 0 ∷ refines 0 ∷ refines 7 ∷ refines 8 ∷ refines 8 ∷ []
 
 -- Two triangles that share one side.
 unfoldable pub hinge : List ℕ
@@ -63,7 +81,7 @@ signedBytes =
 -- Two triangles that share all three sides.
 unfoldable pub foil : List Change
 unfolding cageAtOrigin
-foil = loads (cageAtOrigin 3 2 (0 ∷ 1 ∷ 2 ∷ 0 ∷ 2 ∷ 1 ∷ [])) ∷ refines 0 ∷ refines 1 ∷ []
+foil = loads 1 (cageAtOrigin 3 2 (0 ∷ 1 ∷ 2 ∷ 0 ∷ 2 ∷ 1 ∷ [])) ∷ refines 0 ∷ refines 1 ∷ []
 
 -- The same two at generation 18, in 6 triangle slots.
 unfoldable pub atEighteen : Mesh
@@ -71,7 +89,7 @@ atEighteen =
     meshOf (topologyOf 3 2
     (0 ∷ 1 ∷ 2 ∷ 0 ∷ 2 ∷ 1 ∷ replicate 12 0)
     (5 ∷ 4 ∷ 3 ∷ 2 ∷ 1 ∷ 0 ∷ replicate 12 0)
-    (18 ∷ 18 ∷ replicate 4 0)) (replicate 15 (pos 0))
+    (18 ∷ 18 ∷ replicate 4 0)) (replicate 15 (pos 0)) 1
 
 pub record Table : Type 0 where
   -- After a flip the even triangle across the previous base may be in another slot: here in slot 1 and not in slot 6.
@@ -95,44 +113,60 @@ pub record Table : Type 0 where
   -- Generation 19 with an even triangle across its base is refined to 20.
   pub toTwenty : generation (made (refines 0 ∷ refines 0 ∷ []) atEighteen .topology) 0 ≡ 20
   -- The room that the first refine of the tetrahedron takes, and one slot less of either kind.
-  pub enoughRoom : refusalAfter (loads tetrahedron ∷ []) (changes (refines 0)) (fresh 5 6) ≡ 0
-  pub fewTriangleSlots : refusalAfter (loads tetrahedron ∷ []) (changes (refines 0)) (fresh 5 5) ≡ 11
-  pub fewVertexSlots : refusalAfter (loads tetrahedron ∷ []) (changes (refines 0)) (fresh 4 6) ≡ 11
+  pub enoughRoom : refusalAfter (loads 1 tetrahedron ∷ []) (changes (refines 0)) (fresh 5 6) ≡ 0
+  pub fewTriangleSlots : refusalAfter (loads 1 tetrahedron ∷ []) (changes (refines 0)) (fresh 5 5) ≡ 11
+  pub fewVertexSlots : refusalAfter (loads 1 tetrahedron ∷ []) (changes (refines 0)) (fresh 4 6) ≡ 11
   -- A ring leaves the rest of its buffer; at the boundary it starts there, and ends with the last neighbour.
-  pub closedRing : asked (ringOf 0 (replicate 5 77)) (made (loads tetrahedron ∷ []) store) .room .buffer ≡ 1 ∷ 2 ∷ 3
+  pub closedRing : asked (ringOf 0 (replicate 5 77)) (made (loads 1 tetrahedron ∷ []) store) .room .buffer ≡ 1 ∷ 2 ∷ 3
       ∷ 77 ∷ 77 ∷ []
-  pub hingeRing : asked (ringOf 0 (replicate 4 77)) (made (loads hinge ∷ []) store) .room .buffer ≡ 3 ∷ 1 ∷ 2 ∷ 77 ∷ []
-  pub openRing : asked (ringOf 0 (replicate 3 77)) (made (loads triangle ∷ []) store) .room .buffer ≡ 1 ∷ 2 ∷ 77 ∷ []
+  pub hingeRing : asked (ringOf 0 (replicate 4 77)) (made (loads 1 hinge ∷ []) store) .room .buffer ≡ 3 ∷ 1 ∷ 2 ∷ 77
+      ∷ []
+  pub openRing : asked (ringOf 0 (replicate 3 77)) (made (loads 1 triangle ∷ []) store) .room .buffer ≡ 1 ∷ 2 ∷ 77 ∷ []
   -- All vertices move at once.
-  pub movedTwo : pointOf (made (loads tetrahedron ∷ steps ∷ []) store) 2 ≡ pos 2 ∷ pos 4 ∷ pos 2 ∷ []
-  pub movedThree : pointOf (made (loads tetrahedron ∷ steps ∷ []) store) 3 ≡ pos 2 ∷ pos 2 ∷ pos 4 ∷ []
+  pub movedTwo : pointOf (made (loads 1 tetrahedron ∷ steps ∷ []) store) 2 ≡ pos 2 ∷ pos 4 ∷ pos 2 ∷ []
+  pub movedThree : pointOf (made (loads 1 tetrahedron ∷ steps ∷ []) store) 3 ≡ pos 2 ∷ pos 2 ∷ pos 4 ∷ []
   -- New vertices are placed by the old positions.
-  pub placedFour : pointOf (made (loads tetrahedron ∷ steps ∷ []) store) 4 ≡ pos 3 ∷ pos 3 ∷ pos 0 ∷ []
-  -- Limit positions, and a half, 43690.5, that goes up on both sides of zero: 305834 to one side, and to the other.
-  pub limits : asked (limitsOf (replicate 12 (pos 77))) (made (loads tetrahedron ∷ []) store) .room .table
+  pub placedFour : pointOf (made (loads 1 tetrahedron ∷ steps ∷ []) store) 4 ≡ pos 3 ∷ pos 3 ∷ pos 0 ∷ []
+  -- Limit positions.
+  pub limits : asked (limitsOf (replicate 12 (pos 77))) (made (loads 1 tetrahedron ∷ []) store) .room .table
       ≡ pos 2 ∷ pos 2 ∷ pos 2 ∷ pos 3 ∷ pos 2 ∷ pos 2 ∷ pos 2 ∷ pos 3 ∷ pos 2 ∷ pos 2 ∷ pos 2 ∷ pos 3 ∷ []
-  pub limitHalf : limitCoordinate (made (pulled (170 ∷ 170 ∷ 4 ∷ 0 ∷ [])) store) 1 0 ≡ pos 43691
-  pub limitHalfBelow : limitCoordinate (made (pulled (86 ∷ 85 ∷ 251 ∷ 255 ∷ [])) store) 1 0 ≡ negsuc 43689
+  -- Where vertex 2 is at x = 305834 or -305834, vertex 1 has its limit at a half, 43690.5 or -43690.5. Rule 1 takes it
+  -- up on both sides of zero, so that the mirror image of a limit is not the limit of the mirror image; rule 2 takes it
+  -- away from zero. (Request c)
+  pub limitHalf : limitsAt (made (pulled 1 (170 ∷ 170 ∷ 4 ∷ 0 ∷ [])) store) ≡ pos 43691 ∷ negsuc 43689 ∷ []
+  pub limitHalfAway : limitsAt (made (pulled 2 (170 ∷ 170 ∷ 4 ∷ 0 ∷ [])) store) ≡ pos 43691 ∷ negsuc 43690 ∷ []
+  pub limitHalfBelow : limitsAt (made (pulled 2 (86 ∷ 85 ∷ 251 ∷ 255 ∷ [])) store) ≡ negsuc 43690 ∷ pos 43691 ∷ []
+  -- The load of a mirrored cage is the mirror image of the load.
+  pub loadMirrored : made (pulled 2 (86 ∷ 85 ∷ 251 ∷ 255 ∷ [])) store
+      ≡ mirror 0 (made (pulled 2 (170 ∷ 170 ∷ 4 ∷ 0 ∷ [])) store)
+  -- The same half of a whole step, 18204.5.
+  pub stepHalf : stepped (made (spike 1) store) ≡ pos 18205 ∷ negsuc 18203 ∷ []
+  pub stepHalfAway : stepped (made (spike 2) store) ≡ pos 18205 ∷ negsuc 18204 ∷ []
+  -- A load sets the rule, and a refused one leaves it.
+  pub ruleSet : made (spike 2) store .rule ≡ 2
+  pub ruleKept : made (loads 2 tetrahedron ∷ loads 1 [] ∷ refines 0 ∷ []) store .rule ≡ 2
   -- A side alone links to 2^32 - 1.
-  pub unlinked : link (made (loads triangle ∷ []) store .topology) 0 ≡ 4294967295
+  pub unlinked : link (made (loads 1 triangle ∷ []) store .topology) 0 ≡ 4294967295
   -- Coordinates are signed, low byte first, and both limits are allowed.
-  pub signedPoint : asked (positionOf 0) (made (loads signedBytes ∷ []) store) .answer .point
+  pub signedPoint : asked (positionOf 0) (made (loads 1 signedBytes ∷ []) store) .answer .point
       ≡ (negsuc 16777215, pos 66051, pos 16777216)
-  pub greatest : refusalAfter [] (changes (loads (withFirst (0 ∷ 0 ∷ 0 ∷ 1 ∷ [])))) store ≡ 0
-  pub least : refusalAfter [] (changes (loads (withFirst (0 ∷ 0 ∷ 0 ∷ 255 ∷ [])))) store ≡ 0
-  pub belowLeast : refusalAfter [] (changes (loads (withFirst (255 ∷ 255 ∷ 255 ∷ 254 ∷ [])))) store ≡ 4
+  pub greatest : refusalAfter [] (changes (loads 1 (withFirst (0 ∷ 0 ∷ 0 ∷ 1 ∷ [])))) store ≡ 0
+  pub least : refusalAfter [] (changes (loads 1 (withFirst (0 ∷ 0 ∷ 0 ∷ 255 ∷ [])))) store ≡ 0
+  pub belowLeast : refusalAfter [] (changes (loads 1 (withFirst (255 ∷ 255 ∷ 255 ∷ 254 ∷ [])))) store ≡ 4
   -- The cage that demand 3 speaks of is that of the last accepted load.
-  pub lastAccepted : lastLoad (map changes (loads triangle ∷ loads tetrahedron ∷ loads [] ∷ steps ∷ [])) store nothing
+  pub lastAccepted :
+      lastLoad (map changes (loads 1 triangle ∷ loads 1 tetrahedron ∷ loads 1 [] ∷ steps ∷ [])) store nothing
       ≡ cage tetrahedron
   -- The nearest third, on both sides of zero.
   pub thirds : map nearestThird (pos 4 ∷ pos 5 ∷ negsuc 0 ∷ negsuc 3 ∷ negsuc 4 ∷ []) ≡ pos 1 ∷ pos 2 ∷ pos 0
       ∷ negsuc 0 ∷ negsuc 1 ∷ []
-  -- Half goes up, on both sides of zero.
-  pub halves : halfUp (pos 5) 2 ∷ halfUp (negsuc 4) 2 ∷ [] ≡ pos 3 ∷ negsuc 1 ∷ []
+  -- Half goes up by rule 1, and away from zero by rule 2.
+  pub halves : rounded 1 (pos 5) 2 ∷ rounded 1 (negsuc 4) 2 ∷ [] ≡ pos 3 ∷ negsuc 1 ∷ []
+  pub halvesAway : rounded 2 (pos 5) 2 ∷ rounded 2 (negsuc 4) 2 ∷ [] ≡ pos 3 ∷ negsuc 2 ∷ []
 
 pub readings : Table
-unfolding computing fresh tetrahedron triangle store sideOne octahedron pulled longChain hinge withFirst signedBytes
-    foil atEighteen
+unfolding computing mirrorTable fresh tetrahedron triangle store sideOne octahedron pulled spike longChain hinge
+    withFirst signedBytes foil atEighteen
 readings = record {
   throughSideOne = refl;
   throughSideOne₉ = refl;
@@ -154,7 +188,13 @@ readings = record {
   placedFour = refl;
   limits = refl;
   limitHalf = refl;
+  limitHalfAway = refl;
   limitHalfBelow = refl;
+  loadMirrored = refl;
+  stepHalf = refl;
+  stepHalfAway = refl;
+  ruleSet = refl;
+  ruleKept = refl;
   unlinked = refl;
   signedPoint = refl;
   greatest = refl;
@@ -163,4 +203,5 @@ readings = record {
   lastAccepted = refl;
   thirds = refl;
   halves = refl;
+  halvesAway = refl;
 }

@@ -6,7 +6,7 @@ use lib.IntN.{pos}
 use lib.ListN.{replicate, take}
 use Rattle.rules.proofs.Computing.{computing, made, fresh, bytes, tetrahedron}
 use Rattle.rules.specs.History.{Change, loads, refines, steps, ringOf, limitsOf, Call, changes, asks, outcome}
-use Rattle.rules.specs.Tables.{Mesh, topologyOf, meshOf, boundary}
+use Rattle.rules.specs.Tables.{Mesh, topologyOf, meshOf, withRule, boundary}
 
 -- The refusal of the last call, on a mesh, after the others.
 abbrev pub refusalAfter : List Change → Call → Mesh → ℕ
@@ -18,7 +18,7 @@ small = fresh 6 9
 
 -- Tables that disagree: corners and links for 9 triangle slots, generations for 8.
 unfoldable pub uneven : Mesh
-uneven = meshOf (topologyOf 0 0 (replicate 27 0) (replicate 27 0) (replicate 8 0)) (replicate 18 (pos 0))
+uneven = meshOf (topologyOf 0 0 (replicate 27 0) (replicate 27 0) (replicate 8 0)) (replicate 18 (pos 0)) 1
 
 -- A cage of v vertices at the origin and these corners.
 unfoldable pub cageAtOrigin : ℕ → ℕ → List ℕ → List ℕ
@@ -39,12 +39,13 @@ unfoldable pub grown : Mesh
 grown =
     meshOf (topologyOf 3 2 (0 ∷ 1 ∷ 2 ∷ 0 ∷ 2 ∷ 1 ∷ []) (5 ∷ 4 ∷ 3 ∷ 2 ∷ 1 ∷ 0 ∷ []) (20 ∷ 20 ∷ []))
     (replicate 9 (pos 0))
+    1
 
 -- One triangle of generation g with its three sides on the boundary, and room for a rim split.
 unfoldable pub shell : ℕ → Mesh
 shell g =
     let links = boundary ∷ boundary ∷ boundary ∷ replicate 6 0 in
-    meshOf (topologyOf 3 1 (0 ∷ 1 ∷ 2 ∷ replicate 6 0) links (g ∷ 0 ∷ 0 ∷ [])) (replicate 15 (pos 0))
+    meshOf (topologyOf 3 1 (0 ∷ 1 ∷ 2 ∷ replicate 6 0) links (g ∷ 0 ∷ 0 ∷ [])) (replicate 15 (pos 0)) 1
 
 -- The first k pairs of triangles of a double pyramid on n sides: its apexes are n and n + 1.
 unfoldable pub pyramids : ℕ → ℕ → List ℕ
@@ -56,29 +57,35 @@ unfolding cageAtOrigin pyramids
 doublePyramid n = cageAtOrigin (n + 2) (2 * n) (pyramids n n)
 
 pub record Table : Type 0 where
-  pub n1 : refusalAfter [] (changes (loads tetrahedron)) uneven ≡ 1
-  pub n2 : refusalAfter [] (changes (loads (take 7 tetrahedron))) small ≡ 2
-  pub n3 : refusalAfter [] (changes (loads (cageAtOrigin 3 1 (0 ∷ 0 ∷ 1 ∷ [])))) small ≡ 3
-  pub n4 : refusalAfter [] (changes (loads tooFar)) small ≡ 4
-  pub n5 : refusalAfter [] (changes (loads (cageAtOrigin 4 2 (0 ∷ 1 ∷ 2 ∷ 0 ∷ 1 ∷ 3 ∷ [])))) small ≡ 5
-  pub n6 : refusalAfter [] (changes (loads (cageAtOrigin 4 1 (0 ∷ 1 ∷ 2 ∷ [])))) small ≡ 6
+  pub n1 : refusalAfter [] (changes (loads 1 tetrahedron)) uneven ≡ 1
+  pub n2 : refusalAfter [] (changes (loads 1 (take 7 tetrahedron))) small ≡ 2
+  pub n3 : refusalAfter [] (changes (loads 1 (cageAtOrigin 3 1 (0 ∷ 0 ∷ 1 ∷ [])))) small ≡ 3
+  pub n4 : refusalAfter [] (changes (loads 1 tooFar)) small ≡ 4
+  pub n5 : refusalAfter [] (changes (loads 1 (cageAtOrigin 4 2 (0 ∷ 1 ∷ 2 ∷ 0 ∷ 1 ∷ 3 ∷ [])))) small ≡ 5
+  pub n6 : refusalAfter [] (changes (loads 1 (cageAtOrigin 4 1 (0 ∷ 1 ∷ 2 ∷ [])))) small ≡ 6
   pub n7 : refusalAfter [] (changes (refines 0)) small ≡ 7
-  pub n8 : refusalAfter (loads tetrahedron ∷ []) (changes (refines 4)) small ≡ 8
+  -- A rule that is neither 1 nor 2, stored with the counts.
+  pub n7ByRule : refusalAfter [] (changes (refines 0)) (withRule 3 (made (loads 1 tetrahedron ∷ []) small)) ≡ 7
+  pub n8 : refusalAfter (loads 1 tetrahedron ∷ []) (changes (refines 4)) small ≡ 8
   pub n9 : refusalAfter [] (changes (refines 0)) grown ≡ 9
   -- Generation 19 with its base on the boundary, and 17.
   pub n9AtBoundary : refusalAfter [] (changes (refines 0)) (shell 19) ≡ 9
   pub seventeenIsAllowed : refusalAfter [] (changes (refines 0)) (shell 17) ≡ 0
   -- The outline's example of 10 is refined.
-  pub not10 : refusalAfter (loads triangle ∷ refines 0 ∷ []) (changes (refines 0)) small ≡ 0
-  pub n11 : refusalAfter (loads tetrahedron ∷ []) (changes (refines 0)) (fresh 6 5) ≡ 11
-  pub n12 : refusalAfter (loads tetrahedron ∷ refines 0 ∷ []) (changes steps) small ≡ 12
-  pub n13 : refusalAfter (loads (doublePyramid 13) ∷ []) (changes steps) (fresh 15 26) ≡ 13
-  pub twelveIsAllowed : refusalAfter (loads (doublePyramid 12) ∷ []) (changes steps) (fresh 38 72) ≡ 0
-  pub n14 : refusalAfter (loads tetrahedron ∷ []) (asks (ringOf 0 (7 ∷ 7 ∷ []))) small ≡ 14
-  pub n15 : refusalAfter (loads tetrahedron ∷ []) (asks (limitsOf (replicate 11 (pos 7)))) small ≡ 15
-  pub longerIsRefused : refusalAfter (loads tetrahedron ∷ []) (asks (limitsOf (replicate 13 (pos 7)))) small ≡ 15
-  pub ringBeforeTable : refusalAfter (loads (doublePyramid 13) ∷ []) (asks (limitsOf [])) (fresh 15 26) ≡ 13
+  pub not10 : refusalAfter (loads 1 triangle ∷ refines 0 ∷ []) (changes (refines 0)) small ≡ 0
+  pub n11 : refusalAfter (loads 1 tetrahedron ∷ []) (changes (refines 0)) (fresh 6 5) ≡ 11
+  pub n12 : refusalAfter (loads 1 tetrahedron ∷ refines 0 ∷ []) (changes steps) small ≡ 12
+  pub n13 : refusalAfter (loads 1 (doublePyramid 13) ∷ []) (changes steps) (fresh 15 26) ≡ 13
+  pub twelveIsAllowed : refusalAfter (loads 1 (doublePyramid 12) ∷ []) (changes steps) (fresh 38 72) ≡ 0
+  pub n14 : refusalAfter (loads 1 tetrahedron ∷ []) (asks (ringOf 0 (7 ∷ 7 ∷ []))) small ≡ 14
+  pub n15 : refusalAfter (loads 1 tetrahedron ∷ []) (asks (limitsOf (replicate 11 (pos 7)))) small ≡ 15
+  pub longerIsRefused : refusalAfter (loads 1 tetrahedron ∷ []) (asks (limitsOf (replicate 13 (pos 7)))) small ≡ 15
+  pub ringBeforeTable : refusalAfter (loads 1 (doublePyramid 13) ∷ []) (asks (limitsOf [])) (fresh 15 26) ≡ 13
   pub twentyIsAnswered : refusalAfter [] (asks (limitsOf (replicate 9 (pos 7)))) grown ≡ 0
+  -- A load with another rule, after 1 and before 2.
+  pub n16 : refusalAfter [] (changes (loads 0 tetrahedron)) small ≡ 16
+  pub tablesBeforeRule : refusalAfter [] (changes (loads 3 tetrahedron)) uneven ≡ 1
+  pub ruleBeforeSizes : refusalAfter [] (changes (loads 3 (take 7 tetrahedron))) small ≡ 16
 
 pub refusals : Table
 unfolding computing fresh small uneven tetrahedron cageAtOrigin triangle tooFar grown shell doublePyramid
@@ -90,6 +97,7 @@ refusals = record {
   n5 = refl;
   n6 = refl;
   n7 = refl;
+  n7ByRule = refl;
   n8 = refl;
   n9 = refl;
   n9AtBoundary = refl;
@@ -104,4 +112,7 @@ refusals = record {
   longerIsRefused = refl;
   ringBeforeTable = refl;
   twentyIsAnswered = refl;
+  n16 = refl;
+  tablesBeforeRule = refl;
+  ruleBeforeSizes = refl;
 }

@@ -12,11 +12,10 @@ use Rattle.rules.proofs.Calls.Histories.{every-history, history-sound}
 use Rattle.rules.proofs.Loads.Load.{links-are}
 use Rattle.rules.proofs.Calls.Outcomes.{load-makes, refine-makes, chain-falls, refine-is-split}
 use Rattle.rules.proofs.Calls.Outcomes.{whole-step-makes, limit-makes, ring-reads, position-reads}
-use Rattle.rules.proofs.Calls.Outcomes.{half-up-nearest}
-use Rattle.rules.proofs.Calls.Outcomes.{half-up-alone}
 use Rattle.rules.proofs.Chains.Refine.{chain-counts, chain-takes}
+use Rattle.rules.proofs.Mirrors.MirrorCalls.{call-mirror}
 use Rattle.rules.proofs.Rings.RingTheory.{ring-makes}
-use Rattle.rules.proofs.Numbers.Rounding.{nearest-third, nearest-third-only}
+use Rattle.rules.proofs.Numbers.Rounding.{nearest-third, nearest-third-only, rounded-nearest, nearest-only}
 use Rattle.rules.proofs.Soundness.SoundTest.{sound-is}
 use Rattle.rules.specs.Cage.{Cage, cageOf, loaded}
 use Rattle.rules.specs.Calls.{refusedWith, worked, loadCall, refineCall, wholeStepCall, ringRead, ringCall}
@@ -26,7 +25,8 @@ use Rattle.rules.specs.Conditions.{SidesDiffer, EndsAtBoundary, OddInCha
 use Rattle.rules.specs.Conditions.{refineConditions, wholeStepConditions, limitConditions, ringConditions}
 use Rattle.rules.specs.Conditions.{positionConditions, Takes}
 use Rattle.rules.specs.History.{Call, outcome, lent, after, lastLoad, nothing, cage, EveryHistory}
-use Rattle.rules.specs.Numbers.{nearestThird, halfUp}
+use Rattle.rules.specs.Mirror.{mirror, mirrorOutcome, Mirrors, Rounds}
+use Rattle.rules.specs.Numbers.{nearestThird, rounded}
 use Rattle.rules.specs.Promises.{Nearest, Matches, Loaded, ChainFalls, RefineMakes, StepMakes, LimitMakes}
 use Rattle.rules.specs.Promises.{RingMakes}
 use Rattle.rules.specs.Promises.{kobbelt}
@@ -34,6 +34,7 @@ use Rattle.rules.specs.Sound.{Sound, isSound}
 use Rattle.rules.specs.Split.{atFirst, chainOdd, refine}
 use Rattle.rules.specs.Step.{wholeStep, limitPositions}
 use Rattle.rules.specs.Tables.{Mesh, TablesAgree, vertexSlots, triangleSlots, boundary, link, generation}
+use Rattle.rules.specs.Tables.{withRule}
 
 -- ---- soundness (The cage and the lent tables)
 
@@ -51,18 +52,19 @@ third-near = nearest-third
 pub third-only : (s q : ℤ) → natAbs (pos 3 *ℤ q -ℤ s) ≤ 1 → q ≡ nearestThird s
 third-only = nearest-third-only
 
--- Half up gives the nearest whole number, the upper of two.
-pub half-up-near : (n : ℤ) {d : ℕ} → 0 < d → Nearest n d (halfUp n d)
-half-up-near = half-up-nearest
+-- A rounded fraction is the nearest whole number by its rule: of two the upper, or by rule 2 the one further from zero.
+pub rounded-near : (rule : ℕ) (n : ℤ) {d : ℕ} → 0 < d → Nearest rule n d (rounded rule n d)
+rounded-near = rounded-nearest
 
 -- There is no other.
-pub half-up-only : (n q : ℤ) (d : ℕ) → Nearest n d q → q ≡ halfUp n d
-half-up-only = half-up-alone
+pub rounded-only : (rule : ℕ) (n q : ℤ) (d : ℕ) → Nearest rule n d q → q ≡ rounded rule n d
+rounded-only = nearest-only
 
 -- ---- refusals (Refused inputs)
 
 -- A load returns the number of the first condition, in its order, that holds, and 0 where none does.
-pub load-returns : (bytes : List ℕ) (m : Mesh) → First (loadConditions bytes m) (loadCall bytes m .answer .refusal)
+pub load-returns : (rule : ℕ) (bytes : List ℕ) (m : Mesh)
+    → First (loadConditions rule bytes m) (loadCall rule bytes m .answer .refusal)
 load-returns = load-refusal
 
 -- So does a refine.
@@ -90,17 +92,17 @@ limit-returns = limit-refusal
 pub never-ten : (c : Call) (m : Mesh) → outcome c m .answer .refusal ≢ 10
 never-ten = no-ten
 
--- A refused call answers its number with zeros and V and F as they stood, and leaves the mesh and its room.
+-- A refused call answers its number with zeros and the counts as they stood, and leaves the mesh and its room.
 pub refusal-leaves : (c : Call) (m : Mesh) → outcome c m .answer .refusal ≢ 0
     → outcome c m ≡ refusedWith (outcome c m .answer .refusal) m (lent c)
 refusal-leaves = refused-leaves
 
 -- ---- load (Load)
 
--- A load that is carried out answers no splits and no flips, and leaves the cage, sound and linked.
-pub load-carried : (bytes : List ℕ) (m : Mesh) → loadCall bytes m .answer .refusal ≡ 0
-    → (loadCall bytes m ≡ worked (atFirst (loaded (cageOf bytes) m)))
-    × Loaded (cageOf bytes) m (loaded (cageOf bytes) m)
+-- A load that is carried out answers no splits and no flips, and leaves the cage, sound and linked, with its rule.
+pub load-carried : (rule : ℕ) (bytes : List ℕ) (m : Mesh) → loadCall rule bytes m .answer .refusal ≡ 0
+    → let n = withRule rule (loaded (cageOf bytes) m) in
+    (loadCall rule bytes m ≡ worked (atFirst n)) × Loaded rule (cageOf bytes) m n
 load-carried = load-makes
 
 -- In the tables that condition 6 is judged in, the links are the matching opposite sides.
@@ -157,7 +159,7 @@ whole-step-carried = whole-step-makes
 -- ---- limit positions (Request a)
 
 -- A limit query that is carried out fills the table, and the mesh stands. Each entry is the nearest whole number to its
--- fraction, half going up, and in range; and the fraction is the limit: moved without rounding, with the centres of its
+-- fraction, by the rule, and in range; and the fraction is the limit: moved without rounding, with the centres of its
 -- triangles for ring, a vertex has the same, and is nearer to its ring's mean.
 pub limit-carried : (table : List ℤ) (m : Mesh) → limitCall table m .answer .refusal ≡ 0
     → (limitCall table m ≡ limitRead table m) × LimitMakes m (limitPositions m table)
@@ -191,3 +193,11 @@ third-demand = every-history
 pub sound-after : (calls : List Call) (m : Mesh) (bytes : List ℕ) → lastLoad calls m nothing ≡ cage bytes
     → Sound (after calls m)
 sound-after = history-sound
+
+-- ---- mirror images (Request c)
+
+-- A call of the mirrored mesh, with what it is given mirrored too, gives the mirrored outcome, refusals and counts with
+-- it, on every content of the tables; a call that rounds by the rule does so under rule 2.
+pub mirrored : (k : ℕ) {c c′ : Call} (m : Mesh) → Mirrors k c c′ → (Rounds c → m .rule ≡ 2)
+    → outcome c′ (mirror k m) ≡ mirrorOutcome k (outcome c m)
+mirrored k m = call-mirror k m

@@ -51,6 +51,7 @@ loaded c m =
     (fill (3 * c .triangles) (partner c) (t .links))
     (fill (c .triangles) (λ i. 0) (t .generations)))
     (fill (3 * c .vertices) (c .coordinate) (m .positions))
+    (m .rule)
 
 -- ---- tests of a cage (Refused inputs, 2 to 6), which decide the conditions (proofs/Results, load-returns)
 

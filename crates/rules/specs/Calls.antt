@@ -7,15 +7,16 @@ use lib.IntN.{ℤ, pos}
 use lib.ListN.{length, getD}
 use Rattle.rules.specs.Below.{all, any, fill}
 use Rattle.rules.specs.Cage.{cageOf, loaded, sizesFit, cornersFit, coordinatesFit, sidesDiffer, fansFit}
+use Rattle.rules.specs.Numbers.{knownRule}
 use Rattle.rules.specs.Ring.{ring}
 use Rattle.rules.specs.Sound.{isSound}
 use Rattle.rules.specs.Split.{Work, atFirst, chainEnd, chainOdd, refine}
 use Rattle.rules.specs.Step.{wholeStep, limitPositions}
 use Rattle.rules.specs.Tables.{Topology, Mesh, tablesAgree, vertexSlots, triangleSlots, sides, link, boundary}
-use Rattle.rules.specs.Tables.{generation, odd, coordinate}
+use Rattle.rules.specs.Tables.{generation, odd, coordinate, withRule}
 
 -- What a call answers: the number of its refusal, 0 for none, the splits and flips that it made, the length of a ring,
--- a position, and V and F. Only `answerOf` builds it.
+-- a position, and the counts: V, F and the rule. The calls build it by `answerOf` alone.
 pub record Answer : Type 0 where
   pub refusal : ℕ
   pub splits : ℕ
@@ -24,6 +25,7 @@ pub record Answer : Type 0 where
   pub point : ℤ × ℤ × ℤ
   pub vertices : ℕ
   pub triangles : ℕ
+  pub rule : ℕ
 
 -- What a call is lent beside the mesh: a ring buffer, a table of points. What it is not lent is empty.
 pub record Room : Type 0 where
@@ -36,7 +38,7 @@ pub record Outcome : Type 0 where
   pub mesh : Mesh
   pub room : Room
 
--- An answer from its parts, with V and F of a mesh.
+-- An answer from its parts, with the counts of a mesh.
 abbrev pub answerOf : ℕ → ℕ → ℕ → ℕ → ℤ × ℤ × ℤ → Mesh → Answer
 answerOf refusal splits flips n point m = record {
   refusal = refusal;
@@ -46,6 +48,7 @@ answerOf refusal splits flips n point m = record {
   point = point;
   vertices = m .topology .vertices;
   triangles = m .topology .triangles;
+  rule = m .rule;
 }
 
 -- No room, a ring buffer alone, a table alone.
@@ -66,8 +69,8 @@ outcomeOf answer m room = record { answer = answer; mesh = m; room = room }
 abbrev pub zeroPoint : ℤ × ℤ × ℤ
 zeroPoint = (pos 0, pos 0, pos 0)
 
--- A refusal answers its number with zeros and V and F as they stand; the mesh is left, and this room. (Refused inputs,
--- below the table)
+-- A refusal answers its number with zeros and the counts as they stand; the mesh is left, and this room. (Refused
+-- inputs, below the table)
 abbrev pub refusedWith : ℕ → Mesh → Room → Outcome
 refusedWith n m room = outcomeOf (answerOf n 0 0 0 zeroPoint m) m room
 
@@ -91,8 +94,8 @@ firstOf (n if holds ∷ rest) = elim holds [ true ↦ n | false ↦ firstOf rest
 abbrev pub roomFor : ℕ → ℕ → Mesh → Bool
 roomFor v f m = leb (m .topology .vertices + v) (vertexSlots m) && leb (m .topology .triangles + f) (triangleSlots m)
 
--- The rim splits that refining t takes: one where its base chain ends at the boundary, at an odd triangle. (Change
--- request b)
+-- The rim splits that refining t takes: one where its base chain ends at the boundary, at an odd triangle. (Request
+-- b)
 abbrev pub rimSplitsOf : Topology → ℕ → ℕ
 rimSplitsOf m t = generation m (chainEnd m t) % 2
 
@@ -125,11 +128,12 @@ abbrev pub longRing : Topology → Bool
 longRing m = any (m .vertices) (λ v. ltb 12 (length (ring m v)))
 
 -- The number that a load is refused with; below, those of the other calls. (Refused inputs, below the table)
-unfoldable pub loadRefusal : List ℕ → Mesh → ℕ
-loadRefusal bytes m =
+unfoldable pub loadRefusal : ℕ → List ℕ → Mesh → ℕ
+loadRefusal rule bytes m =
     let c = cageOf bytes in
     firstOf (
     1 if not (tablesAgree m)
+    ∷ 16 if not (knownRule rule)
     ∷ 2 if not (sizesFit bytes m)
     ∷ 3 if not (cornersFit c)
     ∷ 4 if not (coordinatesFit c)
@@ -196,9 +200,10 @@ abbrev pub unless : ℕ → Mesh → Room → Outcome → Outcome
 unless zero m room done = done
 unless (suc n) m room done = refusedWith (suc n) m room
 
--- (Load)
-unfoldable pub loadCall : List ℕ → Mesh → Outcome
-loadCall bytes m = unless (loadRefusal bytes m) m noRoom (worked (atFirst (loaded (cageOf bytes) m)))
+-- The rule that a load takes goes with the counts from then on. (Load; request c)
+unfoldable pub loadCall : ℕ → List ℕ → Mesh → Outcome
+loadCall rule bytes m =
+    unless (loadRefusal rule bytes m) m noRoom (worked (atFirst (withRule rule (loaded (cageOf bytes) m))))
 
 -- (Refine one triangle)
 unfoldable pub refineCall : ℕ → Mesh → Outcome

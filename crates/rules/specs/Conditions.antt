@@ -6,7 +6,7 @@ use mathlib.Core.Path.{_≡_}
 use lib.IntN.{ℤ}
 use lib.ListN.{length}
 use Rattle.rules.specs.Cage.{Cage, cageOf, loaded}
-use Rattle.rules.specs.Numbers.{InRange}
+use Rattle.rules.specs.Numbers.{InRange, KnownRule}
 use Rattle.rules.specs.Ring.{ring}
 use Rattle.rules.specs.Sound.{OneFan, Sound}
 use Rattle.rules.specs.Tables.{Topology, Mesh, TablesAgree, vertexSlots, triangleSlots, sides, next, link}
@@ -104,10 +104,11 @@ pub data First : List Condition → ℕ → Type 1 where
 
 -- ---- the conditions of each call, in its order (Refused inputs, below the table)
 
-abbrev pub loadConditions : List ℕ → Mesh → List Condition
-loadConditions bytes m =
+abbrev pub loadConditions : ℕ → List ℕ → Mesh → List Condition
+loadConditions rule bytes m =
     let c = cageOf bytes in
     1 when (¬ TablesAgree m)
+    ∷ 16 when (¬ KnownRule rule)
     ∷ 2 when (¬ SizesFit bytes m)
     ∷ 3 when (¬ CornersFit c)
     ∷ 4 when (¬ CoordinatesFit c)

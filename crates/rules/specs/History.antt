@@ -13,9 +13,9 @@ use Rattle.rules.specs.Calls.{ringCall, positionCall, limitCall}
 use Rattle.rules.specs.Conditions.{OddInChain, EndsAtBoundary}
 use Rattle.rules.specs.Tables.{Topology, Mesh, sides, link, boundary, generation, next}
 
--- A call that may change the mesh, with its arguments: a cage's bytes, a triangle, none.
+-- A call that may change the mesh, with its arguments: a rule and a cage's bytes, a triangle, none.
 pub data Change : Type 0 where
-  loads : List ℕ → Change
+  loads : ℕ → List ℕ → Change
   refines : ℕ → Change
   steps : Change
 
@@ -33,7 +33,7 @@ pub data Call : Type 0 where
 
 -- What a call does to a mesh.
 abbrev pub changed : Change → Mesh → Outcome
-changed (loads bytes) m = loadCall bytes m
+changed (loads rule bytes) m = loadCall rule bytes m
 changed (refines t) m = refineCall t m
 changed steps m = wholeStepCall m
 
@@ -72,8 +72,8 @@ pub data LastLoad : Type 0 where
 
 -- The last accepted load after a call, from the one before it.
 abbrev pub opens : Call → Mesh → LastLoad → LastLoad
-opens (changes (loads bytes)) m before =
-    elim (eqb (loadCall bytes m .answer .refusal) 0) [ true ↦ cage bytes | false ↦ before ]
+opens (changes (loads rule bytes)) m before =
+    elim (eqb (loadCall rule bytes m .answer .refusal) 0) [ true ↦ cage bytes | false ↦ before ]
 opens (changes (refines t)) m before = before
 opens (changes steps) m before = before
 opens (asks q) m before = before
@@ -118,7 +118,7 @@ pub record Near (g h : ℕ) : Type 0 where
 
 -- What a refine of t that is carried out on m makes and reports: one split for an even t; for an odd t one for each odd
 -- triangle of its base chain, or, where this ends at the boundary, rim and face splits together, one less and one at
--- least; never above (g + 1) / 2. F grows by twice as many.
+-- least, and then never above (g + 1) / 2. F grows by twice as many.
 pub record ReportsSplits (m : Mesh) (t : ℕ) (o : Outcome) : Type 0 where
   pub odd : generation (m .topology) t % 2 ≡ 1 → ¬ EndsAtBoundary (m .topology) t
       → OddInChain (m .topology) t (o .answer .splits)

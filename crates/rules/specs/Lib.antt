@@ -21,3 +21,4 @@ pub mod Calls
 pub mod Conditions
 pub mod History
 pub mod Promises
+pub mod Mirror

@@ -1,9 +1,11 @@
 -- The whole numbers of the scheme: coordinates, thirds, rounding, weights.
-use Prim.Native.Nat.{ℕ, _+_, _*_, _/_}
-use mathlib.Core.Bool.{Bool, true, false, _&&_}
+use Prim.Native.Nat.{ℕ, suc, _+_, _*_, _/_}
+use mathlib.Core.Bool.{Bool, true, false, _&&_, _||_}
+use mathlib.Core.Logic.{_⊎_}
+use mathlib.Core.Path.{_≡_}
 use mathlib.Core.List.{List, [], _∷_}
 use lib.IntN.{ℤ, pos, negsuc, negℤ, _+ℤ_, _-ℤ_, _*ℤ_}
-use lib.Dec.{ltb}
+use lib.Dec.{eqb, ltb}
 use lib.ListN.{getD}
 use lib.Signed.{_≤ℤ_, leZ}
 
@@ -42,6 +44,20 @@ nearestThird s = floorDiv (s +ℤ pos 1) 3
 unfoldable pub halfUp : ℤ → ℕ → ℤ
 halfUp n d = floorDiv (pos 2 *ℤ n +ℤ pos d) (2 * d)
 
+-- The rules of rounding: 1 takes a half up, 2 away from zero. (Request c)
+abbrev pub KnownRule : ℕ → Type 0
+KnownRule rule = (rule ≡ 1) ⊎ (rule ≡ 2)
+
+-- The same as a test.
+abbrev pub knownRule : ℕ → Bool
+knownRule rule = eqb rule 1 || eqb rule 2
+
+-- n / d to the nearest by this rule: a half goes up, but by rule 2 below zero down, to the opposite of what its
+-- opposite goes to. (Whole step; request c)
+unfoldable pub rounded : ℕ → ℤ → ℕ → ℤ
+rounded rule (pos a) d = halfUp (pos a) d
+rounded rule (negsuc a) d = elim (eqb rule 2) [ true ↦ negℤ (halfUp (pos (suc a)) d) | false ↦ halfUp (negsuc a) d ]
+
 -- The weight, out of 65536, of a vertex with 2 to 12 ring entries; 0 and 1 have none. It is Kobbelt's (6),
 -- (4 - 2 cos(2π/n)) / 9, to the nearest; the table decides. (Whole step)
 unfoldable pub weights : List ℕ
@@ -52,11 +68,11 @@ unfoldable pub weight : ℕ → ℕ
 weight n = getD weights n 0
 
 -- Where a vertex moves, in one coordinate: it is at p and has n ring entries that add up to s. Kobbelt's (2), times
--- 65536 n over the same. (Whole step, N/D)
-unfoldable pub moved : ℕ → ℤ → ℤ → ℤ
-moved n p s = halfUp (pos n *ℤ (pos 65536 -ℤ pos (weight n)) *ℤ p +ℤ pos (weight n) *ℤ s) (65536 * n)
+-- 65536 n over the same, rounded by the rule. (Whole step, N/D; request c)
+unfoldable pub moved : ℕ → ℕ → ℤ → ℤ → ℤ
+moved rule n p s = rounded rule (pos n *ℤ (pos 65536 -ℤ pos (weight n)) *ℤ p +ℤ pos (weight n) *ℤ s) (65536 * n)
 
 -- Where ever more whole steps without rounding would take a vertex, in one coordinate: it is at p and has n ring
--- entries that add up to s. Kobbelt's (7) at infinity, the limit point of his (8). (Request a)
-unfoldable pub limit : ℕ → ℤ → ℤ → ℤ
-limit n p s = halfUp (pos (65536 * n) *ℤ p +ℤ pos (3 * weight n) *ℤ s) (n * (65536 + 3 * weight n))
+-- entries that add up to s. Kobbelt's (7) at infinity, the limit point of his (8), rounded by the rule. (Requests a, c)
+unfoldable pub limit : ℕ → ℕ → ℤ → ℤ → ℤ
+limit rule n p s = rounded rule (pos (65536 * n) *ℤ p +ℤ pos (3 * weight n) *ℤ s) (n * (65536 + 3 * weight n))

@@ -22,10 +22,13 @@ use Rattle.rules.specs.Tables.{generation, odd, coordinate}
 
 -- ---- numbers (Whole step)
 
--- q is n / d to the nearest, half going up: 2 d q ≤ 2 n + d < 2 d q + 2 d.
-pub record Nearest (n : ℤ) (d : ℕ) (q : ℤ) : Type 0 where
+-- q is n / d to the nearest by this rule: q - 1/2 ≤ n / d ≤ q + 1/2, all times 2 d. A half goes up (`up`); below zero
+-- by rule 2 it goes down (`away`). (Whole step; request c)
+pub record Nearest (rule : ℕ) (n : ℤ) (d : ℕ) (q : ℤ) : Type 0 where
   pub low : (pos (2 * d) *ℤ q) ≤ℤ (pos 2 *ℤ n +ℤ pos d)
-  pub high : (pos 2 *ℤ n +ℤ pos d) <ℤ (pos (2 * d) *ℤ q +ℤ pos (2 * d))
+  pub high : (pos 2 *ℤ n) ≤ℤ (pos (2 * d) *ℤ q +ℤ pos d)
+  pub up : (rule ≢ 2) ⊎ (pos 0 ≤ℤ n) → (pos 2 *ℤ n) <ℤ (pos (2 * d) *ℤ q +ℤ pos d)
+  pub away : rule ≡ 2 → n <ℤ pos 0 → (pos (2 * d) *ℤ q) <ℤ (pos 2 *ℤ n +ℤ pos d)
 
 -- ---- slots (The cage and the lent tables)
 
@@ -55,9 +58,10 @@ pub data Matches (c : Cage) (h : ℕ) : ℕ → Type 0 where
   only : {k : ℕ} → Opposite c h k → ((j : ℕ) → Opposite c h j → j ≡ k) → Matches c h k
   alone : ((j : ℕ) → ¬ Opposite c h j) → Matches c h boundary
 
--- n is the mesh that a cage is loaded as, over m.
-pub record Loaded (c : Cage) (m n : Mesh) : Type 0 where
+-- n is the mesh that a cage is loaded as with rule r, over m.
+pub record Loaded (r : ℕ) (c : Cage) (m n : Mesh) : Type 0 where
   pub sound : Sound n
+  pub rule : n .rule ≡ r
   pub vertices : n .topology .vertices ≡ c .vertices
   pub triangles : n .topology .triangles ≡ c .triangles
   pub corners : (h : ℕ) → h < sides (n .topology) → origin (n .topology) h ≡ c .corner h
@@ -119,6 +123,7 @@ pub record RefineMakes (t : ℕ) (m : Mesh) (w : Work) : Type 0 where
   pub still : Still (m .topology) (w .mesh .topology)
   pub oldVertices : (i : ℕ) → i < 3 * m .topology .vertices
       → getD (w .mesh .positions) i (pos 0) ≡ getD (m .positions) i (pos 0)
+  pub rule : w .mesh .rule ≡ m .rule
   pub past : SamePast m (w .mesh)
 
 -- The triangle across the base of t (Kobbelt's mate[1]).
@@ -158,6 +163,7 @@ pub record StepMakes (g : ℕ) (m : Mesh) (w : Work) : Type 0 where
   pub moved : (v k : ℕ) → v < m .topology .vertices → k < 3 → coordinate (w .mesh) v k ≡ movedCoordinate m v k
   pub placed : (t k : ℕ) → t < m .topology .triangles → k < 3
       → coordinate (w .mesh) (m .topology .vertices + t) k ≡ centre m t k
+  pub rule : w .mesh .rule ≡ m .rule
   pub past : SamePast m (w .mesh)
 
 -- ---- limit positions (Request a)
@@ -179,8 +185,8 @@ limitNumerator n p s = pos (65536 * n) *ℤ p +ℤ pos (3 * weight n) *ℤ s
 -- In one coordinate q is the limit of a vertex at p, with n ring entries that add up to s, and with the sum c of the
 -- corners of its triangles, whose centres add up to c / 3. They are its ring after a whole step, which without rounding
 -- moves it to p′ = moveNumerator / (65536 n); that its ring is then these centres is not proved here.
-pub record IsLimit (n : ℕ) (p s c q : ℤ) : Type 0 where
-  pub nearest : Nearest (limitNumerator n p s) (n * (65536 + 3 * weight n)) q
+pub record IsLimit (rule n : ℕ) (p s c q : ℤ) : Type 0 where
+  pub nearest : Nearest rule (limitNumerator n p s) (n * (65536 + 3 * weight n)) q
   pub range : InRange q
   -- The triangles have the vertex once and each ring entry twice for a corner.
   pub corners : c ≡ pos n *ℤ p +ℤ pos 2 *ℤ s
@@ -197,7 +203,7 @@ pub record LimitMakes (m : Mesh) (table : List ℤ) : Type 0 where
   pub size : length table ≡ 3 * m .topology .vertices
   pub each : (v k : ℕ) → v < m .topology .vertices → k < 3 →
       let r = ring (m .topology) v in
-      IsLimit (length r) (coordinate m v k) (sumOver m k r) (cornersOver m k (fan (m .topology) v))
+      IsLimit (m .rule) (length r) (coordinate m v k) (sumOver m k r) (cornersOver m k (fan (m .topology) v))
       (getD table (3 * v + k) (pos 0))
 
 -- ---- rings (Rings and positions)

@@ -7,7 +7,7 @@ use lib.Dec.{T, eqb, leb, ltb}
 use lib.IntN.{pos}
 use lib.ListN.{length, getD}
 use Rattle.rules.specs.Below.{all, count}
-use Rattle.rules.specs.Numbers.{InRange, inRange}
+use Rattle.rules.specs.Numbers.{InRange, inRange, KnownRule, knownRule}
 use Rattle.rules.specs.Ring.{fan}
 use Rattle.rules.specs.Tables.{Topology, Mesh, TablesAgree, tablesAgree, vertexSlots, triangleSlots, sides}
 use Rattle.rules.specs.Tables.{origin, target, link, rotate, boundary, generation, odd}
@@ -65,7 +65,8 @@ pub record OneFan (m : Topology) (v : ℕ) : Type 0 where
   pub out : origin m first ≡ v
   pub all : (h : ℕ) → h < sides m → origin m h ≡ v → Turns m first h
 
--- Sound. `tables` is condition 1, so that Sound can stand alone; the five kinds stand in `linked`.
+-- Sound. `tables` is condition 1, so that Sound can stand alone; the five kinds stand in `linked`; the rule is request
+-- c's.
 pub record Sound (m : Mesh) : Type 0 where
   pub tables : TablesAgree m
   pub someVertex : 1 ≤ m .topology .vertices
@@ -78,6 +79,7 @@ pub record Sound (m : Mesh) : Type 0 where
   pub fans : (v : ℕ) → v < m .topology .vertices → OneFan (m .topology) v
   pub range : (i : ℕ) → i < 3 * m .topology .vertices → InRange (getD (m .positions) i (pos 0))
   pub generations : (t : ℕ) → t < m .topology .triangles → generation (m .topology) t ≤ 20
+  pub rule : KnownRule (m .rule)
 
 -- ---- the test, which says yes exactly for sound tables (proofs/Results, sound-test)
 
@@ -117,3 +119,4 @@ isSound m =
     && all (t .vertices) (hasOneFan t)
     && all (3 * t .vertices) (λ i. inRange (getD (m .positions) i (pos 0)))
     && all (t .triangles) (λ x. leb (generation t x) 20)
+    && knownRule (m .rule)

@@ -38,10 +38,10 @@ split t m =
     let three = putTriangle e (c, a, p) (ca, 3 * t + 2, 3 * f + 1) g two in
     withCounts (suc p) (f + 2) three
 
--- The 1-to-3 split of an odd t = (A,B,P) whose base A→B is on the boundary (the paper's rim), with no flip yet. A' and
--- B' are the new vertices V and V + 1; the new slots are f = F and e = F + 1. The base goes, and the other two sides
--- become bases: P→A moves to side 0 of t, B→P to slot e, and their partners' links name the new places. (Change
--- request b)
+-- The 1-to-3 split of an odd t = (A,B,P) whose base A→B is on the boundary (the outline's rim), with no flip yet. A'
+-- and B' are the new vertices V and V + 1; the new slots are f = F and e = F + 1. The base goes, and the other two
+-- sides become bases: P→A moves to side 0 of t, B→P to slot e, and their partners' links name the new places. (Request
+-- b)
 --
 --               P                            P
 --             .   .                       . / \ .
@@ -122,7 +122,7 @@ thirdOf h i j m t k =
     let at : ℕ → ℤ = λ corner. coordinate m (origin (m .topology) (3 * t + corner)) k in
     nearestThird (at h +ℤ at i +ℤ at j)
 
--- Coordinate k of the centre of t; of the nearer third of its base A→B, (2A + B) / 3; and of the other, (A + 2B) / 3.
+-- Coordinate k of the centre of t; of the first third of its base A→B, (2A + B) / 3; and of the second, (A + 2B) / 3.
 unfoldable pub centre : Mesh → ℕ → ℕ → ℤ
 centre = thirdOf 0 1 2
 
@@ -136,14 +136,15 @@ secondThird = thirdOf 0 1 1
 unfoldable pub splitPlaced : ℕ → Mesh → Mesh
 splitPlaced t m =
     let v = m .topology .vertices in
-    meshOf (split t (m .topology)) (putThree v (centre m t 0, centre m t 1, centre m t 2) (m .positions))
+    meshOf (split t (m .topology)) (putThree v (centre m t 0, centre m t 1, centre m t 2) (m .positions)) (m .rule)
 
 -- The cut of the rim split with A' and B' placed at the thirds of the base.
 unfoldable pub rimPlaced : ℕ → Mesh → Mesh
 rimPlaced t m =
     let v = m .topology .vertices in
     let one = putThree v (firstThird m t 0, firstThird m t 1, firstThird m t 2) (m .positions) in
-    meshOf (rimCut t (m .topology)) (putThree (v + 1) (secondThird m t 0, secondThird m t 1, secondThird m t 2) one)
+    let two = putThree (v + 1) (secondThird m t 0, secondThird m t 1, secondThird m t 2) one in
+    meshOf (rimCut t (m .topology)) two (m .rule)
 
 -- Where the base of s, a triangle just made by a split, meets a base: flip the two. The boundary is no base: it reads
 -- as a side of a slot past the table, whose generation is 0.

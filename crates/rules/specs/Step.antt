@@ -16,7 +16,7 @@ sumOver m k (v ∷ vs) = coordinate m v k +ℤ sumOver m k vs
 
 -- Coordinate k of the place that vertex v moves to.
 unfoldable pub movedCoordinate : Mesh → ℕ → ℕ → ℤ
-movedCoordinate m v k = let r = ring (m .topology) v in moved (length r) (coordinate m v k) (sumOver m k r)
+movedCoordinate m v k = let r = ring (m .topology) v in moved (m .rule) (length r) (coordinate m v k) (sumOver m k r)
 
 -- The positions with the first n vertices moved, all of them by the old mesh m.
 unfoldable pub moveVertices : ℕ → Mesh → List ℤ → List ℤ
@@ -38,7 +38,7 @@ wholeStep m =
 
 -- Coordinate k of the limit position of vertex v. (Request a)
 unfoldable pub limitCoordinate : Mesh → ℕ → ℕ → ℤ
-limitCoordinate m v k = let r = ring (m .topology) v in limit (length r) (coordinate m v k) (sumOver m k r)
+limitCoordinate m v k = let r = ring (m .topology) v in limit (m .rule) (length r) (coordinate m v k) (sumOver m k r)
 
 -- The table with the limit positions of all vertices, three coordinates to each. (Request a)
 unfoldable pub limitPositions : Mesh → List ℤ → List ℤ

@@ -15,10 +15,12 @@ pub record Topology : Type 0 where
   pub links : List ℕ
   pub generations : List ℕ
 
--- The topology with the lent positions, three coordinates to a vertex.
+-- The topology with the lent positions, three coordinates to a vertex, and the rounding rule, which goes with the
+-- counts. (Request c)
 pub record Mesh : Type 0 where
   pub topology : Topology
   pub positions : List ℤ
+  pub rule : ℕ
 
 -- Every topology and every mesh is built by these two.
 abbrev pub topologyOf : ℕ → ℕ → List ℕ → List ℕ → List ℕ → Topology
@@ -30,15 +32,18 @@ topologyOf v f corners links generations = record {
   generations = generations;
 }
 
-abbrev pub meshOf : Topology → List ℤ → Mesh
-meshOf t positions = record { topology = t; positions = positions }
+abbrev pub meshOf : Topology → List ℤ → ℕ → Mesh
+meshOf t positions rule = record { topology = t; positions = positions; rule = rule }
 
--- The mesh with another topology, or with other positions.
+-- The mesh with another topology, with other positions, with another rule.
 abbrev pub withTopology : Topology → Mesh → Mesh
-withTopology t m = meshOf t (m .positions)
+withTopology t m = meshOf t (m .positions) (m .rule)
 
 abbrev pub withPositions : List ℤ → Mesh → Mesh
-withPositions positions m = meshOf (m .topology) positions
+withPositions positions m = meshOf (m .topology) positions (m .rule)
+
+abbrev pub withRule : ℕ → Mesh → Mesh
+withRule rule m = meshOf (m .topology) (m .positions) rule
 
 -- ---- sides (half-edges): side i of triangle t is the number 3 * t + i
 

@@ -4,6 +4,7 @@ use mathlib.Core.Bool.{Bool, not, _&&_, _||_}
 use mathlib.Core.List.{List}
 use lib.Dec.{eqb, leb, ltb}
 use lib.ListN.{length}
+use Rattle.rules.specs.Numbers.{knownRule}
 use Rattle.rules.specs.Sound.{role, fiveKinds}
 use Rattle.rules.specs.Tables.{Topology, Mesh, vertexSlots, triangleSlots}
 use Rattle.rules.specs.Tables.{sides, origin, target, boundary, link, generation}
@@ -15,10 +16,11 @@ pub record Room (triangles : ℕ) (corners links generations : List ℕ) : Type 
   pub linkRoom : 3 * length generations ≤ length links
   pub triangleRoom : triangles ≤ length generations
 
--- The counts are at least 1 and within the slots.
+-- The rule is known, and the counts are at least 1 and within the slots.
 abbrev pub countsFit : Mesh → Bool
 countsFit m =
-    leb 1 (m .topology .vertices)
+    knownRule (m .rule)
+    && leb 1 (m .topology .vertices)
     && leb 1 (m .topology .triangles)
     && leb (m .topology .vertices) (vertexSlots m)
     && leb (m .topology .triangles) (triangleSlots m)

@@ -16,9 +16,9 @@ pub mod walks;
 
 // Whether the tables agree in their slots and keep to the maxima. The counts do not matter.
 pub fn tables_agree(positions: &[i32], corners: &[u32], links: &[u32], generations: &[u8]) -> bool
-    ensures { λ r. ⌜ ((v f : ℕ) → r ≡ tablesAgree (meshOf
+    ensures { λ r. ⌜ ((v f rule : ℕ) → r ≡ tablesAgree (meshOf
         (topologyOf v f (now (corners .entry)) (now (links .entry)) (now (generations .entry)))
-        (now (positions .entry)))) ⌝ }
+        (now (positions .entry)) rule)) ⌝ }
 {
     let vertex_slots = positions.len() / 3;
     let triangle_slots = generations.len();
@@ -37,11 +37,20 @@ pub fn tables_agree(positions: &[i32], corners: &[u32], links: &[u32], generatio
     links.len() == 3 * triangle_slots
 }
 
-// Whether the counts are at least 1 and within the slots.
-fn counts_fit(positions: &[i32], generations: &[u8], vertices: u32, triangles: u32) -> bool
+// Whether the counts are at least 1 and within the slots, and their rule is known.
+fn counts_fit(
+    positions: &[i32],
+    generations: &[u8],
+    vertices: u32,
+    triangles: u32,
+    rule: u32,
+) -> bool
     ensures { λ r. ⌜ ((c l : List ℕ) → r ≡ countsFit
-        (meshOf (topologyOf vertices triangles c l (now (generations .entry))) (now (positions .entry)))) ⌝ }
+        (meshOf (topologyOf vertices triangles c l (now (generations .entry))) (now (positions .entry)) rule)) ⌝ }
 {
+    if !points::known_rule(rule) {
+        return false;
+    }
     if vertices < 1 {
         return false;
     }
@@ -78,16 +87,17 @@ pub fn sound_start(
     generations: &[u8],
     vertices: u32,
     triangles: u32,
+    rule: u32,
     v: u32,
 ) -> u32
     ensures { λ r. ⌜ (let m = topologyOf vertices triangles (now (corners .entry)) (now (links .entry))
         (now (generations .entry)) in
-        r ≡ startIf (isSound (meshOf m (now (positions .entry)))) m v) ⌝ }
+        r ≡ startIf (isSound (meshOf m (now (positions .entry)) rule)) m v) ⌝ }
 {
     if !tables_agree(positions, corners, links, generations) {
         return 0;
     }
-    if !counts_fit(positions, generations, vertices, triangles) {
+    if !counts_fit(positions, generations, vertices, triangles, rule) {
         return 0;
     }
     if !sides::triangles_fit(corners, links, generations, vertices, triangles) {
@@ -107,10 +117,11 @@ pub fn is_sound(
     generations: &[u8],
     vertices: u32,
     triangles: u32,
+    rule: u32,
 ) -> bool
     ensures { λ r. ⌜ r ≡ isSound (meshOf
         (topologyOf vertices triangles (now (corners .entry)) (now (links .entry)) (now (generations .entry)))
-        (now (positions .entry))) ⌝ }
+        (now (positions .entry)) rule) ⌝ }
 {
     sound_start(
         positions,
@@ -119,6 +130,7 @@ pub fn is_sound(
         generations,
         vertices,
         triangles,
+        rule,
         0,
     )
         != 0

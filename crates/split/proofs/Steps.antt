@@ -54,7 +54,7 @@ pub face-cut-steps : (t : ℕ) (w : Work) (e : Topology) (p : Point) (positions 
     → x ≡ triangleAt m t → r ≡ childrenOf x t (m .triangles) (m .vertices)
     → e ≡ replaced t (m .triangles) x r (3 * m .triangles) (3 * (m .triangles + 1)) m
     → _≡_ {A = Work} (record {
-      mesh = meshOf (withCounts (m .vertices + 1) (m .triangles + 2) e) positions;
+      mesh = meshOf (withCounts (m .vertices + 1) (m .triangles + 2) e) positions (w .mesh .rule);
       splits = w .splits + 1;
       flips = w .flips;
     })
@@ -71,7 +71,7 @@ pub rim-cut-steps : (t : ℕ) (w : Work) (e : Topology) (p q : Point) (one two :
     → x ≡ triangleAt m t → r ≡ rimChildrenOf x t (m .triangles) (m .vertices)
     → e ≡ replaced t (m .triangles) x r (3 * (m .triangles + 1)) (3 * t) m
     → _≡_ {A = Work} (record {
-      mesh = meshOf (withCounts (m .vertices + 2) (m .triangles + 2) e) two;
+      mesh = meshOf (withCounts (m .vertices + 2) (m .triangles + 2) e) two (w .mesh .rule);
       splits = w .splits + 1;
       flips = w .flips;
     })

@@ -18,13 +18,14 @@ use Rattle.split.specs.declared.Work.{Work}
 
 -- ---- work
 
-abbrev pub countsOf : Work → Counts
-countsOf w = record { vertices = w .vertices; triangles = w .triangles }
+-- Its counts, with a rule: splits and flips do not round by it.
+abbrev pub countsOf : ℕ → Work → Counts
+countsOf rule w = record { vertices = w .vertices; triangles = w .triangles; rule = rule }
 
 -- The work done, with what the slices hold.
-abbrev pub workNow : Work → List ℤ → List ℕ → List ℕ → List ℕ → rules.Work
-workNow w positions corners links generations = record {
-  mesh = meshNow (countsOf w) positions corners links generations;
+abbrev pub workNow : ℕ → Work → List ℤ → List ℕ → List ℕ → List ℕ → rules.Work
+workNow rule w positions corners links generations = record {
+  mesh = meshNow (countsOf rule w) positions corners links generations;
   splits = w .splits;
   flips = w .flips;
 }

@@ -182,9 +182,10 @@ fn settle(
 ) -> Work
     requires { ⌜ TrianglesAgree (now corners) (now links) (now generations) × (s < length (now generations))
         × (getD (now generations) s 0 < 255) × (work .flips < 4294967295) ⌝ }
-    ensures { λ r. ⌜ ((positions : List ℤ) →
-        workNow r positions (now (corners .exit)) (now (links .exit)) (now (generations .exit))
-        ≡ settle s (workNow work positions (now (corners .entry)) (now (links .entry)) (now (generations .entry)))) ⌝ }
+    ensures { λ r. ⌜ ((rule : ℕ) (positions : List ℤ) →
+        workNow rule r positions (now (corners .exit)) (now (links .exit)) (now (generations .exit))
+        ≡ settle s
+        (workNow rule work positions (now (corners .entry)) (now (links .entry)) (now (generations .entry)))) ⌝ }
 {
     let i = 3 * (s as usize);
     let h = links[i];
@@ -256,12 +257,13 @@ fn face_cut(
     work: Work,
     t: u32,
 ) -> Work
-    requires { ⌜ MaySplit t (workNow work (now positions) (now corners) (now links) (now generations))
+    requires { ⌜ ((rule : ℕ) ×
+        MaySplit t (workNow rule work (now positions) (now corners) (now links) (now generations)))
         × (getD (now generations) t 0 % 2 ≡ 0) ⌝ }
-    ensures { λ r. ⌜ Hands t
-        (workNow work (now (positions .entry)) (now (corners .entry)) (now (links .entry)) (now (generations .entry)))
-        (t ∷ work .triangles ∷ (work .triangles + 1) ∷ []) (workNow r
-        (now (positions .exit)) (now (corners .exit)) (now (links .exit)) (now (generations .exit))) ⌝ }
+    ensures { λ r. ⌜ ((rule : ℕ) → Hands t (workNow rule work
+        (now (positions .entry)) (now (corners .entry)) (now (links .entry)) (now (generations .entry)))
+        (t ∷ work .triangles ∷ (work .triangles + 1) ∷ []) (workNow rule r
+        (now (positions .exit)) (now (corners .exit)) (now (links .exit)) (now (generations .exit)))) ⌝ }
 {
     let p = work.vertices;
     let f = work.triangles;
@@ -290,12 +292,13 @@ fn rim_cut(
     work: Work,
     t: u32,
 ) -> Work
-    requires { ⌜ MaySplit t (workNow work (now positions) (now corners) (now links) (now generations))
+    requires { ⌜ ((rule : ℕ) ×
+        MaySplit t (workNow rule work (now positions) (now corners) (now links) (now generations)))
         × (getD (now generations) t 0 % 2 ≡ 1) ⌝ }
-    ensures { λ r. ⌜ Hands t
-        (workNow work (now (positions .entry)) (now (corners .entry)) (now (links .entry)) (now (generations .entry)))
-        (t ∷ (work .triangles + 1) ∷ []) (workNow r
-        (now (positions .exit)) (now (corners .exit)) (now (links .exit)) (now (generations .exit))) ⌝ }
+    ensures { λ r. ⌜ ((rule : ℕ) → Hands t (workNow rule work
+        (now (positions .entry)) (now (corners .entry)) (now (links .entry)) (now (generations .entry)))
+        (t ∷ (work .triangles + 1) ∷ []) (workNow rule r
+        (now (positions .exit)) (now (corners .exit)) (now (links .exit)) (now (generations .exit)))) ⌝ }
 {
     let v = work.vertices;
     let w = v + 1;
@@ -331,10 +334,10 @@ fn settle_three(
     requires { ⌜ TrianglesAgree (now corners) (now links) (now generations) × (t < length (now generations))
         × (f < length (now generations)) × (e < length (now generations)) × (getD (now generations) t 0 < 23)
         × (getD (now generations) f 0 < 23) × (getD (now generations) e 0 < 23) × (work .flips + 3 ≤ 4294967295) ⌝ }
-    ensures { λ r. ⌜ ((positions : List ℤ) →
-        workNow r positions (now (corners .exit)) (now (links .exit)) (now (generations .exit))
+    ensures { λ r. ⌜ ((rule : ℕ) (positions : List ℤ) →
+        workNow rule r positions (now (corners .exit)) (now (links .exit)) (now (generations .exit))
         ≡ settleAll (t ∷ f ∷ e ∷ [])
-        (workNow work positions (now (corners .entry)) (now (links .entry)) (now (generations .entry)))) ⌝ }
+        (workNow rule work positions (now (corners .entry)) (now (links .entry)) (now (generations .entry)))) ⌝ }
 {
     let one = settle(corners, links, generations, work, t);
     let two = settle(corners, links, generations, one, f);
@@ -353,10 +356,10 @@ fn settle_two(
     requires { ⌜ TrianglesAgree (now corners) (now links) (now generations) × (t < length (now generations))
         × (e < length (now generations)) × (getD (now generations) t 0 < 23) × (getD (now generations) e 0 < 23)
         × (work .flips + 2 ≤ 4294967295) ⌝ }
-    ensures { λ r. ⌜ ((positions : List ℤ) →
-        workNow r positions (now (corners .exit)) (now (links .exit)) (now (generations .exit))
+    ensures { λ r. ⌜ ((rule : ℕ) (positions : List ℤ) →
+        workNow rule r positions (now (corners .exit)) (now (links .exit)) (now (generations .exit))
         ≡ settleAll (t ∷ e ∷ [])
-        (workNow work positions (now (corners .entry)) (now (links .entry)) (now (generations .entry)))) ⌝ }
+        (workNow rule work positions (now (corners .entry)) (now (links .entry)) (now (generations .entry)))) ⌝ }
 {
     let one = settle(corners, links, generations, work, t);
     settle(corners, links, generations, one, e)
@@ -372,11 +375,12 @@ pub fn split_at(
     work: Work,
     t: u32,
 ) -> Work
-    requires { ⌜ MaySplit t (workNow work (now positions) (now corners) (now links) (now generations)) ⌝ }
-    ensures { λ r. ⌜
-        workNow r (now (positions .exit)) (now (corners .exit)) (now (links .exit)) (now (generations .exit))
-        ≡ splitAt t (workNow work
-        (now (positions .entry)) (now (corners .entry)) (now (links .entry)) (now (generations .entry))) ⌝ }
+    requires { ⌜ ((rule : ℕ) ×
+        MaySplit t (workNow rule work (now positions) (now corners) (now links) (now generations))) ⌝ }
+    ensures { λ r. ⌜ ((rule : ℕ) →
+        workNow rule r (now (positions .exit)) (now (corners .exit)) (now (links .exit)) (now (generations .exit))
+        ≡ splitAt t (workNow rule work
+        (now (positions .entry)) (now (corners .entry)) (now (links .entry)) (now (generations .entry)))) ⌝ }
 {
     let f = work.triangles;
     if tables::generation_at(generations, t) % 2 == 0 {
@@ -447,7 +451,8 @@ pub fn refine(
     requires { ⌜ RefineFound t (meshNow counts (now positions) (now corners) (now links) (now generations))
         × BaseChain (topologyNow counts (now corners) (now links) (now generations)) t chain ⌝ }
     ensures { λ r. ⌜
-        workNow r (now (positions .exit)) (now (corners .exit)) (now (links .exit)) (now (generations .exit))
+        workNow (counts .rule) r
+        (now (positions .exit)) (now (corners .exit)) (now (links .exit)) (now (generations .exit))
         ≡ refine t (atFirst (meshNow counts
         (now (positions .entry)) (now (corners .entry)) (now (links .entry)) (now (generations .entry)))) ⌝ }
 {

@@ -81,7 +81,8 @@ fn split_all(
 ) -> Work
     requires { ⌜ StepFound (meshNow counts (now positions) (now corners) (now links) (now generations)) ⌝ }
     ensures { λ r. ⌜
-        workNow r (now (positions .exit)) (now (corners .exit)) (now (links .exit)) (now (generations .exit))
+        workNow (counts .rule) r
+        (now (positions .exit)) (now (corners .exit)) (now (links .exit)) (now (generations .exit))
         ≡ refineFirst (counts .triangles) (atFirst (meshNow counts (now (positions .entry)) (now (corners .entry))
         (now (links .entry)) (now (generations .entry)))) ⌝ }
 {
@@ -100,11 +101,11 @@ fn split_all(
     work
 }
 
-// Each vertex moved by the length and the sum of its ring.
-fn move_all(positions: &mut [i32], vertices: u32, lengths: &[u8], sums: &[i32])
-    requires { ⌜ ((m : Mesh) × Movable vertices m (now positions) (now lengths) (now sums)) ⌝ }
+// Each vertex moved by the length and the sum of its ring, and by the rule.
+fn move_all(positions: &mut [i32], vertices: u32, rule: u32, lengths: &[u8], sums: &[i32])
+    requires { ⌜ ((m : Mesh) × Movable vertices rule m (now positions) (now lengths) (now sums)) ⌝ }
     ensures { λ r. ⌜ ((m : Mesh) →
-        Movable vertices m (now (positions .entry)) (now (lengths .entry)) (now (sums .entry))
+        Movable vertices rule m (now (positions .entry)) (now (lengths .entry)) (now (sums .entry))
         → now (positions .exit) ≡ moveVertices vertices m (now (positions .entry))) ⌝ }
 {
     let mut v: u32 = 0;
@@ -112,7 +113,7 @@ fn move_all(positions: &mut [i32], vertices: u32, lengths: &[u8], sums: &[i32])
         let n = lengths[v as usize] as usize;
         let p = tables::point_in(positions, v);
         let sum = tables::point_in(sums, v);
-        tables::store_point(positions, v, p.moved(n, sum));
+        tables::store_point(positions, v, p.moved(rule, n, sum));
         v += 1;
     }
 }
@@ -163,13 +164,15 @@ fn whole_step(
     requires { ⌜ (let m = meshNow counts (now positions) (now corners) (now links) (now generations) in
         StepFound m × RingSums m (now lengths) (now sums)) ⌝ }
     ensures { λ r. ⌜
-        workNow r (now (positions .exit)) (now (corners .exit)) (now (links .exit)) (now (generations .exit))
+        workNow (counts .rule) r
+        (now (positions .exit)) (now (corners .exit)) (now (links .exit)) (now (generations .exit))
         ≡ wholeStep (meshNow counts (now (positions .entry)) (now (corners .entry)) (now (links .entry))
         (now (generations .entry))) ⌝ }
 {
     let v = counts.vertices;
+    let rule = counts.rule;
     let work = split_all(positions, corners, links, generations, counts);
-    move_all(positions, v, lengths, sums);
+    move_all(positions, v, rule, lengths, sums);
     work
 }
 
@@ -223,6 +226,7 @@ fn step_by(
         counts: Counts {
             vertices: work.vertices,
             triangles: work.triangles,
+            rule: counts.rule,
         },
     }
 }

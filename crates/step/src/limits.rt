@@ -45,12 +45,19 @@ fn refusal(
     0
 }
 
-// The limit of each vertex, by the length and the sum of its ring.
-fn write_all(positions: &[i32], vertices: u32, lengths: &[u8], sums: &[i32], table: &mut [i32])
-    requires { ⌜ ((m : Mesh) × Movable vertices m (now positions) (now lengths) (now sums))
+// The limit of each vertex, by the length and the sum of its ring and by the rule.
+fn write_all(
+    positions: &[i32],
+    vertices: u32,
+    rule: u32,
+    lengths: &[u8],
+    sums: &[i32],
+    table: &mut [i32],
+)
+    requires { ⌜ ((m : Mesh) × Movable vertices rule m (now positions) (now lengths) (now sums))
         × (3 * vertices ≤ length (now table)) ⌝ }
     ensures { λ r. ⌜ ((m : Mesh) →
-        Movable vertices m (now (positions .entry)) (now (lengths .entry)) (now (sums .entry))
+        Movable vertices rule m (now (positions .entry)) (now (lengths .entry)) (now (sums .entry))
         → now (table .exit) ≡ limitPositions m (now (table .entry))) ⌝ }
 {
     let mut v: u32 = 0;
@@ -58,7 +65,7 @@ fn write_all(positions: &[i32], vertices: u32, lengths: &[u8], sums: &[i32], tab
         let n = lengths[v as usize] as usize;
         let p = tables::point_in(positions, v);
         let sum = tables::point_in(sums, v);
-        tables::store_point(table, v, p.limit(n, sum));
+        tables::store_point(table, v, p.limit(rule, n, sum));
         v += 1;
     }
 }
@@ -93,7 +100,14 @@ fn limits_by(
     if refusal != 0 {
         return refusal;
     }
-    write_all(positions, counts.vertices, lengths, sums, table);
+    write_all(
+        positions,
+        counts.vertices,
+        counts.rule,
+        lengths,
+        sums,
+        table,
+    );
     0
 }
 

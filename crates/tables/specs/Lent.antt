@@ -15,7 +15,8 @@ abbrev pub topologyNow : Counts → List ℕ → List ℕ → List ℕ → Topol
 topologyNow n corners links generations = topologyOf (n .vertices) (n .triangles) corners links generations
 
 abbrev pub meshNow : Counts → List ℤ → List ℕ → List ℕ → List ℕ → Mesh
-meshNow n positions corners links generations = meshOf (topologyNow n corners links generations) positions
+meshNow n positions corners links generations =
+    meshOf (topologyNow n corners links generations) positions (n .rule)
 
 -- The triangles' tables agree in their slots and keep to the maximum.
 pub record TrianglesAgree (c l g : List ℕ) : Type 0 where

@@ -4,20 +4,20 @@ ghost use mathlib.Core.List.{List};
 ghost use mathlib.Core.Path.{_≡_};
 ghost use Prim.Native.Nat.{ℕ, _+_, _*_, _/_, _<_};
 ghost use lib.ListN.{length, getD};
-ghost use Rattle.points.specs.Axes.{eachAxis};
 ghost use Rattle.rules.specs.Calls.{roomFor};
-ghost use Rattle.rules.specs.Tables.{Topology, meshOf, coordinate, putThree, relink};
+ghost use Rattle.rules.specs.Tables.{putThree, relink};
 ghost use Rattle.tables.specs.declared.Counts.{Counts};
 ghost use Rattle.tables.specs.Lent.{meshNow, topologyNow, TrianglesAgree, VerticesAgree};
 ghost use Rattle.tables.specs.Lent.{triangleAt, entries, put, pointIn, putPoint};
 
 pub mod sides;
 
-// The slots in use: they are the first of their tables.
+// The slots in use, which are the first of their tables, and the rule of rounding, 1 or 2.
 #[repr(C)]
 pub struct Counts {
     pub vertices: u32,
     pub triangles: u32,
+    pub rule: u32,
 }
 
 // The answer of a call that may change the mesh: on a refusal all but its number and the counts is 0.
@@ -126,7 +126,7 @@ pub fn point_in(table: &[i32], v: u32) -> Point
 // The point in vertex slot v; zero past the table.
 pub fn point_at(positions: &[i32], v: u32) -> Point
     requires { ⌜ VerticesAgree (now positions) ⌝ }
-    ensures { λ r. ⌜ ((t : Topology) → r ≡ eachAxis (coordinate (meshOf t (now (positions .entry))) v)) ⌝ }
+    ensures { λ r. ⌜ r ≡ pointIn (now (positions .entry)) v ⌝ }
 {
     let i = 3 * (v as usize);
     if i < positions.len() {

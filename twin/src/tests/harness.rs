@@ -6,6 +6,8 @@ use crate::claims;
 use crate::damage;
 use crate::fault::{Fault, Seeded};
 use crate::handmade;
+use crate::malformed;
+use crate::mirror::{self, AXES};
 use crate::parts;
 use crate::rng::Rng;
 use crate::sound::kind;
@@ -72,7 +74,8 @@ fn cases_are_read_back_as_they_were_written() {
     store.room.ring = vec![9, 9, 4];
     store.room.table = vec![-1, -1, i32::MAX];
     let calls = [
-        Call::Load { cage: vec![1, 1, 1, 255, 0] },
+        Call::Load { rule: 1, cage: vec![1, 1, 1, 255, 0] },
+        Call::Load { rule: u32::MAX, cage: vec![] },
         Call::Refine { triangle: 7 },
         Call::WholeStep,
         Call::Ring { vertex: 9 },
@@ -99,6 +102,24 @@ fn claims_tell_broken_tables() {
     let mut aged = good;
     aged.tables.generations[0] += 4;
     assert!(claims::violated(&aged, 2).is_some());
+}
+
+#[test]
+fn mirror_images_tell_what_spoils_them() {
+    let rng = &mut Rng::new(15);
+    let store = handmade::random(rng);
+    for axis in AXES {
+        assert_ne!(mirror::of_store(&store, axis), store);
+        assert_eq!(mirror::of_store(&mirror::of_store(&store, axis), axis), store);
+        let load = Call::Load { rule: 2, cage: malformed::random(rng) };
+        assert_eq!(mirror::of_call(&mirror::of_call(&load, axis), axis), load);
+    }
+    // A twin beside itself: what both do wrong shows in the mirror alone.
+    for fault in [Fault::HalfUpByRuleTwo, Fault::StepByRuleOne, Fault::LimitByRuleOne, Fault::HalvesDown] {
+        let twin = Twin { fault: Seeded(Some(fault)) };
+        let found = parts::run_all(&mut Bench::new(&twin, &twin), 1, false).expect_err("a fault is found");
+        assert!(found.what.starts_with("coordinate"), "{fault:?}: {}", found.what);
+    }
 }
 
 #[test]

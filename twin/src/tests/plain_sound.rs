@@ -14,6 +14,7 @@ pub fn sound(store: &Store) -> bool {
     let within_slots = v >= 1 && f >= 1 && v <= store.vertex_slots() && f <= store.triangle_slots();
     let plain = Plain { store };
     within_slots
+        && [1, 2].contains(&store.counts.rule)
         && plain.sides().all(|side| plain.corner_fits(side) && plain.link_fits(side))
         && store.tables.positions[..3 * v].iter().all(|coordinate| coordinate.unsigned_abs() <= FARTHEST as u32)
         && store.tables.generations[..f].iter().all(|&generation| generation <= 20)

@@ -1,11 +1,13 @@
 //! The twin against the papers: P1 to P12, the readings, the refusals.
 
 use crate::cages::{self, Cage};
-use crate::examples::{self, Example, HALFWAY};
+use crate::examples::{self, Example};
+use crate::halves::{IN_LIMIT, IN_STEP};
 use crate::malformed::RawCage;
+use crate::mirror;
 use crate::program::{Files, model};
 use crate::rng::Rng;
-use crate::tables::{Answer, BOUNDARY, Call, Counts, FARTHEST, Service, Store};
+use crate::tables::{Answer, BOUNDARY, Call, Counts, FARTHEST, HALF_AWAY, HALF_UP, Service, Store};
 use crate::twin::Twin;
 
 /// Runs a call on the twin; the store's counts follow.
@@ -14,8 +16,12 @@ fn run(store: &mut Store, call: &Call) -> Answer {
 }
 
 fn loaded(cage: &Cage) -> Store {
+    loaded_by(HALF_UP, cage)
+}
+
+fn loaded_by(rule: u32, cage: &Cage) -> Store {
     let mut store = Store::junk(60, 100, &mut Rng::new(5));
-    assert_eq!(run(&mut store, &Call::Load { cage: cage.bytes() }).refusal, 0);
+    assert_eq!(run(&mut store, &Call::Load { rule, cage: cage.bytes() }).refusal, 0);
     store
 }
 
@@ -61,7 +67,7 @@ fn tetrahedron_run_leaves_p7_to_p10() {
 #[test]
 fn whole_step_on_the_tetrahedron_gives_p11_and_p12() {
     let mut store = loaded(&cages::tetrahedron());
-    let counts = Counts { vertices: 8, triangles: 12 };
+    let counts = Counts { vertices: 8, triangles: 12, rule: HALF_UP };
     let answer = Answer { splits: 4, flips: 6, counts, ..Answer::default() };
     assert_eq!(run(&mut store, &Call::WholeStep), answer);
     assert_eq!(point(&store, 0), [2, 2, 2]);
@@ -142,7 +148,7 @@ fn links_are_no_function_of_the_corners() {
 fn refusals_are_those_of_the_table() {
     let rng = &mut Rng::new(3);
     let table = examples::refusals(rng);
-    assert!(table.iter().map(|example| example.refusal).eq((1..=15).filter(|&number| number != 10)));
+    assert!(table.iter().map(|example| example.refusal).eq((1..=16).filter(|&number| number != 10)));
     for Example { refusal, store, call } in table.into_iter().chain(examples::orders(rng)) {
         let mut after = store.clone();
         let answer = run(&mut after, &call);
@@ -164,23 +170,80 @@ fn of_several_faults_in_a_cage_the_lowest_number_is_given() {
             let faults = (2..=6).filter(|refusal| set & (1 << (refusal - 2)) != 0);
             faults.clone().rev().for_each(|refusal| raw.spoil(refusal, rng));
             let mut store = Store::fresh(cage.points.len() + 4, cage.triangles.len() + 3);
-            let answer = run(&mut store, &Call::Load { cage: raw.bytes() });
-            assert_eq!(Some(answer.refusal), faults.min());
+            let load = |rule: u32| Call::Load { rule, cage: raw.bytes() };
+            assert_eq!(Some(run(&mut store, &load(HALF_AWAY)).refusal), faults.min());
+            assert_eq!(run(&mut store, &load(3)).refusal, 16);
         }
     }
 }
 
 #[test]
-fn thirds_and_halves_round_as_the_papers_say() {
+fn thirds_round_to_the_nearest() {
     for (sum, third) in [(4, 1), (5, 2), (-1, 0), (-4, -1), (-5, -2), (3 * FARTHEST, FARTHEST)] {
         let mut cage = cages::strip(1);
         cage.points = vec![[sum / 3, 0, 0], [sum / 3, 0, 0], [sum - sum / 3 * 2, 0, 0]];
         assert_eq!(point(&after_requests(&cage, &[0]), 3)[0], third, "a third of {sum}");
     }
-    for (x, moved) in [(98_304, 18_205), (-98_304, -18_204)] {
-        let mut store = loaded(&examples::halves(x));
+}
+
+#[test]
+fn halves_go_up_by_rule_1_and_away_from_zero_by_rule_2() {
+    let tetrahedron = |x: i32| Cage { points: vec![[0; 3], [x, 0, 0], [0; 3], [0; 3]], ..cages::tetrahedron() };
+    for (rule, x, moved) in [(1, 98_304, 18_205), (1, -98_304, -18_204), (2, 98_304, 18_205), (2, -98_304, -18_205)] {
+        let mut store = loaded_by(rule, &tetrahedron(x));
         run(&mut store, &Call::WholeStep);
         assert_eq!(point(&store, 0)[0], moved);
+    }
+    for rule in [HALF_UP, HALF_AWAY] {
+        for halfway in &IN_STEP {
+            let mut store = loaded_by(rule, &halfway.cage());
+            run(&mut store, &Call::WholeStep);
+            assert_eq!(point(&store, halfway.vertex()), halfway.expected(rule), "{} entries", halfway.entries);
+        }
+        for halfway in &IN_LIMIT {
+            let limits = limits(&mut loaded_by(rule, &halfway.cage()));
+            assert_eq!(limits[halfway.vertex()], halfway.expected(rule), "{} entries", halfway.entries);
+        }
+    }
+}
+
+#[test]
+fn rule_2_keeps_mirror_images_and_rule_1_does_not() {
+    for rule in [HALF_UP, HALF_AWAY] {
+        for (halfway, call) in [(&IN_STEP[1], Call::WholeStep), (&IN_LIMIT[1], Call::Limit)] {
+            let mut store = loaded_by(rule, &halfway.cage());
+            store.room.table = vec![-5; 3 * store.vertices()];
+            let mut image = mirror::of_store(&store, 1);
+            run(&mut store, &call);
+            run(&mut image, &call);
+            assert_eq!(image == mirror::of_store(&store, 1), rule == HALF_AWAY, "{call:?} by rule {rule}");
+        }
+    }
+}
+
+#[test]
+fn the_rule_stays_with_the_counts_until_a_load_is_carried_out() {
+    let mut store = Store::fresh(60, 100);
+    let load = |rule: u32, cage: Vec<u8>| Call::Load { rule, cage };
+    let tetrahedron = cages::tetrahedron().bytes();
+    store.room.table = vec![0; 12];
+    let calls = [
+        (load(2, tetrahedron.clone()), 0, 2),
+        (load(1, vec![0; 7]), 2, 2),
+        (load(0, tetrahedron.clone()), 16, 2),
+        (Call::Limit, 0, 2),
+        (Call::WholeStep, 0, 2),
+        (Call::Refine { triangle: 5 }, 0, 2),
+        (Call::Refine { triangle: 99 }, 8, 2),
+        (Call::Ring { vertex: 0 }, 14, 2),
+        (Call::Position { vertex: 0 }, 0, 2),
+        (load(1, tetrahedron.clone()), 0, 1),
+        (load(3, tetrahedron), 16, 1),
+        (Call::WholeStep, 0, 1),
+    ];
+    for (call, refusal, rule) in calls {
+        let answer = run(&mut store, &call);
+        assert_eq!((answer.refusal, answer.counts.rule, store.counts.rule), (refusal, rule, rule), "{call:?}");
     }
 }
 
@@ -230,23 +293,13 @@ fn limits_are_the_formula_to_the_nearest() {
 }
 
 #[test]
-fn limits_round_halves_up() {
-    for (halfway, below) in HALFWAY.iter().zip([65_536, 43_690, 10_922, 28_243, 5_203, 8_257]) {
-        // The apex of a double pyramid, or a vertex of the foil beside the one that lies away.
-        let vertex = if halfway.entries == 2 { 1 } else { halfway.entries as usize };
-        assert_eq!(limits(&mut loaded(&halfway.cage(false)))[vertex], [below + 1, 0, 0]);
-        assert_eq!(limits(&mut loaded(&halfway.cage(true)))[vertex], [-below, 0, 0]);
-    }
-}
-
-#[test]
 fn whole_steps_lead_to_the_limits() {
     let rng = &mut Rng::new(6);
     for cage in [cages::tetrahedron(), cages::foil(), cages::double_pyramid(5), cages::double_pyramid(12)] {
         let mut cage = cage;
         cage.points.iter_mut().flatten().for_each(|coordinate| *coordinate = rng.between(-1_000_000, 1_000_000));
         let mut store = Store::junk(9_000, 18_000, rng);
-        run(&mut store, &Call::Load { cage: cage.bytes() });
+        run(&mut store, &Call::Load { rule: HALF_UP, cage: cage.bytes() });
         let first = limits(&mut store);
         for _ in 0..6 {
             assert_eq!(run(&mut store, &Call::WholeStep).refusal, 0);

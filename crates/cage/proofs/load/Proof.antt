@@ -1,7 +1,9 @@
 -- `cage::load` meets its contract.
 use borrow.Author.Needs.{needs}
 use native.Mathlib.Omega.{arith}
-use mathlib.Core.Path.{sym, _∙_}
+use mathlib.Core.Path.{sym, ap, _∙_}
+use Rattle.rules.specs.Calls.{refusedWith, noRoom}
+use Rattle.rules.specs.Tables.{Mesh}
 use Rattle.rules.proofs.Loads.LoadTests.{load-refused, load-carried}
 use Rattle.cage.proofs.Room.{lent-sized}
 use Rattle.cage.proofs.load.Statement.{statement}
@@ -37,10 +39,9 @@ returns c =
     let zero = c .before .before .if1 .taken in
     let at = c .before .before .before .before .before .before .before .before .before .before in
     let left = at .load-tables .ensures in
-    let made =
-    load-carried _ _ (sym zero ∙ left .refusal _ _)
-    (lent-sized _ (c .before .number-at .ensures) (c .number-at2 .ensures) ∙ left .carried zero _ _) in
-    (zero ∙ made .0, made .1)
+    rw zero
+    (load-carried _ _ _ (sym zero ∙ left .refusal _)
+    (lent-sized _ _ (c .before .number-at .ensures) (c .number-at2 .ensures) ∙ left .carried zero _))
 
 same-length-5 : tie.Need-same-length-5
 same-length-5 c = search needs
@@ -56,9 +57,10 @@ same-length-8 c = search needs
 
 returns-2 : tie.Need-returns-2
 returns-2 c =
-    let left = c .before .before .before .before .before .before .before .before .load-tables .ensures in
-    let stood = load-refused _ _ (left .refusal _ _) (c .if1 .left) in
-    (stood .0, left .refused (c .if1 .left) _ _ ∙ stood .1)
+    let at = c .before .before .before .before .before .before .before .before in
+    let left = at .load-tables .ensures in
+    ap (λ (m : Mesh). refusedWith (at .load-tables .result) m noRoom) (left .refused (c .if1 .left) _)
+    ∙ load-refused _ _ _ (left .refusal _) (c .if1 .left)
 
 pub load-spec : {M : Type 1} → statement M
 load-spec =

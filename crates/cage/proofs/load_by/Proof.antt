@@ -1,11 +1,17 @@
 -- `cage::load_by` meets its contract: a refusal leaves the tables, and else they hold the cage.
 use borrow.Author.Needs.{needs}
 use native.Mathlib.Omega.{arith}
-use mathlib.Core.Path.{refl, sym, _∙_}
+use mathlib.Core.Path.{refl, sym, ap, _∙_}
 use Rattle.rules.specs.Cage.{cageOf}
+use Rattle.rules.specs.Tables.{withRule}
+use Rattle.tables.specs.declared.Counts.{Counts}
 use Rattle.cage.proofs.Room.{sized, lent-sized}
 use Rattle.cage.proofs.load_by.Statement.{statement}
 use Rattle.cage.proofs.load_by.Tie as tie
+
+-- Any counts: what is known of the tables does not depend on them.
+none : Counts
+none = record { vertices = 0; triangles = 0; rule = 1 }
 
 -- Where the sizes are read, and where the refusal is decided.
 abbrev sizes : tie.After-refusal-of → tie.After-number-at2
@@ -17,12 +23,12 @@ start c = c .before .before .before .before .before .before .before .before .bef
 number-at-requires : tie.Need-number-at-requires
 number-at-requires c κs =
     let start = c .before .before .before .before .before .before .before .before .before in
-    omega (arith, start .pre .0 0 0 .1 .size)
+    omega (arith, start .pre .0 none .1 .size)
 
 number-at-requires-2 : tie.Need-number-at-requires-2
 number-at-requires-2 c κs =
     let start = c .before .before .before .before .before .before .before .before .before .before in
-    omega (arith, start .pre .0 0 0 .1 .size)
+    omega (arith, start .pre .0 none .1 .size)
 
 refusal-of-requires : tie.Need-refusal-of-requires
 refusal-of-requires c κs =
@@ -30,17 +36,17 @@ refusal-of-requires c κs =
     let pre = start at .pre in
     let e = at .before .number-at .ensures in
     let g = at .number-at2 .ensures in
-    let Z = sized e g (pre .0 0 0 .0) (pre .0 0 0 .1) in
+    let Z = sized e g (pre .0 none .0) (pre .0 none .1) in
     (Z, rw (← Z .vertices, ← Z .triangles) (pre .1))
 
 returns : tie.Need-returns
-returns c =
+returns c rule known =
     let at = c .before .before .before .before .before .before .before .before .before .before .before in
     let pre = start (sizes at) .pre in
     record {
-      refusal = λ v f. at .refusal-of .ensures .0 _ (pre .0 v f .0) (pre .0 v f .1);
+      refusal = λ n. at .refusal-of .ensures .0 rule _ known (pre .0 n .0) (pre .0 n .1);
       sizes = λ e. absurd (c .if1 .taken e);
-      refused = λ _ v f. refl;
+      refused = λ _ n. refl;
       carried = λ e. absurd (c .if1 .taken e);
     }
 
@@ -50,8 +56,8 @@ write-requires c κs =
     let at-else = c .before .before .before .before .before .before in
     let at = at-else .before .before .before .before .before .before .before .before .before .before .before in
     let pre = start (sizes at) .pre in
-    let A = pre .0 0 0 .0 in
-    let S = pre .0 0 0 .1 in
+    let A = pre .0 none .0 in
+    let S = pre .0 none .1 in
     let e = sizes at .before .number-at .ensures in
     let g = sizes at .number-at2 .ensures in (
       (sym e, sym g),
@@ -59,18 +65,18 @@ write-requires c κs =
     )
 
 returns-2 : tie.Need-returns-2
-returns-2 c =
+returns-2 c rule known =
     let at-write = c .before .before .before .before .before .before .before in
     let at-else = at-write .before .before .before .before .before .before .before in
     let at = at-else .before .before .before .before .before .before .before .before .before .before .before in
     let pre = start (sizes at) .pre in
     record {
-      refusal = λ v f. at .refusal-of .ensures .0 _ (pre .0 v f .0) (pre .0 v f .1);
-      sizes = λ _. omega (arith, pre .0 0 0 .1 .size);
+      refusal = λ n. at .refusal-of .ensures .0 rule _ known (pre .0 n .0) (pre .0 n .1);
+      sizes = λ _. omega (arith, pre .0 none .1 .size);
       refused = λ n. absurd (n (at-else .if1 .left));
-      carried = λ _ v f.
-          sym (lent-sized _ (sizes at .before .number-at .ensures) (sizes at .number-at2 .ensures))
-          ∙ at-write .write .ensures v f;
+      carried = λ _ n.
+          sym (lent-sized rule _ (sizes at .before .number-at .ensures) (sizes at .number-at2 .ensures))
+          ∙ ap (withRule rule) (at-write .write .ensures n);
     }
 
 same-length : tie.Need-same-length

@@ -24,7 +24,7 @@ load-by-requires c κs =
     let start =
     c .before .before .before .before .before .before .before .before .before .before .before .before .before in
     let pre = start .pre in
-    let known = pre .0 0 0 in
+    let known = pre .0 (record { vertices = 0; triangles = 0; rule = 1 }) in
     (pre .0, room-within 256 (cage-sized (known .0) (known .1)) (pre .1))
 
 same-length : tie.Need-same-length

@@ -33,7 +33,7 @@ load-by-requires c κs =
     let arrays = c .before .before .before .before .before .before .before .before .before .before in
     let start = arrays .before .before .before .before .before .before in
     let pre = start .pre in
-    let known = pre 0 0 in (
+    let known = pre (record { vertices = 0; triangles = 0; rule = 1 }) in (
       pre,
       greatest-room (cage-sized (known .0) (known .1))
           (slice-aggregate-load-by (c .before .before .before .before))

@@ -25,7 +25,7 @@ mesh-of c =
     meshNow (args .counts) (args .positions .now) (args .corners .now) (args .links .now) (args .generations .now)
 
 agreed : (c : tie.Else1) → tablesAgree (mesh-of (from-1 (c .before))) ≡ true
-agreed c = sym (c .before .tables-agree .ensures _ _) ∙ not-false _ (c .if1 .left)
+agreed c = sym (c .before .tables-agree .ensures _ _ _) ∙ not-false _ (c .if1 .left)
 
 tables-agree-requires : tie.Need-tables-agree-requires
 tables-agree-requires c κs = search needs
@@ -39,7 +39,7 @@ returns c =
     let s = from-1 (at-if1 .before) in
     rw (c .no-ring .ensures)
     (finds-one (s .args .v) (s .args .room) (mesh-of s)
-    (sym (at-if1 .before .tables-agree .ensures _ _) ∙ not-true _ (at-if1 .if1 .taken)))
+    (sym (at-if1 .before .tables-agree .ensures _ _ _) ∙ not-true _ (at-if1 .if1 .taken)))
 
 sound-start-requires : tie.Need-sound-start-requires
 sound-start-requires c κs = search needs

@@ -33,7 +33,7 @@ returns-2 c =
     let at-if1 = c .before in
     let start = at-if1 .before .before .before .before .before in
     let m = mesh-of start in
-    ap (λ (p : Point). outcomeOf (answerOf 0 0 0 0 (p .x, p .y, p .z) m) m noRoom) (c .point-at .ensures (m .topology))
+    ap (λ (p : Point). outcomeOf (answerOf 0 0 0 0 (p .x, p .y, p .z) m) m noRoom) (c .point-at .ensures)
     ∙ position-carried (start .args .v) m _ (at-if1 .before .position-refusal .ensures) (at-if1 .if1 .left)
 
 pub position-spec : {M : Type 1} → statement M

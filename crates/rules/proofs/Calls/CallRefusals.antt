@@ -16,7 +16,7 @@ use Rattle.rules.proofs.Calls.FirstThatHolds.{Judged, carried, refused,
 use Rattle.rules.proofs.Calls.FirstThatHolds.{judged-refusal, judged-refused, first-not}
 use Rattle.rules.proofs.Loads.Load.{fans-fit-is}
 use Rattle.rules.proofs.Chains.Refine.{chain-takes}
-use Rattle.rules.proofs.Soundness.SoundTest.{tables-agree-is, sound-is}
+use Rattle.rules.proofs.Soundness.SoundTest.{tables-agree-is, sound-is, known-rule-is}
 use Rattle.rules.specs.Below.{any}
 use Rattle.rules.specs.Cage.{Cage, cageOf, loaded}
 use Rattle.rules.specs.Calls.{Room, noRoom, ringRoom, tableRoom, limitRefusal, limitRead, limitCall, Outcome}
@@ -35,6 +35,7 @@ use Rattle.rules.specs.Sound.{Sound}
 use Rattle.rules.specs.Split.{atFirst, refine}
 use Rattle.rules.specs.Step.{wholeStep}
 use Rattle.rules.specs.Tables.{Topology, Mesh, sides, boundary, link, generation, vertexSlots, triangleSlots}
+use Rattle.rules.specs.Tables.{withRule}
 
 -- ---- tests
 
@@ -111,16 +112,18 @@ long-ring-is m =
 
 -- ---- the refusals
 
-pub load-refusal-first : (bytes : List ℕ) (m : Mesh) → First (loadConditions bytes m) (loadRefusal bytes m)
+pub load-refusal-first : (rule : ℕ) (bytes : List ℕ) (m : Mesh)
+    → First (loadConditions rule bytes m) (loadRefusal rule bytes m)
 unfolding loadRefusal
-load-refusal-first bytes m =
+load-refusal-first rule bytes m =
     let c : Cage = cageOf bytes in
     first-unless 1 (tables-agree-is m) (λ A.
+    first-unless 16 (known-rule-is rule) (λ _.
     first-unless 2 (sizes-fit-is bytes m) (λ S.
     first-unless 3 (corners-fit-is c) (λ K.
     first-unless 4 (coordinates-fit-is c) (λ _.
     first-unless 5 (sides-differ-is c) (λ D.
-    first-unless 6 (fans-fit-is c m A (S .vertexRoom) (S .triangleRoom) K D) (λ _. none))))))
+    first-unless 6 (fans-fit-is c m A (S .vertexRoom) (S .triangleRoom) K D) (λ _. none)))))))
 
 pub refine-refusal-first : (t : ℕ) (m : Mesh) → First (refineConditions t m) (refineRefusal t m)
 unfolding refineRefusal
@@ -167,10 +170,12 @@ position-refusal-first v m =
 
 -- ---- each call is refused, or its outcome is the one that the rules give
 
-pub load-judged : (bytes : List ℕ) (m : Mesh)
-    → Judged (loadRefusal bytes m) m noRoom (worked (atFirst (loaded (cageOf bytes) m))) (loadCall bytes m)
+pub load-judged : (rule : ℕ) (bytes : List ℕ) (m : Mesh)
+    → Judged (loadRefusal rule bytes m) m noRoom (worked (atFirst (withRule rule (loaded (cageOf bytes) m))))
+    (loadCall rule bytes m)
 unfolding loadCall
-load-judged bytes m = judged (loadRefusal bytes m) m noRoom (worked (atFirst (loaded (cageOf bytes) m)))
+load-judged rule bytes m =
+    judged (loadRefusal rule bytes m) m noRoom (worked (atFirst (withRule rule (loaded (cageOf bytes) m))))
 
 pub refine-judged : (t : ℕ) (m : Mesh)
     → Judged (refineRefusal t m) m noRoom (worked (refine t (atFirst m))) (refineCall t m)
@@ -197,8 +202,9 @@ position-judged v m = judged (positionRefusal v m) m noRoom (positionRead v m)
 
 -- ---- the number that a call returns
 
-pub load-refusal : (bytes : List ℕ) (m : Mesh) → First (loadConditions bytes m) (loadCall bytes m .answer .refusal)
-load-refusal bytes m = rw (judged-refusal refl (load-judged bytes m)) (load-refusal-first bytes m)
+pub load-refusal : (rule : ℕ) (bytes : List ℕ) (m : Mesh)
+    → First (loadConditions rule bytes m) (loadCall rule bytes m .answer .refusal)
+load-refusal rule bytes m = rw (judged-refusal refl (load-judged rule bytes m)) (load-refusal-first rule bytes m)
 
 pub refine-refusal : (t : ℕ) (m : Mesh) → First (refineConditions t m) (refineCall t m .answer .refusal)
 refine-refusal t m = rw (judged-refusal refl (refine-judged t m)) (refine-refusal-first t m)
@@ -219,7 +225,7 @@ position-refusal v m = rw (judged-refusal refl (position-judged v m)) (position-
 -- A refused call leaves what it is lent.
 pub refused-leaves : (c : Call) (m : Mesh) → outcome c m .answer .refusal ≢ 0
     → outcome c m ≡ refusedWith (outcome c m .answer .refusal) m (lent c)
-refused-leaves (changes (loads bytes)) m = judged-refused refl (load-judged bytes m)
+refused-leaves (changes (loads rule bytes)) m = judged-refused refl (load-judged rule bytes m)
 refused-leaves (changes (refines t)) m = judged-refused refl (refine-judged t m)
 refused-leaves (changes steps) m = judged-refused refl (whole-step-judged m)
 refused-leaves (asks (ringOf v buffer)) m = judged-refused refl (ring-judged v buffer m)
@@ -239,7 +245,7 @@ question-stands (limitsOf table) m = judged-stands refl (limit-judged table m)
 
 -- No call returns 10, on any mesh.
 pub no-ten : (c : Call) (m : Mesh) → outcome c m .answer .refusal ≢ 10
-no-ten (changes (loads bytes)) m = first-not 10 (load-refusal bytes m) tt
+no-ten (changes (loads rule bytes)) m = first-not 10 (load-refusal rule bytes m) tt
 no-ten (changes (refines t)) m = first-not 10 (refine-refusal t m) tt
 no-ten (changes steps) m = first-not 10 (whole-step-refusal m) tt
 no-ten (asks (ringOf v buffer)) m = first-not 10 (ring-refusal v buffer m) tt

@@ -12,13 +12,14 @@ use Rattle.rules.proofs.Numbers.Decide.{is-lt, stable}
 use Rattle.rules.proofs.Calls.FirstThatHolds.{none-hold}
 use Rattle.rules.proofs.Loads.Load.{fans-fit-is}
 use Rattle.rules.proofs.Chains.Refine.{Refined, refine-refined, chain-takes}
-use Rattle.rules.proofs.Soundness.SoundTest.{tables-agree-is, sound-is}
+use Rattle.rules.proofs.Soundness.SoundTest.{tables-agree-is, sound-is, known-rule-is}
 use Rattle.rules.proofs.Steps.WholeStep.{step-makes}
 use Rattle.rules.specs.Cage.{Cage, cageOf}
 use Rattle.rules.specs.Calls.{splitsOf, loadRefusal, refineRefusal, wholeStepRefusal, rimSplitsOf, verticesOf}
 use Rattle.rules.specs.Calls.{trianglesOf}
 use Rattle.rules.specs.Conditions.{SizesFit, CornersFit, RoomFor, ClosedEven, CoordinatesFit, SidesDiffer}
 use Rattle.rules.specs.Conditions.{FansFit, TooOld}
+use Rattle.rules.specs.Numbers.{KnownRule}
 use Rattle.rules.specs.Promises.{StepMakes}
 use Rattle.rules.specs.Sound.{Sound}
 use Rattle.rules.specs.Split.{atFirst, refine}
@@ -27,24 +28,26 @@ use Rattle.rules.specs.Tables.{Mesh, TablesAgree, generation}
 
 -- ---- load
 
-pub record LoadFound (bytes : List ℕ) (m : Mesh) : Type 0 where
+pub record LoadFound (rule : ℕ) (bytes : List ℕ) (m : Mesh) : Type 0 where
   pub agree : TablesAgree m
+  pub known : KnownRule rule
   pub sizes : SizesFit bytes m
   pub corners : CornersFit (cageOf bytes)
   pub coordinates : CoordinatesFit (cageOf bytes)
   pub differ : SidesDiffer (cageOf bytes)
   pub fans : FansFit (cageOf bytes) m
 
-pub load-found : (bytes : List ℕ) (m : Mesh) → loadRefusal bytes m ≡ 0 → LoadFound bytes m
-load-found bytes m z =
+pub load-found : (rule : ℕ) (bytes : List ℕ) (m : Mesh) → loadRefusal rule bytes m ≡ 0 → LoadFound rule bytes m
+load-found rule bytes m z =
     let c : Cage = cageOf bytes in
-    let (a, (s, (k, (r, (d, (f, _)))))) = none-hold (load-refusal-first bytes m) z tt in
+    let (a, (u, (s, (k, (r, (d, (f, _))))))) = none-hold (load-refusal-first rule bytes m) z tt in
     let A = stable (tables-agree-is m) a in
     let S = stable (sizes-fit-is bytes m) s in
     let K = stable (corners-fit-is c) k in
     let D = stable (sides-differ-is c) d in
     record {
       agree = A;
+      known = stable (known-rule-is rule) u;
       sizes = S;
       corners = K;
       coordinates = stable (coordinates-fit-is c) r;

@@ -31,7 +31,7 @@ use Rattle.rules.specs.History.{cageCharacteristic, EveryHistory}
 use Rattle.rules.specs.Promises.{StepMakes}
 use Rattle.rules.specs.Sound.{Sound}
 use Rattle.rules.specs.Split.{Work, atFirst, refine}
-use Rattle.rules.specs.Tables.{Topology, Mesh, link, generation}
+use Rattle.rules.specs.Tables.{Topology, Mesh, withRule, link, generation}
 
 -- What is kept from an accepted load on: the tables are sound, and the characteristic is the cage's.
 pub record Good (bytes : List ℕ) (m : Mesh) : Type 0 where
@@ -89,24 +89,25 @@ judged-keeps a (refused z) f h = h
 
 -- ---- load
 
-loaded-good : (bytes : List ℕ) (m : Mesh) → LoadFound bytes m → Good bytes (loaded (cageOf bytes) m)
-loaded-good bytes m L = record {
-  sound = load-sound bytes m (L .agree) (L .sizes) (L .corners) (L .coordinates) (L .differ) (L .fans);
+loaded-good : (rule : ℕ) (bytes : List ℕ) (m : Mesh) → LoadFound rule bytes m
+    → Good bytes (withRule rule (loaded (cageOf bytes) m))
+loaded-good rule bytes m L = record {
+  sound = load-sound rule bytes m (L .agree) (L .known) (L .sizes) (L .corners) (L .coordinates) (L .differ) (L .fans);
   euler =
       load-characteristic (cageOf bytes) m (L .agree) (L .sizes .vertexRoom) (L .sizes .triangleRoom) (L .corners)
       (L .differ);
 }
 
-load-holds : (bytes : List ℕ) (m : Mesh) (a : LastLoad) {o : Outcome}
-    → Judged (loadRefusal bytes m) m noRoom (worked (atFirst (loaded (cageOf bytes) m))) o
+load-holds : (rule : ℕ) (bytes : List ℕ) (m : Mesh) (a : LastLoad) {o : Outcome}
+    → Judged (loadRefusal rule bytes m) m noRoom (worked (atFirst (withRule rule (loaded (cageOf bytes) m)))) o
     → Holds a m → Holds (elim (eqb (o .answer .refusal) 0) [ true ↦ cage bytes | false ↦ a ]) (o .mesh)
-load-holds bytes m a (carried z) h = loaded-good bytes m (load-found bytes m z)
-load-holds bytes m a (refused z) h = rw (ne-eqb (loadRefusal bytes m) 0 z) h
+load-holds rule bytes m a (carried z) h = loaded-good rule bytes m (load-found rule bytes m z)
+load-holds rule bytes m a (refused z) h = rw (ne-eqb (loadRefusal rule bytes m) 0 z) h
 
 -- ---- the calls
 
 pub keeps : (c : Call) (m : Mesh) → Keeps c m
-keeps (changes (loads bytes)) m = record { holds = λ a. load-holds bytes m a (load-judged bytes m) }
+keeps (changes (loads rule bytes)) m = record { holds = λ a. load-holds rule bytes m a (load-judged rule bytes m) }
 keeps (changes (refines t)) m = record {
   holds = λ a.
       judged-keeps a (refine-judged t m) (λ z. holds-on a (refined-stays (found-refined (refine-found t m z))));

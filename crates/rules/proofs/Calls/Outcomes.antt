@@ -1,5 +1,5 @@
 -- What each call that is carried out makes.
-use mathlib.Core.Path.{_≡_, sym, subst}
+use mathlib.Core.Path.{_≡_, refl, sym, subst}
 use mathlib.Core.Logic.{_≢_}
 use mathlib.Core.List.{List}
 use Prim.Native.Nat.{ℕ, _*_, _%_, _<_}
@@ -19,27 +19,25 @@ use Rattle.rules.proofs.Calls.Histories.{found-refines}
 use Rattle.rules.proofs.Chains.Kobbelt.{refine-is-kobbelt}
 use Rattle.rules.proofs.Loads.Load.{loaded-loads, links-are, load-sound, loaded-past, loaded-positions-past}
 use Rattle.rules.proofs.Soundness.Relaxed.{sound-manifold, sound-bases}
-use Rattle.rules.proofs.Numbers.Rounding.{half-up, half-up-only}
 use Rattle.rules.specs.Cage.{Cage, cageOf, loaded}
 use Rattle.rules.specs.Calls.{worked, loadCall, refineCall, wholeStepCall, ringRead, ringCall, positionRead}
 use Rattle.rules.specs.Calls.{positionCall, limitRead, limitCall}
-use Rattle.rules.specs.Numbers.{halfUp}
-use Rattle.rules.specs.Promises.{Nearest, Loaded, ChainFalls, RefineMakes, StepMakes, LimitMakes, kobbelt}
+use Rattle.rules.specs.Promises.{Loaded, ChainFalls, RefineMakes, StepMakes, LimitMakes, kobbelt}
 use Rattle.rules.specs.Sound.{Sound}
 use Rattle.rules.specs.Split.{atFirst, refine}
 use Rattle.rules.specs.Step.{wholeStep, limitPositions}
-use Rattle.rules.specs.Tables.{Mesh, boundary, link, generation}
+use Rattle.rules.specs.Tables.{Mesh, withRule, boundary, link, generation}
 
 -- ---- load
 
-pub load-makes : (bytes : List ℕ) (m : Mesh) → loadCall bytes m .answer .refusal ≡ 0
-    → (loadCall bytes m ≡ worked (atFirst (loaded (cageOf bytes) m)))
-    × Loaded (cageOf bytes) m (loaded (cageOf bytes) m)
+pub load-makes : (rule : ℕ) (bytes : List ℕ) (m : Mesh) → loadCall rule bytes m .answer .refusal ≡ 0
+    → let n = withRule rule (loaded (cageOf bytes) m) in
+    (loadCall rule bytes m ≡ worked (atFirst n)) × Loaded rule (cageOf bytes) m n
 unfolding loaded
-load-makes bytes m z =
+load-makes rule bytes m z =
     let c : Cage = cageOf bytes in
-    let x = judged-carried (load-judged bytes m) z in
-    let L = load-found bytes m (x .0) in
+    let x = judged-carried (load-judged rule bytes m) z in
+    let L = load-found rule bytes m (x .0) in
     let A = L .agree in
     let v = L .sizes .vertexRoom in
     let f = L .sizes .triangleRoom in
@@ -47,7 +45,8 @@ load-makes bytes m z =
     let P = loaded-past c m in (
       x .1,
       record {
-        sound = load-sound bytes m A (L .sizes) (L .corners) (L .coordinates) (L .differ) (L .fans);
+        sound = load-sound rule bytes m A (L .known) (L .sizes) (L .corners) (L .coordinates) (L .differ) (L .fans);
+        rule = refl;
         vertices = R .vertices;
         triangles = R .triangles;
         corners = R .corners;
@@ -90,6 +89,7 @@ refine-makes t m z =
         risesBy = R .risesBy;
         still = R .still;
         oldVertices = R .places .old;
+        rule = R .places .rule;
         past = record {
           cornerSlots = R .cornerRoom;
           linkSlots = R .linkRoom;
@@ -147,11 +147,3 @@ ring-reads v buffer m z = judged-carried (ring-judged v buffer m) z .1
 
 pub position-reads : (v : ℕ) (m : Mesh) → positionCall v m .answer .refusal ≡ 0 → positionCall v m ≡ positionRead v m
 position-reads v m z = judged-carried (position-judged v m) z .1
-
--- ---- numbers
-
-pub half-up-nearest : (n : ℤ) {d : ℕ} → 0 < d → Nearest n d (halfUp n d)
-half-up-nearest n p = let F = half-up n p in record { low = F .low; high = F .high }
-
-pub half-up-alone : (n q : ℤ) (d : ℕ) → Nearest n d q → q ≡ halfUp n d
-half-up-alone n q d N = half-up-only n q d (record { low = N .low; high = N .high })

@@ -19,6 +19,7 @@ use Rattle.rules.proofs.Splits.Settled.{nowhere}
 use Rattle.rules.specs.Calls.{splitsOf, rimSplitsOf, verticesOf, trianglesOf}
 use Rattle.rules.specs.Conditions.{OddInChain, Takes, evenEnd, boundaryEnd, RoomFor, TooOld}
 use Rattle.rules.specs.History.{edges}
+use Rattle.rules.specs.Numbers.{KnownRule}
 use Rattle.rules.specs.Promises.{RisesBy, Still, odds}
 use Rattle.rules.specs.Sound.{Sound}
 use Rattle.rules.specs.Split.{Work, atFirst, chainEnd, chainOdd, refine}
@@ -100,7 +101,8 @@ module _ (t : ℕ) (m : Mesh) (S : Sound m) (b : t < m .topology .triangles) (yo
       record {
         sound = manifold-sound (w .mesh) A (X .manifold) (X .basesMeet) (omega (arith, X .vertices, S .someVertex))
             (omega (arith, X .triangles, S .someTriangle)) v (X .most 20 (S .generations) i)
-            (X .places .range (omega (arith, A .positions)) (S .range));
+            (X .places .range (omega (arith, A .positions)) (S .range))
+            (subst KnownRule (sym (X .places .rule)) (S .rule));
         splits = omega (arith, X .splits);
         odd = omega (arith, X .odd);
         vertices = X .vertices;

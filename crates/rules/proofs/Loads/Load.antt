@@ -21,10 +21,11 @@ use Rattle.rules.proofs.Rings.Turning.{Glued}
 use Rattle.rules.specs.Below.{lowest}
 use Rattle.rules.specs.Cage.{Cage, cageOf, opposite, partner, loaded, fansFit}
 use Rattle.rules.specs.Conditions.{SizesFit, CornersFit, CoordinatesFit, SidesDiffer, FansFit}
+use Rattle.rules.specs.Numbers.{KnownRule}
 use Rattle.rules.specs.Promises.{Opposite, Matches, only, alone}
 use Rattle.rules.specs.Sound.{OneFan, Sound, hasOneFan}
 use Rattle.rules.specs.Tables.{Topology, Mesh, TablesAgree, sides, next, origin, target, boundary, link}
-use Rattle.rules.specs.Tables.{generation, vertexSlots, triangleSlots}
+use Rattle.rules.specs.Tables.{generation, vertexSlots, triangleSlots, withRule}
 
 -- ---- the partner of a side
 
@@ -162,15 +163,16 @@ module _ (c : Cage) (m : Mesh) (A : TablesAgree m)
 -- ---- soundness
 
 -- A cage that is not refused is loaded as a sound mesh.
-pub load-sound : (bytes : List ℕ) (m : Mesh) → TablesAgree m → SizesFit bytes m
+pub load-sound : (rule : ℕ) (bytes : List ℕ) (m : Mesh) → TablesAgree m → KnownRule rule → SizesFit bytes m
     → CornersFit (cageOf bytes) → CoordinatesFit (cageOf bytes) → SidesDiffer (cageOf bytes) → FansFit (cageOf bytes) m
-    → Sound (loaded (cageOf bytes) m)
+    → Sound (withRule rule (loaded (cageOf bytes) m))
 unfolding loaded
-load-sound bytes m A S K R D fits =
+load-sound rule bytes m A known S K R D fits =
     let c : Cage = cageOf bytes in
     let L = loaded-loads c m A (S .vertexRoom) (S .triangleRoom) in
-    manifold-sound (loaded c m)
-    (loaded-agree c m A (S .vertexRoom) (S .triangleRoom))
+    let B = loaded-agree c m A (S .vertexRoom) (S .triangleRoom) in
+    manifold-sound (withRule rule (loaded c m))
+    (agree-on B (record { positions = refl; corners = refl; links = refl; generations = refl }))
     (load-manifold c m A (S .vertexRoom) (S .triangleRoom) K D fits)
     (load-bases c m A (S .vertexRoom) (S .triangleRoom))
     (S .someVertex)
@@ -178,6 +180,7 @@ load-sound bytes m A S K R D fits =
     (rw (L .positionRoom) (S .vertexRoom))
     (λ t l. rw (L .generations t l) (omega arith))
     (λ i l. rw (L .positions i l) (R i l))
+    known
 
 -- The test of all vertices decides whether each has one fan.
 pub fans-fit-is : (c : Cage) (m : Mesh) → TablesAgree m → c .vertices ≤ vertexSlots m → c .triangles ≤ triangleSlots m

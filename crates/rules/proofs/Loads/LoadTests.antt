@@ -6,28 +6,31 @@ use mathlib.Core.List.{List, [], _∷_}
 use Prim.Native.Nat.{ℕ}
 use Rattle.rules.proofs.Calls.FirstThatHolds.{refuses, carries}
 use Rattle.rules.specs.Cage.{cageOf, loaded, sizesFit, cornersFit, coordinatesFit, sidesDiffer, fansFit}
-use Rattle.rules.specs.Calls.{noRoom, Outcome, loadRefusal, loadCall, _if_, firstOf, worked}
+use Rattle.rules.specs.Calls.{noRoom, loadRefusal, loadCall, _if_, firstOf, refusedWith, worked}
 use Rattle.rules.specs.Split.{atFirst}
-use Rattle.rules.specs.Tables.{Mesh, tablesAgree}
+use Rattle.rules.specs.Numbers.{knownRule}
+use Rattle.rules.specs.Tables.{Mesh, tablesAgree, withRule}
 
-module _ (bytes : List ℕ) (m : Mesh) where
+module _ (rule : ℕ) (bytes : List ℕ) (m : Mesh) where
   -- The refusal by the answers of its tests. A test that was not made stands for itself.
-  pub load-by-tests : {a s k r d f : Bool} → tablesAgree m ≡ a → sizesFit bytes m ≡ s → cornersFit (cageOf bytes) ≡ k
+  pub load-by-tests : {a u s k r d f : Bool} → tablesAgree m ≡ a → knownRule rule ≡ u → sizesFit bytes m ≡ s
+      → cornersFit (cageOf bytes) ≡ k
       → coordinatesFit (cageOf bytes) ≡ r → sidesDiffer (cageOf bytes) ≡ d → fansFit (cageOf bytes) m ≡ f
-      → firstOf (1 if not a ∷ 2 if not s ∷ 3 if not k ∷ 4 if not r ∷ 5 if not d ∷ 6 if not f ∷ []) ≡ loadRefusal bytes m
+      → firstOf (1 if not a ∷ 16 if not u ∷ 2 if not s ∷ 3 if not k ∷ 4 if not r ∷ 5 if not d ∷ 6 if not f ∷ [])
+      ≡ loadRefusal rule bytes m
   unfolding loadRefusal
-  load-by-tests a s k r d f = rw (loadRefusal, a, s, k, r, d, f)
+  load-by-tests a u s k r d f = rw (loadRefusal, a, u, s, k, r, d, f)
 
-  pub load-refused : {n : ℕ} → n ≡ loadRefusal bytes m → n ≢ 0
-      → (n ≡ loadCall bytes m .answer .refusal) × (m ≡ loadCall bytes m .mesh)
+  -- The call by its refusal, and by the mesh that it leaves where there is none.
+  pub load-refused : {n : ℕ} → n ≡ loadRefusal rule bytes m → n ≢ 0 → refusedWith n m noRoom ≡ loadCall rule bytes m
   unfolding loadCall
   load-refused {n} e z =
-      let q = refuses m noRoom (worked (atFirst (loaded (cageOf bytes) m))) (loadRefusal bytes m) n e z in
-      (ap (λ (o : Outcome). o .answer .refusal) q, ap (λ (o : Outcome). o .mesh) q)
+      refuses m noRoom (worked (atFirst (withRule rule (loaded (cageOf bytes) m)))) (loadRefusal rule bytes m) n e z
 
-  pub load-carried : {n : Mesh} → 0 ≡ loadRefusal bytes m → n ≡ loaded (cageOf bytes) m
-      → (0 ≡ loadCall bytes m .answer .refusal) × (n ≡ loadCall bytes m .mesh)
+  pub load-carried : {n : Mesh} → 0 ≡ loadRefusal rule bytes m → n ≡ withRule rule (loaded (cageOf bytes) m)
+      → worked (atFirst n) ≡ loadCall rule bytes m
   unfolding loadCall
   load-carried e l =
-      let q = carries m noRoom (worked (atFirst (loaded (cageOf bytes) m))) (loadRefusal bytes m) 0 e refl in
-      (ap (λ (o : Outcome). o .answer .refusal) q, l ∙ ap (λ (o : Outcome). o .mesh) q)
+      ap (λ (k : Mesh). worked (atFirst k)) l
+      ∙ carries m noRoom (worked (atFirst (withRule rule (loaded (cageOf bytes) m)))) (loadRefusal rule bytes m) 0 e
+      refl

@@ -9,7 +9,7 @@ use Rattle.rules.proofs.Splits.Bases.{boundary-not-base}
 use Rattle.rules.proofs.Soundness.FiveKinds.{kind-level, kind-bases, level-kind}
 use Rattle.rules.proofs.Links.Manifold.{Manifold, Joined, Base, BasesMeetIn}
 use Rattle.rules.proofs.Splits.Settled.{nowhere}
-use Rattle.rules.specs.Numbers.{InRange}
+use Rattle.rules.specs.Numbers.{InRange, KnownRule}
 use Rattle.rules.specs.Sound.{Linked, Sound}
 use Rattle.rules.specs.Tables.{Topology, Mesh, TablesAgree, boundary, link, generation, vertexSlots}
 
@@ -63,12 +63,13 @@ sound-bases {m} S h l a b = go (S .linked h l)
         absurd (kind-bases (generation t (h / 3)) (h % 3) (generation t (link t h / 3)) (link t h % 3) (M .kind) a b)
 
 -- A manifold in which no two bases meet is sound, where the tables agree and hold what a sound mesh asks of each
--- vertex and triangle alone.
+-- vertex and triangle alone, and the rule is known.
 pub manifold-sound : (m : Mesh) → TablesAgree m → Manifold (m .topology) → BasesMeetIn nowhere (m .topology)
     → 1 ≤ m .topology .vertices → 1 ≤ m .topology .triangles → m .topology .vertices ≤ vertexSlots m
     → ((t : ℕ) → t < m .topology .triangles → generation (m .topology) t ≤ 20)
-    → ((i : ℕ) → i < 3 * m .topology .vertices → InRange (getD (m .positions) i (pos 0))) → Sound m
-manifold-sound m A F K v f room low near = record {
+    → ((i : ℕ) → i < 3 * m .topology .vertices → InRange (getD (m .positions) i (pos 0))) → KnownRule (m .rule)
+    → Sound m
+manifold-sound m A F K v f room low near known = record {
   tables = A;
   someVertex = v;
   someTriangle = f;
@@ -80,6 +81,7 @@ manifold-sound m A F K v f room low near = record {
   fans = F .fan;
   range = near;
   generations = low;
+  rule = known;
 }
 
 -- The tables keep their slots, so that they go on agreeing.

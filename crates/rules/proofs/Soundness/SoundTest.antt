@@ -13,7 +13,7 @@ use Rattle.rules.proofs.Numbers.Decide.{is-all}
 use Rattle.rules.proofs.Rings.FanTest.{one-fan-is}
 use Rattle.rules.proofs.Soundness.Relaxed.{linked-joined}
 use Rattle.rules.proofs.Rings.Turning.{Glued}
-use Rattle.rules.specs.Numbers.{InRange, maxCoordinate, inRange}
+use Rattle.rules.specs.Numbers.{InRange, maxCoordinate, inRange, KnownRule, knownRule}
 use Rattle.rules.specs.Sound.{Linked, OneFan, Sound, role, fiveKinds, isLinked, soundSide, hasOneFan, isSound}
 use Rattle.rules.specs.Tables.{Topology, Mesh, TablesAgree, sides, origin, target, boundary, link, generation}
 use Rattle.rules.specs.Tables.{vertexSlots, triangleSlots, tablesAgree}
@@ -71,6 +71,10 @@ module _ (m : Topology) (h : ℕ) where
 
 -- ---- the whole
 
+-- The rule is 1 or 2.
+pub known-rule-is : (rule : ℕ) → Decides (knownRule rule) (KnownRule rule)
+known-rule-is rule = is-or (is-eq rule 1) (is-eq rule 2)
+
 -- What is tested before the fans is what the walks need.
 pub glued : (m : Mesh) → TablesAgree m → m .topology .triangles ≤ triangleSlots m
     → ((h : ℕ) → h < sides (m .topology) → SoundSide (m .topology) h) → Glued (m .topology)
@@ -85,7 +89,7 @@ pub sound-is : (m : Mesh) → Decides (isSound m) (Sound m)
 unfolding isSound
 sound-is m =
     is-iff
-    (λ ((((((((tables, vertex), triangle), vertices), triangles), side), fans), range), generations). record {
+    (λ (((((((((tables, vertex), triangle), vertices), triangles), side), fans), range), generations), rule). record {
       tables = tables;
       someVertex = vertex;
       someTriangle = triangle;
@@ -97,14 +101,21 @@ sound-is m =
       fans = fans;
       range = range;
       generations = generations;
+      rule = rule;
     })
     (λ S.
     let side : (h : ℕ) → h < sides t → SoundSide t h =
     λ h l. record { corner = S .corner h l; distinct = S .distinct h l; linked = S .linked h l } in (
-      (((((((S .tables, S .someVertex), S .someTriangle), S .vertexRoom), S .triangleRoom), side), S .fans), S .range),
-      S .generations,
+      (
+        (
+          ((((((S .tables, S .someVertex), S .someTriangle), S .vertexRoom), S .triangleRoom), side), S .fans),
+          S .range,
+        ),
+        S .generations,
+      ),
+      S .rule,
     ))
-    (is-and (is-and (is-then (is-and (is-and (is-and (is-and (is-and
+    (is-and (is-and (is-and (is-then (is-and (is-and (is-and (is-and (is-and
     (tables-agree-is m)
     (is-le 1 (t .vertices)))
     (is-le 1 (t .triangles)))
@@ -116,6 +127,7 @@ sound-is m =
     (is-all (3 * t .vertices) (λ i. inRange (at i)) (λ i. InRange (at i)) (λ i l. in-range-is (at i))))
     (is-all (t .triangles) (λ x. leb (generation t x) 20) (λ x. generation t x ≤ 20)
     (λ x l. is-le (generation t x) 20)))
+    (known-rule-is (m .rule)))
   where
     t : Topology
     t = m .topology

@@ -12,7 +12,7 @@ use Rattle.rules.specs.Numbers.{InRange}
 use Rattle.rules.specs.Tables.{Mesh, putThree}
 
 -- The vertices of m stand in n where they stood, nothing is written past those of n, and new ones are in range where
--- the old ones are.
+-- the old ones are; the rule goes on.
 pub record Places (m n : Mesh) : Type 0 where
   pub size : length (n .positions) ≡ length (m .positions)
   pub grows : m .topology .vertices ≤ n .topology .vertices
@@ -21,9 +21,17 @@ pub record Places (m n : Mesh) : Type 0 where
   pub range : 3 * n .topology .vertices ≤ length (n .positions)
       → ((i : ℕ) → i < 3 * m .topology .vertices → InRange (getD (m .positions) i (pos 0)))
       → (i : ℕ) → i < 3 * n .topology .vertices → InRange (getD (n .positions) i (pos 0))
+  pub rule : n .rule ≡ m .rule
 
 pub places-same : (m : Mesh) → Places m m
-places-same m = record { size = refl; grows = omega arith; old = λ i l. refl; past = λ b l. refl; range = λ r a. a }
+places-same m = record {
+  size = refl;
+  grows = omega arith;
+  old = λ i l. refl;
+  past = λ b l. refl;
+  range = λ r a. a;
+  rule = refl;
+}
 
 pub places-on : {m k n : Mesh} → Places m k → Places k n → Places m n
 places-on A B = record {
@@ -32,22 +40,24 @@ places-on A B = record {
   old = λ i l. let g = A .grows in B .old i (omega arith) ∙ A .old i l;
   past = λ b l. let g = B .grows in B .past b l ∙ A .past b (omega arith);
   range = λ r a. let g = B .grows in B .range r (A .range (omega (arith, B .size)) a);
+  rule = B .rule ∙ A .rule;
 }
 
 -- Neither vertices nor positions change.
 pub places-stay : (m n : Mesh) → n .positions ≡ m .positions → n .topology .vertices ≡ m .topology .vertices
-    → Places m n
-places-stay m n p v = record {
+    → n .rule ≡ m .rule → Places m n
+places-stay m n p v e = record {
   size = ap length p;
   grows = omega arith;
   old = λ i l. ap (λ q. getD q i (pos 0)) p;
   past = λ b l. ap (drop (3 * b)) p;
   range = λ r a i l. subst (λ q. InRange (getD q i (pos 0))) (sym p) (a i (omega arith));
+  rule = e;
 }
 
 -- A new vertex placed in the first free slot.
 module _ (m n : Mesh) (p : ℤ × ℤ × ℤ) (one : n .topology .vertices ≡ suc (m .topology .vertices))
-    (put : n .positions ≡ putThree (m .topology .vertices) p (m .positions)) where
+    (put : n .positions ≡ putThree (m .topology .vertices) p (m .positions)) (rule : n .rule ≡ m .rule) where
   v : ℕ
   v = m .topology .vertices
 
@@ -79,6 +89,7 @@ module _ (m n : Mesh) (p : ℤ × ℤ × ℤ) (one : n .topology .vertices ≡ s
     old = λ i l. read i (omega arith);
     past = λ b l. ap (drop (3 * b)) put ∙ drop-put (m .positions) v b p (omega arith);
     range = λ r a i l. go a (omega (arith, size)) i l (decLt i (3 * v));
+    rule = rule;
   }
     where
       go : ((i : ℕ) → i < 3 * v → InRange (getD (m .positions) i (pos 0))) → 3 * v + 3 ≤ length (m .positions)

@@ -141,24 +141,34 @@ counted (next-child S s) = counted-on S (counted s)
 
 -- ---- the new vertices
 
-settle-positions : (s : ℕ) (w : Work) → settle s w .mesh .positions ≡ w .mesh .positions
+-- Settling changes the topology alone.
+settle-leaves : (s : ℕ) (w : Work) → (settle s w .mesh .positions ≡ w .mesh .positions)
+    × (settle s w .mesh .rule ≡ w .mesh .rule)
 unfolding settle
-settle-positions s w = go (isBase m (link m (3 * s)))
+settle-leaves s w = go (isBase m (link m (3 * s)))
   where
     m : Topology
     m = reached w
 
-    go : (b : Bool)
-        → (elim b as (λ _. Work) [
+    go : (b : Bool) →
+        let x : Work = elim b as (λ _. Work) [
           | true ↦ withFlip (withTopology (flip s (link m (3 * s) / 3) m) (w .mesh)) w
           | false ↦ w
-        ]) .mesh .positions ≡ w .mesh .positions
-    go true = refl
-    go false = refl
+        ] in
+        (x .mesh .positions ≡ w .mesh .positions) × (x .mesh .rule ≡ w .mesh .rule)
+    go true = (refl, refl)
+    go false = (refl, refl)
 
-settled-positions : (cs : List ℕ) (w : Work) → settleAll cs w .mesh .positions ≡ w .mesh .positions
-settled-positions [] w = refl
-settled-positions (c ∷ cs) w = settled-positions cs (settle c w) ∙ settle-positions c w
+settle-positions : (s : ℕ) (w : Work) → settle s w .mesh .positions ≡ w .mesh .positions
+settle-positions s w = settle-leaves s w .0
+
+settled-leaves : (cs : List ℕ) (w : Work) → (settleAll cs w .mesh .positions ≡ w .mesh .positions)
+    × (settleAll cs w .mesh .rule ≡ w .mesh .rule)
+settled-leaves [] w = (refl, refl)
+settled-leaves (c ∷ cs) w =
+    let x = settled-leaves cs (settle c w) in
+    let y = settle-leaves c w in
+    (x .0 ∙ y .0, x .1 ∙ y .1)
 
 -- A face split places its vertex at the centre, and no other.
 pub face-positions : (t : ℕ) (w : Work)
@@ -187,12 +197,12 @@ splitting-of v g p r cs w k F b C o P =
     let K = counted A in
     let x : Work = settleAll cs (withSplit k w) in
     let result = cut-settled v g cs p r (reached w) (k .topology) (reached x) F b C (settled-of A) in
+    let L = settled-leaves cs (withSplit k w) in
     record {
       result = result;
       splits = K .splits;
       odd = omega (arith, K .odd);
-      places = places-on P (places-stay k (x .mesh) (settled-positions cs (withSplit k w))
-          (result .vertices ∙ sym (C .vertices)));
+      places = places-on P (places-stay k (x .mesh) (L .0) (result .vertices ∙ sym (C .vertices)) (L .1));
     }
 
 -- A third of corners of a triangle in use is in range where the vertices are.
@@ -224,7 +234,7 @@ module _ (v : ℕ) (w : Work) (F : Manifold (reached w)) (b : v < reached w .tri
       split-manifold v m (split v m) F b even S (omega arith) (omega arith) (omega arith) in
       splitting-of v _ 1 0 _ w (splitPlaced v (w .mesh)) F b (face-cut v m (split v m) F b even S N)
       (split-odds v m (split v m) b even S)
-      (places-new (w .mesh) (splitPlaced v (w .mesh)) _ (S .vertices) refl
+      (places-new (w .mesh) (splitPlaced v (w .mesh)) _ (S .vertices) refl refl
       (third-fits 0 1 2 (w .mesh) v F b (omega arith) (omega arith) (omega arith)))
 
   pub rim-splitting : generation (reached w) v % 2 ≡ 1 → link (reached w) (3 * v) ≡ boundary
@@ -243,12 +253,13 @@ module _ (v : ℕ) (w : Work) (F : Manifold (reached w)) (b : v < reached w .tri
       let k : Mesh =
       meshOf (withCounts (m .vertices + 1) (m .triangles) m)
       (putThree (m .vertices) (firstThird (w .mesh) v 0, firstThird (w .mesh) v 1, firstThird (w .mesh) v 2)
-      (w .mesh .positions)) in
+      (w .mesh .positions))
+      (w .mesh .rule) in
       let one : Places (w .mesh) k =
-      places-new (w .mesh) k _ (omega arith) refl
+      places-new (w .mesh) k _ (omega arith) refl refl
       (third-fits 0 0 1 (w .mesh) v F b (omega arith) (omega arith) (omega arith)) in
       let two : Places k (rimPlaced v (w .mesh)) =
-      places-new k (rimPlaced v (w .mesh)) _ (omega (arith, S .vertices)) refl
+      places-new k (rimPlaced v (w .mesh)) _ (omega (arith, S .vertices)) refl refl
       (λ a. third-fits 0 1 1 (w .mesh) v F b (omega arith) (omega arith) (omega arith)
       (λ i l. subst InRange (one .old i l) (a i (omega arith)))) in
       splitting-of v _ 2 2 _ w (rimPlaced v (w .mesh)) F b (rim-cut v m (rimCut v m) F b odd edge S N)

@@ -10,7 +10,7 @@ use lib.ListN.{length, getD}
 use Rattle.rules.proofs.Numbers.Decide.{is-all, is-lt, is-le, stable}
 use Rattle.rules.proofs.Numbers.Differences.{above, below, Is, its, nat, add, sub, scale, times, equal}
 use Rattle.rules.proofs.Numbers.Fill.{length-fill, getD-fill}
-use Rattle.rules.proofs.Numbers.Rounding.{half-up, weight-at-most}
+use Rattle.rules.proofs.Numbers.Rounding.{rounded-nearest, weight-at-most}
 use Rattle.rules.proofs.Numbers.Sums.{total-same, total-add, total-const, total-first}
 use Rattle.rules.proofs.Links.Sides.{previous-lt, next-lt}
 use Rattle.rules.proofs.Rings.RingSums.{sum-over-is, fan-out, as-fan}
@@ -185,16 +185,15 @@ module _ {m : Mesh} (S : Sound m) (closed : (h : ℕ) → h < sides (m .topology
         (add (scale n (its (coordinate m v k))) (scale 2 (sum-over-is m k (ring mt v)))) (rw f (omega arith)))
 
     limit-is-limit : k < 3 → length (ring mt v) ≤ 12
-        → IsLimit (length (ring mt v)) (coordinate m v k) (sumOver m k (ring mt v)) (cornersOver m k (fan mt v))
-        (limitCoordinate m v k)
+        → IsLimit (m .rule) (length (ring mt v)) (coordinate m v k) (sumOver m k (ring mt v))
+        (cornersOver m k (fan mt v)) (limitCoordinate m v k)
     unfolding limitCoordinate limit
     limit-is-limit i few =
         let r = length (ring mt v) in
         let p = coordinate m v k in
         let s = sumOver m k (ring mt v) in
-        let F = half-up (limitNumerator r p s) {d = r * (65536 + 3 * weight r)} (omega (arith, ring-some S v b)) in
         record {
-          nearest = record { low = F .low; high = F .high };
+          nearest = rounded-nearest (m .rule) (limitNumerator r p s) (omega (arith, ring-some S v b));
           range = limit-coordinate-in-range m v k (S .range (3 * v + k) (omega arith)) (ring-coordinates S v b k i)
               (ring-some S v b);
           corners = corners-round;

@@ -121,8 +121,12 @@ module _ (m : Mesh) (v k : ℕ) (p : InRange (coordinate m v k))
     (a : Each (λ u. InRange (coordinate m u k)) (ring (m .topology) v)) (n : 1 ≤ length (ring (m .topology) v)) where
   pub moved-coordinate-in-range : InRange (movedCoordinate m v k)
   unfolding movedCoordinate
-  moved-coordinate-in-range = let s = sum-range m k (ring (m .topology) v) a in moved-in-range n p (s .0) (s .1)
+  moved-coordinate-in-range =
+      let s = sum-range m k (ring (m .topology) v) a in
+      moved-in-range (m .rule) n p (s .0) (s .1)
 
   pub limit-coordinate-in-range : InRange (limitCoordinate m v k)
   unfolding limitCoordinate
-  limit-coordinate-in-range = let s = sum-range m k (ring (m .topology) v) a in limit-in-range n p (s .0) (s .1)
+  limit-coordinate-in-range =
+      let s = sum-range m k (ring (m .topology) v) a in
+      limit-in-range (m .rule) n p (s .0) (s .1)

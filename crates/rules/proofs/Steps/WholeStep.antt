@@ -17,7 +17,7 @@ use Rattle.rules.proofs.Steps.StepPositions.{moved-coordinate-in-range}
 use Rattle.rules.proofs.Steps.StepTopology.{Midway, refine-even, refine-first, two-up}
 use Rattle.rules.proofs.Numbers.Sums.{total-zero}
 use Rattle.rules.specs.Conditions.{RoomFor, ClosedEven}
-use Rattle.rules.specs.Numbers.{InRange}
+use Rattle.rules.specs.Numbers.{InRange, KnownRule}
 use Rattle.rules.specs.Promises.{StepMakes, odds}
 use Rattle.rules.specs.Sound.{Sound}
 use Rattle.rules.specs.Split.{Work, atFirst, faceSplit, refine}
@@ -138,7 +138,8 @@ module _ (m : Mesh) (S : Sound m) (C : ClosedEven (m .topology)) (young : C .com
         sound =
             manifold-sound (wholeStep m .mesh) A (M .manifold) (M .basesMeet) (omega (arith, S .someVertex))
             (omega (arith, S .someTriangle)) (omega (arith, R .vertices))
-            (λ x l. let u = up x l in let y = low in omega arith) range;
+            (λ x l. let u = up x l in let y = low in omega arith) range
+            (subst KnownRule (sym (M .places .rule)) (S .rule));
         splits = omega (arith, M .splits);
         flips = omega (arith, M .odd);
         vertices = v;
@@ -151,6 +152,7 @@ module _ (m : Mesh) (S : Sound m) (C : ClosedEven (m .topology)) (young : C .com
         placed = λ x k l i.
             move-else (m .topology .vertices) m (w .mesh .positions) (3 * (m .topology .vertices + x) + k) (omega arith)
             ∙ M .centres x k l i;
+        rule = M .places .rule;
         past = record {
           cornerSlots = M .corners;
           linkSlots = M .links;

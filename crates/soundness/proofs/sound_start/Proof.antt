@@ -24,6 +24,7 @@ mesh c =
     meshOf
     (topologyOf (args .vertices) (args .triangles) (args .corners .now) (args .links .now) (args .generations .now))
     (args .positions .now)
+    (args .rule)
 
 -- The start, from the place after each test.
 abbrev from-1 : tie.Else1 → tie.Start
@@ -42,7 +43,7 @@ from-4 c = from-3 (c .before .before)
 agreed : (c : tie.Else1) → tablesAgree (mesh (from-1 c)) ≡ true
 agreed c =
     let args = from-1 c .args in
-    passed (c .before .tables-agree .ensures (args .vertices) (args .triangles)) (c .if1 .left)
+    passed (c .before .tables-agree .ensures (args .vertices) (args .triangles) (args .rule)) (c .if1 .left)
 
 counted : (c : tie.Else2) → countsFit (mesh (from-2 c)) ≡ true
 counted c =
@@ -76,7 +77,8 @@ tables-agree-requires c κs = search needs
 returns : tie.Need-returns
 returns c =
     let args = c .before .before .before .before .before .args in
-    let none = refused (c .before .tables-agree .ensures (args .vertices) (args .triangles)) (c .if1 .taken) in
+    let test = c .before .tables-agree .ensures (args .vertices) (args .triangles) (args .rule) in
+    let none = refused test (c .if1 .taken) in
     rw (parts _, none)
 
 counts-fit-requires : tie.Need-counts-fit-requires

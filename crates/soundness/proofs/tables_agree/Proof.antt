@@ -7,28 +7,28 @@ use Rattle.soundness.proofs.tables_agree.Statement.{statement}
 use Rattle.soundness.proofs.tables_agree.Tie as tie
 
 returns : tie.Need-returns
-returns c v f = is-same (is-false (λ A. omega (arith, A .fewTriangles))) (tables-agree-is _)
+returns c v f rule = is-same (is-false (λ A. omega (arith, A .fewTriangles))) (tables-agree-is _)
 
 returns-2 : tie.Need-returns-2
-returns-2 c v f = is-same (is-false (λ A. omega (arith, A .fewVertices))) (tables-agree-is _)
+returns-2 c v f rule = is-same (is-false (λ A. omega (arith, A .fewVertices))) (tables-agree-is _)
 
 mul-if3 : tie.Need-mul-if3
 mul-if3 c = search needs
 
 returns-3 : tie.Need-returns-3
-returns-3 c v f = is-same (is-false (λ A. c .if3 .taken (A .positions))) (tables-agree-is _)
+returns-3 c v f rule = is-same (is-false (λ A. c .if3 .taken (A .positions))) (tables-agree-is _)
 
 mul-if4 : tie.Need-mul-if4
 mul-if4 c = search needs
 
 returns-4 : tie.Need-returns-4
-returns-4 c v f = is-same (is-false (λ A. c .if4 .taken (A .corners))) (tables-agree-is _)
+returns-4 c v f rule = is-same (is-false (λ A. c .if4 .taken (A .corners))) (tables-agree-is _)
 
 mul-result : tie.Need-mul-result
 mul-result c = search needs
 
 returns-5 : tie.Need-returns-5
-returns-5 c v f = is-same
+returns-5 c v f rule = is-same
     (is-iff
     (λ e. record {
       positions = c .before .if3 .left;

@@ -39,7 +39,7 @@ children-requires : tie.Need-children-requires
 children-requires c κs =
     let at-start = c .before .before .before .before .before .before .before .before .before .before .before .before
     .before .before in
-    let n = countsOf (at-start .args .work) in
+    let n = countsOf 0 (at-start .args .work) in
     omega (arith, at-start .pre, ap (λ x. x .generation) (c .triangle-at .ensures n))
 
 replace-requires : tie.Need-replace-requires
@@ -61,7 +61,7 @@ same-length-4 : tie.Need-same-length-4
 same-length-4 c = search needs
 
 returns : tie.Need-returns
-returns c =
+returns c rule =
     let at-replace = c .before .before .before .before .before .before in
     let at-children = at-replace .before .before .before .before in
     let at-triangle-at = at-children .before in
@@ -69,8 +69,8 @@ returns c =
     let at-third-of = at-store-point .before .before in
     let at-start = at-third-of .before .before .before .before .before .before .before in
     let args = at-start .args in
-    let n = countsOf (args .work) in
-    face-hands _ _ _ (at-start .pre .0 .young)
+    let n = countsOf rule (args .work) in
+    face-hands _ _ _ (at-start .pre .0 .1 .young)
     (face-cut-steps _ _ _ _ _ _ _ (at-third-of .third-of .ensures n (args .links .now) (args .generations .now))
     (at-store-point .store-point .ensures) (at-triangle-at .triangle-at .ensures n) (at-children .children .ensures)
     (at-replace .replace .ensures n)) (at-start .pre .1)

@@ -14,7 +14,7 @@ mul-to-u : tie.Need-mul-to-u
 mul-to-u c = search needs
 
 none : Counts
-none = record { vertices = 0; triangles = 0 }
+none = record { vertices = 0; triangles = 0; rule = 0 }
 
 triangle-at-requires : tie.Need-triangle-at-requires
 triangle-at-requires c κs = search needs

@@ -1,13 +1,15 @@
 -- `split::refine` meets its contract: the loop of refine.
 use borrow.Author.Needs.{needs}
-use Prim.Native.Nat.{_-_, _<_}
+use Prim.Native.Nat.{ℕ, _-_, _<_}
 use native.Mathlib.Omega.{arith}
 use mathlib.Core.Path.{_≡_}
+use Rattle.rules.proofs.Calls.Carried.{RefineFound}
 use Rattle.rules.proofs.Chains.RefineLoop.{Refining, refining-begins, refining-ends, few-splits}
 use Rattle.rules.specs.Split as rules
 use Rattle.rules.specs.Split.{chainEnd}
 use Rattle.rules.specs.Tables.{Mesh}
 use Rattle.tables.specs.Lent.{meshNow}
+use Rattle.split.specs.declared.Work.{Work}
 use Rattle.split.specs.Made.{workNow}
 use Rattle.split.proofs.refine.Proof.Turns.{turn-may-split, turn-on, turn-within, turn-end}
 use Rattle.split.proofs.refine.Statement.{statement}
@@ -16,9 +18,10 @@ mod Turns
 
 abbrev Inv-loop : tie.InvT-loop
 Inv-loop positions₀ corners₀ links₀ generations₀ t slots work₀ _ _ positions corners links generations work left end =
-    Refining t (workNow work₀ positions₀ corners₀ links₀ generations₀ .mesh) slots left
-    (workNow work positions corners links generations)
-    × (0 < left → end ≡ chainEnd (workNow work positions corners links generations .mesh .topology) t)
+    ((rule : ℕ) →
+    let m = workNow rule work₀ positions₀ corners₀ links₀ generations₀ .mesh in
+    RefineFound t m → Refining t m slots left (workNow rule work positions corners links generations))
+    × (0 < left → end ≡ chainEnd (workNow 0 work positions corners links generations .mesh .topology) t)
 
 abbrev μ-loop : tie.MeasureT-loop
 μ-loop positions₀ corners₀ links₀ generations₀ t slots work₀ _ _ positions corners links generations work left end =
@@ -37,13 +40,18 @@ module _ (c : tie.In-loop Inv-loop μ-loop) where
       let args = start .args in
       meshNow (args .counts) (args .positions .now) (args .corners .now) (args .links .now) (args .generations .now)
 
-  abbrev work : rules.Work
-  work = let l = loop-head .loop in workNow (l .work) (l .positions) (l .corners) (l .links) (l .generations)
+  abbrev work : ℕ → rules.Work
+  work rule = let l = loop-head .loop in workNow rule (l .work) (l .positions) (l .corners) (l .links) (l .generations)
+
+  -- What holds of the work so far, by the rule of the counts.
+  so-far : Refining (start .args .t) first (start .args .chain .slots) (loop-head .loop .left)
+      (work (start .args .counts .rule))
+  so-far = loop-head .loop .inv .0 (start .args .counts .rule) (start .pre .0)
 
   more : 0 < loop-head .loop .left
   more = omega (arith, c .loop-test .taken)
 
-  at-end : loop-head .loop .end ≡ chainEnd (work .mesh .topology) (start .args .t)
+  at-end : loop-head .loop .end ≡ chainEnd (work 0 .mesh .topology) (start .args .t)
   at-end = loop-head .loop .inv .1 more
 
 -- With the split made.
@@ -51,15 +59,20 @@ module _ (c : tie.After-split-at Inv-loop μ-loop) where
   abbrev at : tie.In-loop Inv-loop μ-loop
   at = c .before .before .before .before .before
 
-  abbrev next : rules.Work
-  next =
+  abbrev next : ℕ → rules.Work
+  next rule =
       let last = c .split-at .last in
-      workNow (c .split-at .result) (last .0) (last .1 .0) (last .1 .1 .0) (last .1 .1 .1 .0)
+      workNow rule (c .split-at .result) (last .0) (last .1 .0) (last .1 .1 .0) (last .1 .1 .1 .0)
 
-  turned : Refining (start at .args .t) (first at) (start at .args .chain .slots) (loop-head at .loop .left - 1) next
-  turned =
-      turn-on (start at .pre .0) (loop-head at .loop .inv .0) (more at) (at-end at) next
-      (c .split-at .ensures)
+  turned : (rule : ℕ) →
+      let args = start at .args in
+      let n = args .counts in
+      let none : Work = record { vertices = n .vertices; triangles = n .triangles; splits = 0; flips = 0 } in
+      let m =
+      workNow rule none (args .positions .now) (args .corners .now) (args .links .now) (args .generations .now) .mesh in
+      RefineFound (args .t) m → Refining (args .t) m (args .chain .slots) (loop-head at .loop .left - 1) (next rule)
+  turned rule R =
+      turn-on R (loop-head at .loop .inv .0 rule R) (more at) (at-end at) (next rule) (c .split-at .ensures rule)
 
 splits-requires : tie.Need-splits-requires Inv-loop μ-loop
 splits-requires c κs = search needs
@@ -68,15 +81,16 @@ loop-holds : tie.Need-loop-holds Inv-loop μ-loop
 loop-holds c =
     let start = c .before .before .before .before .before in
     let chain = start .pre .1 in (
-      rw (c .splits .ensures, chain .odd, chain .rim)
-          (refining-begins (start .pre .0) (λ i b. chain .slots i (omega (arith, chain .odd)))),
+      λ rule R.
+          rw (c .splits .ensures, chain .odd, chain .rim)
+          (refining-begins R (λ i b. chain .slots i (omega (arith, chain .odd)))),
       λ _. chain .end,
     )
 
 split-at-requires : tie.Need-split-at-requires Inv-loop μ-loop
 split-at-requires c κs =
     let at = c .before .before .before .before in
-    turn-may-split (start at .pre .0) (loop-head at .loop .inv .0) (more at) (at-end at)
+    (start at .args .counts .rule, turn-may-split (start at .pre .0) (so-far at) (more at) (at-end at))
 
 sub-left : tie.Need-sub-left Inv-loop μ-loop
 sub-left c = search needs
@@ -88,9 +102,9 @@ across-last-requires c κs =
     let at-loop = at at-split in
     let R = start at-loop .pre .0 in (
       at-if1 .if1 .taken,
-      omega (arith, few-splits R, loop-head at-loop .loop .inv .0 .splits),
-      turn-within R (loop-head at-loop .loop .inv .0) (more at-loop) (at-end at-loop) _
-          (at-split .split-at .ensures) (at-if1 .if1 .taken),
+      omega (arith, few-splits R, so-far at-loop .splits),
+      turn-within R (so-far at-loop) (more at-loop) (at-end at-loop) _
+          (at-split .split-at .ensures (start at-loop .args .counts .rule)) (at-if1 .if1 .taken),
     )
 
 loop-less : tie.Need-loop-less Inv-loop μ-loop
@@ -103,8 +117,8 @@ loop-again c =
     let at-loop = at at-split in (
       turned at-split,
       λ j.
-          turn-end (start at-loop .pre .0) (loop-head at-loop .loop .inv .0) (more at-loop)
-          (at-end at-loop) _ (at-split .split-at .ensures) j _ (c .across-last .ensures),
+          turn-end (start at-loop .pre .0) (so-far at-loop) (more at-loop) (at-end at-loop) _
+          (at-split .split-at .ensures (start at-loop .args .counts .rule)) j _ (c .across-last .ensures),
     )
 
 loop-less-2 : tie.Need-loop-less-2 Inv-loop μ-loop
@@ -115,23 +129,35 @@ loop-again-2 c =
     let at-split = c .before .before .before .before .before .before .before .before in
     (turned at-split, λ j. absurd (omega (arith, c .if1 .left)))
 
+-- What holds of the work at the end.
+ended : (c : tie.After-loop Inv-loop μ-loop) →
+    let args = c .before .before .before .before .before .before .before .args in
+    let l = c .before .loop in
+    Refining (args .t)
+    (meshNow (args .counts) (args .positions .now) (args .corners .now) (args .links .now) (args .generations .now))
+    (args .chain .slots) (l .left)
+    (workNow (args .counts .rule) (l .work) (l .positions) (l .corners) (l .links) (l .generations))
+ended c =
+    let start = c .before .before .before .before .before .before .before in
+    c .before .loop .inv .0 (start .args .counts .rule) (start .pre .0)
+
 same-length : tie.Need-same-length Inv-loop μ-loop
-same-length c = c .before .loop .inv .0 .room .positions
+same-length c = ended c .room .positions
 
 same-length-2 : tie.Need-same-length-2 Inv-loop μ-loop
-same-length-2 c = c .before .loop .inv .0 .room .corners
+same-length-2 c = ended c .room .corners
 
 same-length-3 : tie.Need-same-length-3 Inv-loop μ-loop
-same-length-3 c = c .before .loop .inv .0 .room .links
+same-length-3 c = ended c .room .links
 
 same-length-4 : tie.Need-same-length-4 Inv-loop μ-loop
-same-length-4 c = c .before .loop .inv .0 .room .generations
+same-length-4 c = ended c .room .generations
 
 returns : tie.Need-returns Inv-loop μ-loop
 returns c =
     let none : c .before .loop .left ≡ 0 = omega (arith, c .loop-test .left) in
     let start = c .before .before .before .before .before .before .before in
-    refining-ends (start .pre .0) (rw none at (c .before .loop .inv .0))
+    refining-ends (start .pre .0) (rw none at (ended c))
 
 pub refine-spec : {M : Type 1} → statement M
 refine-spec =

@@ -56,7 +56,7 @@ rim-children-requires c κs =
     let at-start = at-store-point .before .before .before .before .before .before .before .before .before
     .before .before
     .before in
-    let n = countsOf (at-start .args .work) in
+    let n = countsOf 0 (at-start .args .work) in
     omega (arith, at-start .pre, ap (λ x. x .generation) (c .triangle-at .ensures n))
 
 replace-requires : tie.Need-replace-requires
@@ -81,7 +81,7 @@ same-length-4 : tie.Need-same-length-4
 same-length-4 c = search needs
 
 returns : tie.Need-returns
-returns c =
+returns c rule =
     let at-replace = c .before .before .before .before .before .before in
     let at-rim-children = at-replace .before .before .before .before in
     let at-triangle-at = at-rim-children .before in
@@ -91,8 +91,8 @@ returns c =
     let at-third-of = at-third-of2 .before .before .before in
     let at-start = at-third-of .before .before .before .before .before .before .before in
     let args = at-start .args in
-    let n = countsOf (args .work) in
-    rim-hands _ _ _ (at-start .pre .0 .young)
+    let n = countsOf rule (args .work) in
+    rim-hands _ _ _ (at-start .pre .0 .1 .young)
     (rim-cut-steps _ _ _ _ _ _ _ _ _ (at-third-of .third-of .ensures n (args .links .now) (args .generations .now))
     (at-third-of2 .third-of2 .ensures n (args .links .now) (args .generations .now))
     (at-store-point .store-point .ensures) (at-store-point2 .store-point2 .ensures)

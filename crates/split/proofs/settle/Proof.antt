@@ -21,18 +21,18 @@ module _ (c : tie.After-is-base) where
   abbrev topology : Topology
   topology =
       let args = start .args in
-      topologyNow (countsOf (args .work)) (args .corners .now) (args .links .now) (args .generations .now)
+      topologyNow (countsOf 0 (args .work)) (args .corners .now) (args .links .now) (args .generations .now)
 
   abbrev side : ℕ
   side = link topology (3 * start .args .s)
 
   tested : c .is-base .result ≡ isBase topology side
-  tested = c .is-base .ensures (countsOf (start .args .work)) (start .args .corners .now) (start .args .links .now)
+  tested = c .is-base .ensures (countsOf 0 (start .args .work)) (start .args .corners .now) (start .args .links .now)
 
-  abbrev work : List ℤ → rules.Work
-  work positions =
+  abbrev work : ℕ → List ℤ → rules.Work
+  work rule positions =
       let args = start .args in
-      workNow (args .work) positions (args .corners .now) (args .links .now) (args .generations .now)
+      workNow rule (args .work) positions (args .corners .now) (args .links .now) (args .generations .now)
 
 mul-i : tie.Need-mul-i
 mul-i c = search needs
@@ -66,20 +66,20 @@ same-length-3 : tie.Need-same-length-3
 same-length-3 c = search needs
 
 returns : tie.Need-returns
-returns c positions =
+returns c rule positions =
     let at-flip = c .before .before .before .before .before .before in
     let at-if1 = at-flip .before .before .before .before .before in
     let at = at-if1 .before in
-    settle-flips (start at .args .s) (work at positions) _ (tested at) _ (at-if1 .if1 .taken)
-    (at-flip .flip .ensures (countsOf (start at .args .work)))
+    settle-flips (start at .args .s) (work at rule positions) _ (tested at) _ (at-if1 .if1 .taken)
+    (at-flip .flip .ensures (countsOf rule (start at .args .work)))
 
 same-length-4 : tie.Need-same-length-4
 same-length-4 c = search needs
 
 returns-2 : tie.Need-returns-2
-returns-2 c positions =
+returns-2 c rule positions =
     let at = c .before in
-    settle-keeps (start at .args .s) (work at positions) _ (tested at) (c .if1 .left)
+    settle-keeps (start at .args .s) (work at rule positions) _ (tested at) (c .if1 .left)
 
 pub settle-spec : {M : Type 1} → statement M
 settle-spec =

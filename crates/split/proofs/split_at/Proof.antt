@@ -1,5 +1,6 @@
 -- `split::split_at` meets its contract.
 use borrow.Author.Needs.{needs}
+use native.Mathlib.Omega.{arith}
 use mathlib.Core.Path.{_∙_}
 use Rattle.split.proofs.split_at.Statement.{statement}
 use Rattle.split.proofs.split_at.Tie as tie
@@ -14,7 +15,10 @@ add-settle-three : tie.Need-add-settle-three
 add-settle-three c = search needs
 
 settle-three-requires : tie.Need-settle-three-requires
-settle-three-requires c κs = search needs
+settle-three-requires c κs =
+    let at = c .before .before .before .before .before .before .before .before .before .before in
+    let start = at .before .before .before .before .before .before .before .before .before .before .before in
+    omega (arith, start .pre, at .face-cut .ensures 0, at .face-cut .kept)
 
 rim-cut-requires : tie.Need-rim-cut-requires
 rim-cut-requires c κs = search needs
@@ -23,7 +27,10 @@ add-settle-two : tie.Need-add-settle-two
 add-settle-two c = search needs
 
 settle-two-requires : tie.Need-settle-two-requires
-settle-two-requires c κs = search needs
+settle-two-requires c κs =
+    let at = c .before .before .before .before .before .before .before .before .before .before in
+    let start = at .before .before .before .before .before .before .before .before .before .before .before in
+    omega (arith, start .pre, at .rim-cut .ensures 0, at .rim-cut .kept)
 
 same-length : tie.Need-same-length
 same-length c = search needs
@@ -38,11 +45,11 @@ same-length-4 : tie.Need-same-length-4
 same-length-4 c = search needs
 
 returns : tie.Need-returns
-returns c =
+returns c rule =
     let at-settle-three = c .before .before .before .before .before .before in
     let at-face-cut = at-settle-three .before .before .before .before .before .before .before .before .before .before
     .before in
-    at-settle-three .settle-three .ensures _ ∙ at-face-cut .face-cut .ensures .settled
+    at-settle-three .settle-three .ensures rule _ ∙ at-face-cut .face-cut .ensures rule .settled
 
 same-length-5 : tie.Need-same-length-5
 same-length-5 c = search needs
@@ -57,11 +64,11 @@ same-length-8 : tie.Need-same-length-8
 same-length-8 c = search needs
 
 returns-2 : tie.Need-returns-2
-returns-2 c =
+returns-2 c rule =
     let at-settle-two = c .before .before .before .before .before .before in
     let at-rim-cut = at-settle-two .before .before .before .before .before .before .before .before .before .before
     .before in
-    at-settle-two .settle-two .ensures _ ∙ at-rim-cut .rim-cut .ensures .settled
+    at-settle-two .settle-two .ensures rule _ ∙ at-rim-cut .rim-cut .ensures rule .settled
 
 pub split-at-spec : {M : Type 1} → statement M
 split-at-spec =

@@ -55,8 +55,7 @@ returns c n links generations =
     let start = at1 .before .before .before in
     let m = meshNow n (start .args .positions .now) (start .args .corners .now) links generations in
     third-steps m (start .args .t) (start .args .h) (start .args .i) (start .args .j) _ _ _ _
-    (at1 .point-at .ensures (m .topology)) (at2 .point-at2 .ensures (m .topology))
-    (at3 .point-at3 .ensures (m .topology)) (c .thirds .ensures)
+    (at1 .point-at .ensures) (at2 .point-at2 .ensures) (at3 .point-at3 .ensures) (c .thirds .ensures)
 
 pub third-of-spec : {M : Type 1} → statement M
 third-of-spec =

@@ -19,20 +19,21 @@ use Rattle.step.proofs.move_all.Statement.{statement}
 use Rattle.step.proofs.move_all.Tie as tie
 
 -- The next vertex moved, v.
-module _ {n v : ℕ} {m : Mesh} {positions : List ℤ} {lengths : List ℕ} {sums : List ℤ}
-    (M : Movable n m positions lengths sums) (b : v < n) where
+module _ {n rule v : ℕ} {m : Mesh} {positions : List ℤ} {lengths : List ℕ} {sums : List ℤ}
+    (M : Movable n rule m positions lengths sums) (b : v < n) where
   goes-to : (k : ℕ) → k < 3
-      → moved (getD lengths v 0) (getD (moveVertices v m positions) (3 * v + k) (pos 0)) (getD sums (3 * v + k) (pos 0))
+      → moved rule (getD lengths v 0) (getD (moveVertices v m positions) (3 * v + k) (pos 0))
+      (getD sums (3 * v + k) (pos 0))
       ≡ movedCoordinate m v k
   unfolding movedCoordinate
   goes-to k i =
       let R = M .rings in
       let u : v < m .topology .vertices = omega (arith, M .all) in
       let e = move-else v m positions (3 * v + k) (omega arith) in
-      rw (e, M .old (3 * v + k) (omega arith), R .long v u, R .sum v k u i, movedCoordinate)
+      rw (e, M .rule, M .old (3 * v + k) (omega arith), R .long v u, R .sum v k u i, movedCoordinate)
 
   one-moved : (p s q : Point) {l l′ : List ℤ} → l ≡ moveVertices v m positions
-      → p ≡ pointIn l v → s ≡ pointIn sums v → q ≡ movedPoint (getD lengths v 0) p s → l′ ≡ putPoint v q l
+      → p ≡ pointIn l v → s ≡ pointIn sums v → q ≡ movedPoint rule (getD lengths v 0) p s → l′ ≡ putPoint v q l
       → l′ ≡ moveVertices (v + 1) m positions
   one-moved p s q el ep es eq put =
       let x = goes-to 0 (omega arith) in
@@ -41,12 +42,12 @@ module _ {n v : ℕ} {m : Mesh} {positions : List ℤ} {lengths : List ℕ} {sum
       rw (add-one v, move-next, put, eq, ep, es, el, x, y, z)
 
 abbrev Inv-loop : tie.InvT-loop
-Inv-loop positions₀ vertices lengths sums v₀ positions v =
+Inv-loop positions₀ vertices rule lengths sums v₀ positions v =
     (v ≤ vertices) × (length positions ≡ length positions₀)
-    × ((m : Mesh) → Movable vertices m positions₀ lengths sums → positions ≡ moveVertices v m positions₀)
+    × ((m : Mesh) → Movable vertices rule m positions₀ lengths sums → positions ≡ moveVertices v m positions₀)
 
 abbrev μ-loop : tie.MeasureT-loop
-μ-loop positions₀ vertices lengths sums v₀ positions v = vertices - v
+μ-loop positions₀ vertices rule lengths sums v₀ positions v = vertices - v
 
 -- The vertex is one of the mesh's.
 in-use : (c : tie.In-loop Inv-loop μ-loop) →

@@ -33,21 +33,24 @@ next-may-split {m} {i} R at l =
 
 abbrev Inv-loop : tie.InvT-loop
 Inv-loop positions₀ corners₀ links₀ generations₀ f t₀ work₀ positions corners links generations t work =
-    (t ≤ f) × (workNow work positions corners links generations
-    ≡ refineFirst t (atFirst (workNow work₀ positions₀ corners₀ links₀ generations₀ .mesh)))
+    (t ≤ f) × ((rule : ℕ) →
+    let m = workNow rule work₀ positions₀ corners₀ links₀ generations₀ .mesh in
+    StepFound m → workNow rule work positions corners links generations ≡ refineFirst t (atFirst m))
 
 abbrev μ-loop : tie.MeasureT-loop
 μ-loop positions₀ corners₀ links₀ generations₀ f t₀ work₀ positions corners links generations t work = f - t
 
 loop-holds : tie.Need-loop-holds Inv-loop μ-loop
 unfolding refineFirst
-loop-holds c = (omega arith, refl)
+loop-holds c = (omega arith, λ rule F. refl)
 
 split-at-requires : tie.Need-split-at-requires Inv-loop μ-loop
 split-at-requires c κs =
     let head = c .before .before .before .before .before in
-    next-may-split (head .before .before .before .before .pre) (head .loop .inv .1)
-    (c .before .before .before .before .loop-test .taken)
+    let start = head .before .before .before .before in
+    let rule = start .args .counts .rule in
+    let taken = c .before .before .before .before .loop-test .taken in
+    (rule, next-may-split (start .pre) (head .loop .inv .1 rule (start .pre)) taken)
 
 add-t : tie.Need-add-t Inv-loop μ-loop
 add-t c = search needs
@@ -61,9 +64,9 @@ loop-again c =
     let turn = at-split-at .before .before .before .before .before in
     let head = turn .before in (
       omega arith,
-      at-split-at .split-at .ensures
-          ∙ step-on (head .before .before .before .before .pre) (head .loop .inv .1) (head .loop .inv .0)
-          (turn .loop-test .taken),
+      λ rule F.
+          at-split-at .split-at .ensures rule
+          ∙ step-on F (head .loop .inv .1 rule F) (head .loop .inv .0) (turn .loop-test .taken),
     )
 
 -- At the end of the loop the tables have the slots that they had.
@@ -72,8 +75,10 @@ slots : (c : tie.At-loop Inv-loop μ-loop) →
     let l = c .loop in
     SameSlots
     (meshNow (args .counts) (args .positions .now) (args .corners .now) (args .links .now) (args .generations .now))
-    (workNow (l .work) (l .positions) (l .corners) (l .links) (l .generations) .mesh)
-slots c = step-slots (c .before .before .before .before .pre) (c .loop .inv .1) (c .loop .inv .0)
+    (workNow (args .counts .rule) (l .work) (l .positions) (l .corners) (l .links) (l .generations) .mesh)
+slots c =
+    let start = c .before .before .before .before in
+    step-slots (start .pre) (c .loop .inv .1 (start .args .counts .rule) (start .pre)) (c .loop .inv .0)
 
 same-length : tie.Need-same-length Inv-loop μ-loop
 same-length c = slots (c .before) .positions
@@ -89,8 +94,9 @@ same-length-4 c = slots (c .before) .generations
 
 returns : tie.Need-returns Inv-loop μ-loop
 returns c =
-    let e : c .before .loop .t ≡ c .before .before .before .before .before .args .counts .triangles = omega arith in
-    rw e at (c .before .loop .inv .1)
+    let start = c .before .before .before .before .before in
+    let e : c .before .loop .t ≡ start .args .counts .triangles = omega arith in
+    rw e at (c .before .loop .inv .1 (start .args .counts .rule) (start .pre))
 
 pub split-all-spec : {M : Type 1} → statement M
 split-all-spec =

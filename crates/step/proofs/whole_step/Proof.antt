@@ -18,7 +18,11 @@ use Rattle.step.proofs.whole_step.Tie as tie
 -- The step is its splits and then its moves.
 whole-step-steps : (m : Mesh) (w : Work) (positions : List ℤ) → w ≡ refineFirst (m .topology .triangles) (atFirst m)
     → positions ≡ moveVertices (m .topology .vertices) m (w .mesh .positions)
-    → _≡_ {A = Work} (record { mesh = meshOf (w .mesh .topology) positions; splits = w .splits; flips = w .flips })
+    → _≡_ {A = Work} (record {
+      mesh = meshOf (w .mesh .topology) positions (w .mesh .rule);
+      splits = w .splits;
+      flips = w .flips;
+    })
     (wholeStep m)
 unfolding wholeStep
 whole-step-steps m w positions ew ep = rw (ep, ew, wholeStep)
@@ -26,12 +30,13 @@ whole-step-steps m w positions ew ep = rw (ep, ew, wholeStep)
 -- After the splits the vertices still stand where they stood.
 movable : {m : Mesh} {lengths : List ℕ} {sums : List ℤ} {w : Work} → StepFound m → RingSums m lengths sums
     → w ≡ refineFirst (m .topology .triangles) (atFirst m)
-    → Movable (m .topology .vertices) m (w .mesh .positions) lengths sums
+    → Movable (m .topology .vertices) (m .rule) m (w .mesh .positions) lengths sums
 movable {m} F R e =
     let P = step-places F e (omega arith) in
     let S = F .sound in
     record {
       all = refl;
+      rule = refl;
       few = omega (arith, S .tables .fewVertices, S .vertexRoom);
       room = omega (arith, S .tables .positions, S .vertexRoom, P .size);
       old = P .old;

@@ -41,14 +41,14 @@ shared-slice-copy-out-t17 : tie.Need-shared-slice-copy-out-t17
 shared-slice-copy-out-t17 c = search needs
 
 returns : tie.Need-returns
-returns c t =
+returns c =
     let x = c .before .before .t9 .given in
     let y = c .before .t13 .given in
     let z = c .t17 .given in
     rw (add-zero, toZ-ofZ (sfits-of x), toZ-ofZ (sfits-of y), toZ-ofZ (sfits-of z))
 
 returns-2 : tie.Need-returns-2
-returns-2 c t = rw (past c 0, past c 1, past c 2)
+returns-2 c = rw (past c 0, past c 1, past c 2)
 
 pub point-at-spec : {M : Type 1} → statement M
 point-at-spec =

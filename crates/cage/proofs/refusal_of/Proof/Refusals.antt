@@ -16,12 +16,12 @@ use Rattle.rules.proofs.Loads.Load.{matches-opposite, opposite-back, partner-ma
 use Rattle.rules.proofs.Loads.LoadTests.{load-by-tests}
 use Rattle.rules.specs.Promises.{Matches, only, alone}
 use Rattle.rules.proofs.Links.Manifold.{Joined, pair}
-use Rattle.rules.proofs.Soundness.SoundTest.{tables-agree-is}
+use Rattle.rules.proofs.Soundness.SoundTest.{tables-agree-is, known-rule-is}
 use Rattle.rules.proofs.Rings.Turning.{Glued}
 use Rattle.rules.specs.Below.{all, fill}
 use Rattle.rules.specs.Cage.{Cage, cageOf, partner, loaded, sizesFit, cornersFit, coordinatesFit, sidesDiffer, fansFit}
 use Rattle.rules.specs.Conditions.{SizesFit, SidesDiffer}
-use Rattle.rules.specs.Numbers.{numberAt, signed, inRange}
+use Rattle.rules.specs.Numbers.{numberAt, signed, inRange, KnownRule, knownRule}
 use Rattle.rules.specs.Sound.{hasOneFan}
 use Rattle.rules.specs.Tables.{Mesh, TablesAgree, tablesAgree, topologyOf}
 use Rattle.soundness.specs.Walks.{CornersInUse, TellsFans}
@@ -98,21 +98,25 @@ decode-read {bytes} {v} {f} before Z room e =
 agrees : {m : Mesh} → TablesAgree m → tablesAgree m ≡ true
 agrees {m} A = is-same (tables-agree-is m) (is-true A)
 
+known : {rule : ℕ} → KnownRule rule → knownRule rule ≡ true
+known {rule} K = is-same (known-rule-is rule) (is-true K)
+
 sizes : {bytes : List ℕ} {m : Mesh} → SizesFit bytes m → sizesFit bytes m ≡ true
 sizes {bytes} {m} S = is-same (sizes-fit-is bytes m) (is-true S)
 
 module _ {bytes : List ℕ} {v f : ℕ} {origins : List ℕ} (R : Read bytes v f origins) where
   pub refuses-3 : cornersFit (decoded v f origins) ≡ false → Refuses bytes 3
-  refuses-3 k m A S =
-      load-by-tests bytes m (agrees A) (sizes S) (sym (corners-fit-same (R .same)) ∙ k) refl refl refl
+  refuses-3 k rule m K A S =
+      load-by-tests rule bytes m (agrees A) (known K) (sizes S) (sym (corners-fit-same (R .same)) ∙ k) refl refl refl
 
   in-range : coordinatesFit (cageOf bytes) ≡ all (3 * v) (coordinateFits bytes)
   unfolding coordinatesFit cageOf
   in-range = ap (λ (n : ℕ). all (3 * n) (coordinateFits bytes)) (R .sized .vertices)
 
   pub refuses-4 : cornersFit (decoded v f origins) ≡ true → all (3 * v) (coordinateFits bytes) ≡ false → Refuses bytes 4
-  refuses-4 k r m A S =
-      load-by-tests bytes m (agrees A) (sizes S) (sym (corners-fit-same (R .same)) ∙ k) (in-range ∙ r) refl refl
+  refuses-4 k r rule m K A S =
+      load-by-tests rule bytes m (agrees A) (known K) (sizes S) (sym (corners-fit-same (R .same)) ∙ k)
+      (in-range ∙ r) refl refl
 
 module _ {bytes : List ℕ} {v f : ℕ} {origins : List ℕ} (F : Fits bytes v f origins) where
   pub readable : Readable v f origins
@@ -133,8 +137,8 @@ module _ {bytes : List ℕ} {v f : ℕ} {origins : List ℕ} (F : Fits bytes v f
   differs d = sym (sides-differ-same (F .read .same)) ∙ is-same (sides-differ-is (decoded v f origins)) d
 
   pub refuses-5 : ¬ SidesDiffer (decoded v f origins) → Refuses bytes 5
-  refuses-5 n m A S =
-      load-by-tests bytes m (agrees A) (sizes S) corners coordinates (differs (is-false n)) refl
+  refuses-5 n rule m K A S =
+      load-by-tests rule bytes m (agrees A) (known K) (sizes S) corners coordinates (differs (is-false n)) refl
 
   module _ {partners : List ℕ} (M : Matched (decoded v f origins) partners) where
     pub in-use : CornersInUse v f origins partners
@@ -181,9 +185,11 @@ module _ {bytes : List ℕ} {v f : ℕ} {origins : List ℕ} (F : Fits bytes v f
         ∙ all-same v _ _ (λ x l. one-fan-same E x))
 
     pub refuses-6 : TellsFans v f origins partners false → Refuses bytes 6
-    refuses-6 t m A S =
-        load-by-tests bytes m (agrees A) (sizes S) corners coordinates (differs (is-true (M .differ))) (fans t m A S)
+    refuses-6 t rule m K A S =
+        load-by-tests rule bytes m (agrees A) (known K) (sizes S) corners coordinates
+        (differs (is-true (M .differ))) (fans t m A S)
 
     pub refuses-none : TellsFans v f origins partners true → Refuses bytes 0
-    refuses-none t m A S =
-        load-by-tests bytes m (agrees A) (sizes S) corners coordinates (differs (is-true (M .differ))) (fans t m A S)
+    refuses-none t rule m K A S =
+        load-by-tests rule bytes m (agrees A) (known K) (sizes S) corners coordinates
+        (differs (is-true (M .differ))) (fans t m A S)

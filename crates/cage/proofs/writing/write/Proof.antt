@@ -36,13 +36,13 @@ same-length-4 : tie.Need-same-length-4
 same-length-4 c = search needs
 
 returns : tie.Need-returns
-returns c v f =
+returns c n =
     let at-clear = c .before .before in
     let at-copy2 = at-clear .before .before .before .before in
     let at-copy = at-copy2 .before .before .before .before in
     let at-place = at-copy .before .before .before in
     let pre = at-place .before .before .before .before .before .before .before .before .pre in
-    written _ _ v f _ _ _ _ _ (pre .1 .1 .0) (pre .0) (at-place .place .ensures) (at-copy .copy .ensures)
+    written _ _ n _ _ _ _ _ (pre .1 .1 .0) (pre .0) (at-place .place .ensures) (at-copy .copy .ensures)
     (at-copy2 .copy2 .ensures) (at-clear .clear .ensures)
 
 pub write-spec : {M : Type 1} → statement M

@@ -23,8 +23,8 @@ returns : tie.Need-returns
 returns c =
     let told = c .before in
     let args = told .before .args in
-    limit-by (args .n) (told .weight-of .result) (told .weight-of .ensures) (args .self) (args .sum) (c .mean .result)
-    (c .mean .ensures)
+    limit-by (args .n) (told .weight-of .result) (told .weight-of .ensures) (args .rule) (args .self) (args .sum)
+    (c .mean .result) (c .mean .ensures)
 
 pub limit-spec : {M : Type 1} → statement M
 limit-spec = tie.close (tie.spec weight-of-requires mul-mean mul-mean-2 mean-requires returns)

@@ -28,8 +28,8 @@ returns : tie.Need-returns
 returns c =
     let told = c .before in
     let args = told .before .args in
-    move-by (args .n) (told .weight-of .result) (told .weight-of .ensures) (args .self) (args .sum) (c .mean .result)
-    (c .mean .ensures)
+    move-by (args .n) (told .weight-of .result) (told .weight-of .ensures) (args .rule) (args .self) (args .sum)
+    (c .mean .result) (c .mean .ensures)
 
 pub moved-spec : {M : Type 1} → statement M
 moved-spec = tie.close (tie.spec weight-of-requires sub-mean mul-mean mean-requires returns)

@@ -10,10 +10,10 @@ use lib.ListN.{getD}
 use Rattle.rules.proofs.Numbers.Decide.{Decides, is-eq, is-lt, is-le, is-not, is-iff, is-then, is-and, is-all, is-same}
 use Rattle.rules.proofs.Rings.FanTest.{one-fan-is}
 use Rattle.rules.proofs.Links.Sides.{by-triangle}
-use Rattle.rules.proofs.Soundness.SoundTest.{SoundSide, in-range-is, tables-agree-is, glued, sound-is}
+use Rattle.rules.proofs.Soundness.SoundTest.{SoundSide, in-range-is, known-rule-is, tables-agree-is, glued, sound-is}
 use Rattle.rules.proofs.Rings.Turning.{Glued}
 use Rattle.rules.specs.Below.{all}
-use Rattle.rules.specs.Numbers.{InRange, inRange}
+use Rattle.rules.specs.Numbers.{InRange, inRange, KnownRule}
 use Rattle.rules.specs.Sound.{OneFan, Sound, hasOneFan, isSound}
 use Rattle.rules.specs.Tables.{Topology, Mesh, TablesAgree, tablesAgree, vertexSlots, triangleSlots}
 use Rattle.rules.specs.Tables.{sides, origin, target, generation}
@@ -60,6 +60,7 @@ module _ (t : Topology) where
 
 module _ (m : Mesh) where
   pub record CountsFit : Type 0 where
+    pub rule : KnownRule (m .rule)
     pub someVertex : 1 ≤ m .topology .vertices
     pub someTriangle : 1 ≤ m .topology .triangles
     pub vertexRoom : m .topology .vertices ≤ vertexSlots m
@@ -67,9 +68,10 @@ module _ (m : Mesh) where
 
   pub counts-are : Decides (countsFit m) CountsFit
   counts-are = is-iff
-      (λ (((v, f), p), s). record { someVertex = v; someTriangle = f; vertexRoom = p; triangleRoom = s })
-      (λ C. (((C .someVertex, C .someTriangle), C .vertexRoom), C .triangleRoom))
-      (is-and (is-and (is-and (is-le 1 (m .topology .vertices)) (is-le 1 (m .topology .triangles)))
+      (λ ((((r, v), f), p), s). record { rule = r; someVertex = v; someTriangle = f; vertexRoom = p; triangleRoom = s })
+      (λ C. ((((C .rule, C .someVertex), C .someTriangle), C .vertexRoom), C .triangleRoom))
+      (is-and (is-and (is-and (is-and (known-rule-is (m .rule)) (is-le 1 (m .topology .vertices)))
+      (is-le 1 (m .topology .triangles)))
       (is-le (m .topology .vertices) (vertexSlots m))) (is-le (m .topology .triangles) (triangleSlots m)))
 
   -- What is known before the triangles are tested.
@@ -112,6 +114,7 @@ module _ (m : Mesh) where
   module _ (S : Sound m) where
     counts : CountsFit
     counts = record {
+      rule = S .rule;
       someVertex = S .someVertex;
       someTriangle = S .someTriangle;
       vertexRoom = S .vertexRoom;
@@ -147,6 +150,7 @@ module _ (m : Mesh) where
         fans = fans;
         range = R;
         generations = λ x l. F x l .low;
+        rule = C .rule;
       })
       (λ S. ((((S .tables, counts S), triangle S), S .range), S .fans))
       (is-then (is-and (is-and (is-and (tables-agree-is m) counts-are) (triangles-are (m .topology)))

@@ -21,9 +21,10 @@ mesh c =
     meshNow (args .counts) (args .positions .now) (args .corners .now) (args .links .now) (args .generations .now)
 
 movable : {m : Mesh} {lengths : List ℕ} {sums : List ℤ} → Sound m → RingSums m lengths sums
-    → Movable (m .topology .vertices) m (m .positions) lengths sums
+    → Movable (m .topology .vertices) (m .rule) m (m .positions) lengths sums
 movable {m} S R = record {
   all = refl;
+  rule = refl;
   few = omega (arith, S .tables .fewVertices, S .vertexRoom);
   room = omega (arith, S .tables .positions, S .vertexRoom);
   old = λ i l. refl;

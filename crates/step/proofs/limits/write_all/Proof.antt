@@ -23,10 +23,10 @@ abbrev limitAt : Mesh → ℕ → ℤ
 limitAt m i = limitCoordinate m (i / 3) (i % 3)
 
 -- The next vertex, v.
-module _ {n v : ℕ} {m : Mesh} {positions : List ℤ} {lengths : List ℕ} {sums : List ℤ}
-    (M : Movable n m positions lengths sums) (b : v < n) where
+module _ {n rule v : ℕ} {m : Mesh} {positions : List ℤ} {lengths : List ℕ} {sums : List ℤ}
+    (M : Movable n rule m positions lengths sums) (b : v < n) where
   limit-of : (k : ℕ) → k < 3
-      → limit (getD lengths v 0) (getD positions (3 * v + k) (pos 0)) (getD sums (3 * v + k) (pos 0))
+      → limit rule (getD lengths v 0) (getD positions (3 * v + k) (pos 0)) (getD sums (3 * v + k) (pos 0))
       ≡ limitAt m (3 * v + k)
   unfolding limitCoordinate
   limit-of k i =
@@ -34,10 +34,10 @@ module _ {n v : ℕ} {m : Mesh} {positions : List ℤ} {lengths : List ℕ} {sum
       let u : v < m .topology .vertices = omega (arith, M .all) in
       let d : (3 * v + k) / 3 ≡ v = omega arith in
       let r : (3 * v + k) % 3 ≡ k = omega arith in
-      rw (d, r, M .old (3 * v + k) (omega arith), R .long v u, R .sum v k u i, limitCoordinate)
+      rw (d, r, M .rule, M .old (3 * v + k) (omega arith), R .long v u, R .sum v k u i, limitCoordinate)
 
   one-written : (p s q : Point) (before : List ℤ) {l l′ : List ℤ} → l ≡ fill (3 * v) (limitAt m) before
-      → p ≡ pointIn positions v → s ≡ pointIn sums v → q ≡ limitPoint (getD lengths v 0) p s → l′ ≡ putPoint v q l
+      → p ≡ pointIn positions v → s ≡ pointIn sums v → q ≡ limitPoint rule (getD lengths v 0) p s → l′ ≡ putPoint v q l
       → l′ ≡ fill (3 * (v + 1)) (limitAt m) before
   one-written p s q before el ep es eq put =
       let x = limit-of 0 (omega arith) in
@@ -46,12 +46,12 @@ module _ {n v : ℕ} {m : Mesh} {positions : List ℤ} {lengths : List ℕ} {sum
       rw (fill-three v (limitAt m) before, put, eq, ep, es, el, x, y, z)
 
 abbrev Inv-loop : tie.InvT-loop
-Inv-loop positions vertices lengths sums table₀ v₀ table v =
+Inv-loop positions vertices rule lengths sums table₀ v₀ table v =
     (v ≤ vertices) × (length table ≡ length table₀)
-    × ((m : Mesh) → Movable vertices m positions lengths sums → table ≡ fill (3 * v) (limitAt m) table₀)
+    × ((m : Mesh) → Movable vertices rule m positions lengths sums → table ≡ fill (3 * v) (limitAt m) table₀)
 
 abbrev μ-loop : tie.MeasureT-loop
-μ-loop positions vertices lengths sums table₀ v₀ table v = vertices - v
+μ-loop positions vertices rule lengths sums table₀ v₀ table v = vertices - v
 
 -- The vertex is one of the mesh's.
 in-use : (c : tie.In-loop Inv-loop μ-loop) →

@@ -1,0 +1,71 @@
+-- Mirror images: coordinate k of everything negated. (Request c)
+use Prim.Native.Nat.{ℕ, _*_, _%_, _<_}
+use mathlib.Core.Bool.{true, false}
+use mathlib.Core.List.{List}
+use mathlib.Core.Path.{_≡_}
+use lib.Dec.{eqb}
+use lib.IntN.{ℤ, pos, negℤ}
+use lib.ListN.{length, getD}
+use Rattle.rules.specs.Below.{fill}
+use Rattle.rules.specs.Cage.{cageOf}
+use Rattle.rules.specs.Calls.{Answer, Room, Outcome, outcomeOf}
+use Rattle.rules.specs.History.{Call, changes, asks, loads, refines, steps, ringOf, positionOf, limitsOf}
+use Rattle.rules.specs.Tables.{Mesh, withPositions}
+
+-- Coordinate j of a point whose coordinate k is negated.
+abbrev pub mirrorAt : ℕ → ℕ → ℤ → ℤ
+mirrorAt k j x = elim (eqb j k) [ true ↦ negℤ x | false ↦ x ]
+
+-- A point, and a table of three coordinates to a slot, with those of slots not in use.
+abbrev pub mirrorPoint : ℕ → ℤ × ℤ × ℤ → ℤ × ℤ × ℤ
+mirrorPoint k p = (mirrorAt k 0 (p .0), mirrorAt k 1 (p .1), mirrorAt k 2 (p .2))
+
+unfoldable pub mirrorTable : ℕ → List ℤ → List ℤ
+mirrorTable k l = fill (length l) (λ i. mirrorAt k (i % 3) (getD l i (pos 0))) l
+
+-- A mesh, and what a call answers and leaves.
+abbrev pub mirror : ℕ → Mesh → Mesh
+mirror k m = withPositions (mirrorTable k (m .positions)) m
+
+abbrev pub mirrorAnswer : ℕ → Answer → Answer
+mirrorAnswer k a = record {
+  refusal = a .refusal;
+  splits = a .splits;
+  flips = a .flips;
+  ringLength = a .ringLength;
+  point = mirrorPoint k (a .point);
+  vertices = a .vertices;
+  triangles = a .triangles;
+  rule = a .rule;
+}
+
+abbrev pub mirrorRoom : ℕ → Room → Room
+mirrorRoom k r = record { buffer = r .buffer; table = mirrorTable k (r .table) }
+
+abbrev pub mirrorOutcome : ℕ → Outcome → Outcome
+mirrorOutcome k o = outcomeOf (mirrorAnswer k (o .answer)) (mirror k (o .mesh)) (mirrorRoom k (o .room))
+
+-- The cage in these bytes is the mirror image of the one in those. The least number of four bytes has no opposite: a
+-- cage with it in coordinate k, which is always refused, has no image.
+pub record MirrorCage (k : ℕ) (those these : List ℕ) : Type 0 where
+  pub size : length these ≡ length those
+  pub vertices : cageOf these .vertices ≡ cageOf those .vertices
+  pub triangles : cageOf these .triangles ≡ cageOf those .triangles
+  pub corners : (h : ℕ) → h < 3 * cageOf those .triangles → cageOf these .corner h ≡ cageOf those .corner h
+  pub coordinates : (i : ℕ) → i < 3 * cageOf those .vertices
+      → cageOf these .coordinate i ≡ mirrorAt k (i % 3) (cageOf those .coordinate i)
+
+-- The second call is the first with what has coordinates mirrored.
+pub data Mirrors (k : ℕ) : Call → Call → Type 0 where
+  load : {rule : ℕ} {those these : List ℕ} → MirrorCage k those these
+      → Mirrors k (changes (loads rule those)) (changes (loads rule these))
+  refine : {t : ℕ} → Mirrors k (changes (refines t)) (changes (refines t))
+  step : Mirrors k (changes steps) (changes steps)
+  ring : {v : ℕ} {buffer : List ℕ} → Mirrors k (asks (ringOf v buffer)) (asks (ringOf v buffer))
+  position : {v : ℕ} → Mirrors k (asks (positionOf v)) (asks (positionOf v))
+  limit : {table : List ℤ} → Mirrors k (asks (limitsOf table)) (asks (limitsOf (mirrorTable k table)))
+
+-- The calls that round by the rule.
+pub data Rounds : Call → Type 0 where
+  step : Rounds (changes steps)
+  limit : {table : List ℤ} → Rounds (asks (limitsOf table))

@@ -1,0 +1,52 @@
+//! Mirror images: one coordinate negated everywhere, in slots that are not in use, in what is lent for results and in
+//! the cage of a load, too.
+
+use crate::tables::{Answer, Call, Store};
+
+/// The three coordinates, each of which may be negated.
+pub const AXES: [usize; 3] = [0, 1, 2];
+
+/// Whether a call rounds halves, so that only rule 2 keeps mirror images in it.
+pub fn rounds_halves(call: &Call) -> bool {
+    matches!(call, Call::WholeStep | Call::Limit)
+}
+
+pub fn of_store(store: &Store, axis: usize) -> Store {
+    let mut image = store.clone();
+    negate(&mut image.tables.positions, axis);
+    negate(&mut image.room.table, axis);
+    image
+}
+
+pub fn of_call(call: &Call, axis: usize) -> Call {
+    match call {
+        Call::Load { rule, cage } => Call::Load { rule: *rule, cage: of_cage(cage, axis) },
+        other => other.clone(),
+    }
+}
+
+pub fn of_answer(answer: &Answer, axis: usize) -> Answer {
+    let mut answer = *answer;
+    negate(&mut answer.point, axis);
+    answer
+}
+
+/// The least number of all, which is no coordinate, is its own opposite here.
+fn negate(coordinates: &mut [i32], axis: usize) {
+    for coordinate in coordinates.iter_mut().skip(axis).step_by(3) {
+        *coordinate = coordinate.wrapping_neg();
+    }
+}
+
+/// Negates one coordinate of as many vertices as the cage says it has, as far as its bytes go.
+fn of_cage(cage: &[u8], axis: usize) -> Vec<u8> {
+    let mut image = cage.to_vec();
+    let (words, _) = image.as_chunks_mut::<4>();
+    if let [vertices, _, rest @ ..] = words {
+        let vertices = u32::from_le_bytes(*vertices) as usize;
+        for point in rest.chunks_exact_mut(3).take(vertices) {
+            point[axis] = i32::from_le_bytes(point[axis]).wrapping_neg().to_le_bytes();
+        }
+    }
+    image
+}
