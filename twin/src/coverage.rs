@@ -1,5 +1,6 @@
 //! What a run has met: each refusal of each call, each rule, each kind of linked pair, each chain length over an even
-//! triangle and over the boundary, each ring length of a whole step and of a limit query, and halves in these.
+//! triangle and over the boundary, each ring length of a whole step and of a limit query, halves in these, and sides
+//! linked to themselves.
 
 use std::collections::{BTreeMap, BTreeSet};
 use std::fmt::{self, Display};
@@ -48,6 +49,8 @@ pub struct Coverage {
     /// Coordinates that lay half-way in whole steps and in limit queries carried out, as `HALVES` lists them.
     step_halves: [u64; 4],
     limit_halves: [u64; 4],
+    /// Sides linked to themselves in tables refused with 7, by their number in the triangle.
+    self_linked: [u64; 3],
 }
 
 /// The halves that are told apart.
@@ -109,6 +112,7 @@ impl Coverage {
                 note_rings(&mut self.limit_rings, before);
                 note_halves(&mut self.limit_halves, before, |[_, limit]| limit);
             }
+            (_, 7) => self.note_self_linked(before),
             _ => {}
         }
     }
@@ -126,6 +130,17 @@ impl Coverage {
             let link = tables.links[side];
             if link != BOUNDARY {
                 count(&mut self.kinds, kind(end(side), end(link as usize)).unwrap_or(0));
+            }
+        }
+    }
+
+    fn note_self_linked(&mut self, before: &Store) {
+        let in_use = (0..before.counts.triangles as usize).zip(before.tables.links.chunks_exact(3));
+        for (triangle, links) in in_use {
+            for (number, &link) in links.iter().enumerate() {
+                if link as usize == 3 * triangle + number {
+                    count(&mut self.self_linked, number);
+                }
             }
         }
     }
@@ -162,6 +177,7 @@ impl Coverage {
         expect("ring in a whole step, length", &self.rings, 2);
         expect("ring in a limit query, length", &self.limit_rings, 2);
         expect("call by rule", &self.rules, 1);
+        expect("side linked to itself, number", &self.self_linked, 0);
         for (call, met) in [("whole step", &self.step_halves), ("limit query", &self.limit_halves)] {
             let missed = HALVES.iter().zip(met).filter(|(_, met)| **met == 0);
             gaps.extend(missed.map(|(half, _)| format!("half in a {call}, {half}: never met")));
@@ -200,6 +216,7 @@ impl Display for Coverage {
         list("rings in whole steps", &self.rings, 2)?;
         list("rings in limit queries", &self.limit_rings, 2)?;
         list("calls carried out by rule", &self.rules, 1)?;
+        list("sides linked to themselves in tables refused with 7", &self.self_linked, 0)?;
         for (calls, met) in [("whole steps", &self.step_halves), ("limit queries", &self.limit_halves)] {
             let shown: Vec<String> = HALVES.iter().zip(met).map(|(half, met)| format!("{half}: {met}")).collect();
             writeln!(out, "halves in {calls}  {}", shown.join("  "))?;

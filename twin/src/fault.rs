@@ -67,6 +67,7 @@ faults! {
     RuleZeroLoaded: "load lets rule 0 pass",
     RuleBeforeTables: "load tests 16 before 1",
     SizesBeforeRule: "load tests 2 before 16",
+    LinkToItselfAccepted: "a side linked to itself is let pass",
 }
 
 impl Fault {

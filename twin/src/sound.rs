@@ -78,6 +78,9 @@ fn link_is_sound(mesh: &Mesh, side: Side) -> bool {
     let Some(partner) = mesh.across(side) else {
         return true;
     };
+    if partner == side && mesh.fault.has(Fault::LinkToItselfAccepted) {
+        return true;
+    }
     let [from, to] = mesh.ends(side);
     partner.triangle < mesh.triangles.len()
         && mesh.ends(partner) == [to, from]

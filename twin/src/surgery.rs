@@ -32,7 +32,7 @@ fn damage_once(store: &mut Store, rng: &mut Rng) {
     let sides = 3 * store.triangles();
     let (one, other) = (rng.below(sides), rng.below(sides));
     let tables = &mut store.tables;
-    match rng.below(10) {
+    match rng.below(11) {
         0 => cut(&mut tables.links, one),
         1 => sew(store),
         2 => cross(&mut tables.links, one, other),
@@ -42,6 +42,7 @@ fn damage_once(store: &mut Store, rng: &mut Rng) {
         6 => tables.links[one] = tables.links[other],
         7 => tables.corners.swap(one, other),
         8 => turn(store, one / 3),
+        9 => link_to_itself(&mut tables.links[..sides], one),
         _ => ripen(&mut tables.generations[..sides / 3], rng),
     }
 }
@@ -52,6 +53,15 @@ fn cut(links: &mut [u32], side: usize) {
     links[side] = BOUNDARY;
     if let Some(link) = links.get_mut(partner) {
         *link = BOUNDARY;
+    }
+}
+
+/// Links a side to itself, and so its partner, so that all links stay mutual.
+fn link_to_itself(links: &mut [u32], side: usize) {
+    let partner = links[side] as usize;
+    links[side] = side as u32;
+    if let Some(link) = links.get_mut(partner) {
+        *link = partner as u32;
     }
 }
 

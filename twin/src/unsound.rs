@@ -65,6 +65,8 @@ pub fn one_way_each() -> Vec<(&'static str, Store)> {
         ("three distinct in each triangle", tables(2, &[([0, 1, 0], [1, 0, B], 0)])),
         ("names a side in use", with_counts(foil(), 3, 1)),
         ("runs the other way", same_way),
+        ("runs the other way: one side linked to itself", tables(3, &[([0, 1, 2], [0, B, B], 0)])),
+        ("runs the other way: all three sides linked to themselves", tables(3, &[([0, 1, 2], [0, 1, 2], 0)])),
         ("links back", tables(5, &beside_a_pair)),
         ("links back", tables(4, &[upper, lower].concat())),
         ("at least one triangle", with_counts(single.clone(), 4, 1)),

@@ -13,6 +13,7 @@ ghost use Rattle.cage.specs.Answers.{lent, Loadable, Refuses, Leaves};
 ghost use Rattle.cage.specs.Decoded.{Sized, WorkingRoom, Holds};
 
 mod conditions;
+mod fans;
 mod pairing;
 mod writing;
 
@@ -51,7 +52,7 @@ fn refusal_of(
     if !pairing::pair(origins, f, v, heads, nexts, slots, partners) {
         return 5;
     }
-    if !soundness::walks::fans(origins, partners, triangles, vertices) {
+    if !fans::fit(origins, partners, triangles, vertices, heads) {
         return 6;
     }
     0

@@ -130,6 +130,7 @@ fn join_all(
 }
 
 // Links each side to the opposite one, or to the boundary. False where a directed side occurs twice.
+// The sides out of each vertex are left threaded.
 pub fn pair(
     corners: &[u32],
     triangles: usize,
@@ -145,6 +146,9 @@ pub fn pair(
     requires { ⌜ Zeroed vertices (now slots) ⌝ }
     requires { ⌜ 3 * triangles ≤ length (now links) ⌝ }
     ensures { λ r. ⌜ Paired (decoded vertices triangles (now (corners .entry))) (now (links .exit)) r ⌝ }
+    ensures { λ _. ⌜
+        Threads (decoded vertices triangles (now (corners .entry))) (3 * triangles) (now (heads .exit))
+        (now (nexts .exit)) ⌝ }
 {
     thread(corners, triangles, vertices, heads, nexts);
     join_all(corners, triangles, vertices, heads, nexts, slots, links)

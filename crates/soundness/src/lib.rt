@@ -12,6 +12,7 @@ ghost use Rattle.soundness.specs.Parts.{countsFit};
 ghost use Rattle.soundness.specs.Walks.{startIf};
 
 mod sides;
+mod surface;
 pub mod walks;
 
 // Whether the tables agree in their slots and keep to the maxima. The counts do not matter.
@@ -63,23 +64,22 @@ fn counts_fit(
     triangles as usize <= generations.len()
 }
 
-// Whether the first n coordinates are in range.
+// Whether the first n coordinates are in range. No early return: the loop then reads several at once.
 fn coordinates_fit(positions: &[i32], n: usize) -> bool
     requires { ⌜ n ≤ length (now positions) ⌝ }
     ensures { λ r. ⌜ r ≡ all n (λ i. inRange (getD (now (positions .entry)) i (pos 0))) ⌝ }
 {
+    let mut fit = true;
     let mut i: usize = 0;
     while i < n {
-        if !points::in_range(positions[i]) {
-            return false;
-        }
+        fit = fit & points::in_range(positions[i]);
         i += 1;
     }
-    true
+    fit
 }
 
-// One more than the side where the ring of v starts, the number of sides where v has none; 0 where the tables are not
-// sound.
+// One more than the side where the ring of v starts, or than the number of sides, where v has no ring; 0 where the
+// tables are not sound.
 pub fn sound_start(
     positions: &[i32],
     corners: &[u32],
@@ -100,13 +100,10 @@ pub fn sound_start(
     if !counts_fit(positions, generations, vertices, triangles, rule) {
         return 0;
     }
-    if !sides::triangles_fit(corners, links, generations, vertices, triangles) {
-        return 0;
-    }
     if !coordinates_fit(positions, 3 * (vertices as usize)) {
         return 0;
     }
-    walks::fan_start(corners, links, triangles, vertices, v)
+    surface::start(corners, links, generations, vertices, triangles, v)
 }
 
 // Whether the tables are sound.

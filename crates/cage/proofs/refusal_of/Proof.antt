@@ -3,8 +3,7 @@ use borrow.Author.Tests.{not-true, not-false}
 use native.Mathlib.Omega.{arith}
 use mathlib.Core.Path.{sym, _∙_}
 use Rattle.cage.proofs.refusal_of.Proof.Refusals.{Fits, decode-read, refuses-3, refuses-4, readable, refuses-5}
-use Rattle.cage.proofs.refusal_of.Proof.Refusals.{in-use, holds}
-use Rattle.cage.proofs.refusal_of.Proof.Refusals.{refuses-6, refuses-none}
+use Rattle.cage.proofs.refusal_of.Proof.Refusals.{threads-begin, holds, refuses-6, refuses-none}
 use Rattle.cage.specs.Decoded.{decoded}
 use Rattle.cage.specs.Pairing.{Matched}
 use borrow.Author.Needs.{needs}
@@ -36,7 +35,7 @@ matched : (c : tie.Else3)
     (at-pair .pair .last .1 .1 .1 .1 .1 .1 .0)
 matched c =
     let at-pair = c .before .before .before .before .before .before .before .before .before in
-    rw (not-false (at-pair .pair .result) (c .if3 .left)) at (at-pair .pair .ensures)
+    rw (not-false (at-pair .pair .result) (c .if3 .left)) at (at-pair .pair .ensures .0)
 
 mul-decode : tie.Need-mul-decode
 mul-decode c = search needs
@@ -113,17 +112,16 @@ returns-3 : tie.Need-returns-3
 returns-3 c =
     let at-pair = c .before .before .before .before .before .before .before .before .before in
     let at-else2 = at-pair .before .before .before .before .before .before in (
-      refuses-5 (fit at-else2) (rw (not-true (at-pair .pair .result) (c .if3 .taken)) at (at-pair .pair .ensures)),
+      refuses-5 (fit at-else2) (rw (not-true (at-pair .pair .result) (c .if3 .taken)) at (at-pair .pair .ensures .0)),
       λ e. absurd (omega arith),
     )
 
-fans-requires : tie.Need-fans-requires
-fans-requires c κs =
-    let at-else3 = c .before .before in
-    let at-else2 =
-    at-else3 .before .before .before .before .before .before .before .before .before .before .before .before .before
-    .before .before in
-    in-use (fit at-else2) (matched at-else3)
+fit-requires : tie.Need-fit-requires
+fit-requires c κs =
+    let at-else3 = c .before .before .before in
+    let at-pair = at-else3 .before .before .before .before .before .before .before .before .before in
+    let F = fit (at-pair .before .before .before .before .before .before) in
+    ((readable F, F .read .sized .fewVertices), (matched at-else3 .room, threads-begin (at-pair .pair .ensures .1)))
 
 same-length-8 : tie.Need-same-length-8
 same-length-8 c = search needs
@@ -142,11 +140,12 @@ same-length-12 c = search needs
 
 returns-4 : tie.Need-returns-4
 returns-4 c =
-    let at-else3 = c .before .before .before .before in
+    let at-fit = c .before .before .before in
+    let at-else3 = at-fit .before .before .before .before in
     let at-else2 = at-else3 .before .before .before .before .before .before .before .before .before .before .before
     .before .before .before .before in (
       refuses-6 (fit at-else2) (matched at-else3)
-          (rw (not-true (c .before .fans .result) (c .if4 .taken)) at (c .before .fans .ensures)),
+          (rw (not-true (at-fit .fit .result) (c .if4 .taken)) at (at-fit .fit .ensures)),
       λ e. absurd (omega arith),
     )
 
@@ -167,11 +166,12 @@ same-length-17 c = search needs
 
 returns-5 : tie.Need-returns-5
 returns-5 c =
-    let at-else3 = c .before .before .before .before in
+    let at-fit = c .before .before .before in
+    let at-else3 = at-fit .before .before .before .before in
     let at-else2 = at-else3 .before .before .before .before .before .before .before .before .before .before .before
     .before .before .before .before in (
       refuses-none (fit at-else2) (matched at-else3)
-          (rw (not-false (c .before .fans .result) (c .if4 .left)) at (c .before .fans .ensures)),
+          (rw (not-false (at-fit .fit .result) (c .if4 .left)) at (at-fit .fit .ensures)),
       λ e. holds (fit at-else2) (matched at-else3),
     )
 
@@ -197,7 +197,7 @@ refusal-of-spec =
     same-length-6
     same-length-7
     returns-3
-    fans-requires
+    fit-requires
     same-length-8
     same-length-9
     same-length-10

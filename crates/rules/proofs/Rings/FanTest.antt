@@ -8,8 +8,8 @@ use native.Mathlib.Decide.{ℕ-discrete, decLe}
 use lib.ListN.{length}
 use lib.Dec.{T, eqb}
 use Rattle.rules.proofs.Numbers.Decide.{Decides, is-eq, is-lt, is-iff, is-and}
-use Rattle.rules.proofs.Rings.Fans.{Walked, Inside, Starts, sideAt, Meets, walk-walked, first-side, first-in-use}
-use Rattle.rules.proofs.Rings.Fans.{fan-walked, fan-some}
+use Rattle.rules.proofs.Rings.Fans.{Walked, Inside, Begins, Starts, sideAt, Meets, walk-walked, first-side}
+use Rattle.rules.proofs.Rings.Fans.{first-in-use, fan-walked, fan-some}
 use Rattle.rules.proofs.Numbers.Pigeonhole.{no-more, each-reached, as-many}
 use Rattle.rules.proofs.Links.Renaming.{turns-trans}
 use Rattle.rules.proofs.Rings.Turning.{Glued, rotate-inner, before}
@@ -105,8 +105,7 @@ pub record MeetsAll (m : Topology) (v : ℕ) : Type 0 where
   pub all : (h : ℕ) → h < sides m → origin m h ≡ v → Meets (fan m v) h
 
 module _ (m : Topology) (G : Glued m) (v : ℕ) where
-  -- In one fan turning leads to all from a side on the boundary, and from any side out of v where none is.
-  module _ (f : OneFan m v) (s : ℕ) (S : Starts m v s) where
+  module _ (f : OneFan m v) where
     l : List ℕ
     l = fanFrom (m .triangles) m (f .first) (f .first)
 
@@ -117,8 +116,9 @@ module _ (m : Topology) (G : Glued m) (v : ℕ) where
     at : (h : ℕ) → h < sides m → origin m h ≡ v → Meets l h
     at h b o = W .met (f .all h b o)
 
-    pub reach : (h : ℕ) → h < sides m → origin m h ≡ v → Turns m s h
-    reach h b o = go (S .best)
+    -- In one fan turning leads to all from a side on the boundary, and from any side out of v where none is.
+    pub reach : (s : ℕ) → Begins m v s → (h : ℕ) → h < sides m → origin m h ≡ v → Turns m s h
+    reach s S h b o = go (S .best)
       where
         x : Meets l s
         x = at s (S .inUse) (S .out)
@@ -135,23 +135,30 @@ module _ (m : Topology) (G : Glued m) (v : ℕ) where
             subst₂ (Turns m) (x .2) (y .2) (around m (f .first) l W (z .0) (z .1) r (x .0) (y .0) (x .1) (y .1))
 
     -- It has one start.
-    pub one-start : (r : ℕ) → Starts m v r → s ≡ r
-    one-start r R = go (S .best) (R .best)
+    pub one-start : (s r : ℕ) → Starts m v s → Starts m v r → s ≡ r
+    one-start s r S R = go (A .best) (B .best)
       where
-        first : (k : ℕ) → Starts m v k → link m k ≡ boundary → f .first ≡ k
+        A : Begins m v s
+        A = S .begins
+
+        B : Begins m v r
+        B = R .begins
+
+        first : (k : ℕ) → Begins m v k → link m k ≡ boundary → f .first ≡ k
         first k K = boundary-first m (f .first) l W G k (at k (K .inUse) (K .out))
 
         go : (link m s ≡ boundary) ⊎ Inside m v → (link m r ≡ boundary) ⊎ Inside m v → s ≡ r
-        go (inl a) (inl b) = sym (first s S a) ∙ first r R b
-        go (inl a) (inr n) = absurd (n s (S .inUse) (S .out) a)
-        go (inr n) (inl b) = absurd (n r (R .inUse) (R .out) b)
+        go (inl a) (inl b) = sym (first s A a) ∙ first r B b
+        go (inl a) (inr n) = absurd (n s (A .inUse) (A .out) a)
+        go (inr n) (inl b) = absurd (n r (B .inUse) (B .out) b)
         go (inr n) (inr _) =
-            omega (arith, S .lowest n r (R .inUse) (R .out), R .lowest n s (S .inUse) (S .out))
+            omega (arith, S .lowest n r (B .inUse) (B .out), R .lowest n s (A .inUse) (A .out))
 
   pub fan-met : OneFan m v → MeetsAll m v
   fan-met f =
       let i : firstSide m v < sides m = first-in-use m v (f .first) (f .inUse) (f .out) in
-      record { start = i; all = λ h b o. fan-walked m v G i .met (reach f (firstSide m v) (first-side m v i) h b o) }
+      let B = first-side m v i .begins in
+      record { start = i; all = λ h b o. fan-walked m v G i .met (reach f (firstSide m v) B h b o) }
 
   -- The test says whether v has one fan.
   pub one-fan-is : Decides (hasOneFan m v) (OneFan m v)
@@ -162,11 +169,12 @@ module _ (m : Topology) (G : Glued m) (v : ℕ) where
       to-fan x =
           let i : firstSide m v < sides m = fan-some m v (x .0) in
           let W = fan-walked m v G i in
-          let o = first-side m v i .out in
+          let o = first-side m v i .begins .out in
           met-fan m (firstSide m v) (fan m v) W v o (all-met m (firstSide m v) (fan m v) W v o (x .1))
 
       of-fan : OneFan m v → (0 < length (fan m v)) × (length (fan m v) ≡ triangleCount m v)
       of-fan f =
           let M = fan-met f in
           let W = fan-walked m v G (M .start) in
-          (W .some, all-counted m (firstSide m v) (fan m v) W v (first-side m v (M .start) .out) (M .all))
+          let o = first-side m v (M .start) .begins .out in
+          (W .some, all-counted m (firstSide m v) (fan m v) W v o (M .all))

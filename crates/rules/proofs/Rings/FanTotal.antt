@@ -5,7 +5,7 @@ use lib.Dec.{eqb}
 use lib.ListN.{length}
 use Rattle.rules.proofs.Numbers.Decide.{Decides, is-eq, is-iff}
 use Rattle.rules.proofs.Rings.FanTest.{no-more-met, all-met, met-fan, reach, all-counted}
-use Rattle.rules.proofs.Rings.Fans.{Walked, Starts, walk-walked}
+use Rattle.rules.proofs.Rings.Fans.{Walked, Begins, walk-walked}
 use Rattle.rules.proofs.Numbers.Pigeonhole.{counted-by-value}
 use Rattle.rules.proofs.Numbers.Sums.{total-same, total-tight}
 use Rattle.rules.proofs.Rings.Turning.{Glued}
@@ -24,7 +24,7 @@ module _ (m : Topology) (corner : (h : ℕ) → h < sides m → origin m h < m .
   sides-counted : total (m .vertices) (triangleCount m) ≡ sides m
   sides-counted = counted-by-value (m .vertices) (sides m) (origin m) corner
 
-  module _ (G : Glued m) (start : ℕ → ℕ) (S : (v : ℕ) → v < m .vertices → Starts m v (start v)) where
+  module _ (G : Glued m) (start : ℕ → ℕ) (S : (v : ℕ) → v < m .vertices → Begins m v (start v)) where
     walk : (v : ℕ) → v < m .vertices → Walked m (start v) (fanFrom (m .triangles) m (start v) (start v))
     walk v l = walk-walked m G (start v) (S v l .inUse)
 

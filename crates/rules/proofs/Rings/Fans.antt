@@ -211,11 +211,15 @@ walk-walked m G s l =
 abbrev pub Inside : Topology → ℕ → Type 0
 Inside m v = (h : ℕ) → h < sides m → origin m h ≡ v → link m h ≢ boundary
 
--- A side out of v: on the boundary if one is, and else the lowest.
-pub record Starts (m : Topology) (v s : ℕ) : Type 0 where
+-- A side out of v from which a walk meets all of a fan: on the boundary if one is.
+pub record Begins (m : Topology) (v s : ℕ) : Type 0 where
   pub inUse : s < sides m
   pub out : origin m s ≡ v
   pub best : (link m s ≡ boundary) ⊎ Inside m v
+
+-- Such a side that is the lowest where none is on the boundary.
+pub record Starts (m : Topology) (v s : ℕ) : Type 0 where
+  pub begins : Begins m v s
   pub lowest : Inside m v → (h : ℕ) → h < sides m → origin m h ≡ v → s ≤ h
 
 module _ (m : Topology) (v : ℕ) where
@@ -238,11 +242,16 @@ module _ (m : Topology) (v : ℕ) where
       → (elim c [ true ↦ a | false ↦ b ]) < sides m → Starts m v (elim c [ true ↦ a | false ↦ b ])
   pick a b true d A B l =
       let x = outBoundary-is a .holds (A .passes l) in
-      record { inUse = l; out = x .0; best = inl (x .1); lowest = λ n h i q. absurd (n a l (x .0) (x .1)) }
+      record {
+        begins = record { inUse = l; out = x .0; best = inl (x .1) };
+        lowest = λ n h i q. absurd (n a l (x .0) (x .1));
+      }
   pick a b false d A B l = record {
-    inUse = l;
-    out = out-is b .holds (B .passes l);
-    best = inr (λ h i q r. A .none h (omega (arith, d .passes)) (outBoundary-is h .passes (q, r)));
+    begins = record {
+      inUse = l;
+      out = out-is b .holds (B .passes l);
+      best = inr (λ h i q r. A .none h (omega (arith, d .passes)) (outBoundary-is h .passes (q, r)));
+    };
     lowest = λ n h i q. no-lower h q (decLt h b);
   }
     where

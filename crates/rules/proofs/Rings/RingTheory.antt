@@ -10,7 +10,7 @@ use lib.ListN.{length, getD}
 use lib.Dec.{eqb}
 use Rattle.rules.proofs.Numbers.Decide.{is-eq, bit-yes, bit-no}
 use Rattle.rules.proofs.Rings.FanTest.{MeetsAll, last, all-counted, fan-met}
-use Rattle.rules.proofs.Rings.Fans.{Walked, Inside, Starts, sideAt, Meets, first-side, fan-walked}
+use Rattle.rules.proofs.Rings.Fans.{Walked, Inside, Begins, Starts, sideAt, Meets, first-side, fan-walked}
 use Rattle.rules.proofs.Soundness.Relaxed.{sound-manifold}
 use Rattle.rules.proofs.Rings.Turning.{Glued, manifold-glued, rotate-inner, before}
 use Rattle.rules.specs.Below.{bit}
@@ -52,7 +52,7 @@ neighbours-length m (h ∷ k ∷ l) zero e = absurd (omega arith)
 neighbours-length m (h ∷ k ∷ l) (suc i) e = let x = neighbours-length m (k ∷ l) i (omega arith) in omega arith
 
 -- A walk that meets every side out of v.
-module _ (m : Topology) (G : Glued m) (v s : ℕ) (l : List ℕ) (S : Starts m v s) (W : Walked m s l)
+module _ (m : Topology) (G : Glued m) (v s : ℕ) (l : List ℕ) (S : Begins m v s) (W : Walked m s l)
     (met : (h : ℕ) → h < sides m → origin m h ≡ v → Meets l h) where
   to-boundary : (i : ℕ) → suc i ≡ length l → rotate m (sideAt l i) ≡ boundary → OnBoundary m v
   to-boundary i e r = go (ℕ-discrete (link m s) boundary)
@@ -100,7 +100,8 @@ unfolding ring
 ring-of m G v f =
     let M : MeetsAll m v = fan-met m G v f in
     let s : ℕ = firstSide m v in
-    let S : Starts m v s = first-side m v (M .start) in
+    let F : Starts m v s = first-side m v (M .start) in
+    let S : Begins m v s = F .begins in
     let W : Walked m s (fan m v) = fan-walked m v G (M .start) in
     record {
       some = W .some;
@@ -108,7 +109,7 @@ ring-of m G v f =
       startsOut = S .out;
       start = (
         λ (h, u, o, b). elim (S .best) [ inl e ↦ e | inr n ↦ absurd (n h u o b) ],
-        λ n. S .lowest (λ h u o b. n (h, u, o, b)),
+        λ n. F .lowest (λ h u o b. n (h, u, o, b)),
       );
       inUse = W .inUse;
       turns = W .turns;

@@ -1,5 +1,5 @@
 -- The five kinds of linked pairs are those of one level that are not two bases.
-use mathlib.Core.Path.{_≡_, refl, sym}
+use mathlib.Core.Path.{_≡_, refl}
 use mathlib.Core.Logic.{_≢_}
 use mathlib.Core.Bool.{Bool, true, false}
 use Prim.Native.Nat.{ℕ, _+_, _/_, _%_, min}
@@ -71,8 +71,3 @@ module _ (g i h j : ℕ) where
   pub level-kind : (g + min 1 i) / 2 ≡ (h + min 1 j) / 2 → (BaseOf g i → BaseOf h j → ⊥)
       → T (fiveKinds (roleOf g i) (roleOf h j))
   level-kind = of-level g i h j (role-is g i) (role-is h j)
-
--- The order of the two sides does not matter.
-pub kind-other-way : (g i h j : ℕ) → T (fiveKinds (roleOf g i) (roleOf h j)) → T (fiveKinds (roleOf h j) (roleOf g i))
-kind-other-way g i h j t =
-    level-kind h j g i (sym (kind-level g i h j t)) (λ a b. kind-bases g i h j t b a)

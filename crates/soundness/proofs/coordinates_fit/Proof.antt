@@ -1,19 +1,18 @@
 -- `soundness::coordinates_fit` meets its contract.
 use borrow.Author.Needs.{needs}
 use native.Mathlib.Omega.{arith}
-use Prim.Native.Nat.{ℕ, _-_, _≤_}
-use mathlib.Core.Bool.{Bool, true}
+use native.Mathlib.Numerals.{add-one}
+use Prim.Native.Nat.{ℕ, _+_, _-_, _≤_}
+use mathlib.Core.Bool.{Bool, _&&_}
 use mathlib.Core.List.{List}
-use mathlib.Core.Path.{_≡_, refl, sym}
+use mathlib.Core.Path.{_≡_, refl}
 use lib.IntN.{ℤ, pos}
 use lib.ListN.{getD}
 use mir.Syntax.{w32}
 use mir.Val.{toZ, ofZ}
 use Rattle.points.proofs.Signed.{returned}
-use Rattle.rules.proofs.Numbers.Decide.{all-more, all-fails}
 use Rattle.rules.specs.Below.{all}
 use Rattle.rules.specs.Numbers.{inRange}
-use Rattle.soundness.proofs.Answers.{refused, passed}
 use Rattle.soundness.proofs.coordinates_fit.Statement.{statement}
 use Rattle.soundness.proofs.coordinates_fit.Tie as tie
 
@@ -21,16 +20,20 @@ abbrev inRangeAt : List ℤ → ℕ → Bool
 inRangeAt positions i = inRange (getD positions i (pos 0))
 
 abbrev Inv-loop : tie.InvT-loop
-Inv-loop positions n i₀ i = (i ≤ n) × (all i (inRangeAt positions) ≡ true)
+Inv-loop positions n fit₀ i₀ fit i = (i ≤ n) × (fit ≡ all i (inRangeAt positions))
 
 abbrev μ-loop : tie.MeasureT-loop
-μ-loop positions n i₀ i = n - i
+μ-loop positions n fit₀ i₀ fit i = n - i
 
 -- The number that a turn reads is the coordinate.
 read : (c : tie.After-in-range-arg Inv-loop μ-loop) →
     let z = getD (c .before .before .before .args .positions .now) (c .before .before .loop .i) (pos 0) in
     toZ w32 (ofZ w32 z) ≡ z
 read c = returned w32 (c .in-range-arg .given) refl
+
+more : {a b : Bool} (n : ℕ) (p : ℕ → Bool) → a ≡ all n p → b ≡ p n → (a && b) ≡ all (n + 1) p
+unfolding all
+more n p d e = rw (add-one, d, e)
 
 loop-holds : tie.Need-loop-holds Inv-loop μ-loop
 unfolding all
@@ -45,13 +48,6 @@ shared-slice-copy-out-in-range c = search needs
 in-range-requires : tie.Need-in-range-requires Inv-loop μ-loop
 in-range-requires c κs = search needs
 
-returns : tie.Need-returns Inv-loop μ-loop
-returns c =
-    let turn = c .before .before .before in
-    let p = inRangeAt (turn .before .before .args .positions .now) in
-    let out = rw (read (c .before .before)) at (refused (c .before .in-range .ensures) (c .if1 .taken)) in
-    sym (all-fails _ _ p (turn .loop-test .taken) out)
-
 add-i : tie.Need-add-i Inv-loop μ-loop
 add-i c = search needs
 
@@ -60,15 +56,14 @@ loop-less c = search needs
 
 loop-again : tie.Need-loop-again Inv-loop μ-loop
 loop-again c =
-    let head = c .before .before .before .before in
+    let head = c .before .before .before in
     let p = inRangeAt (head .before .args .positions .now) in
-    let one-more = rw (read (c .before .before)) at (passed (c .before .in-range .ensures) (c .if1 .left)) in
-    (omega arith, all-more _ p (head .loop .inv .1) one-more)
+    (omega arith, more _ p (head .loop .inv .1) (rw (read (c .before)) at (c .in-range .ensures)))
 
-returns-2 : tie.Need-returns-2 Inv-loop μ-loop
-returns-2 c =
+returns : tie.Need-returns Inv-loop μ-loop
+returns c =
     let e : c .before .loop .i ≡ c .before .before .args .n = omega arith in
-    sym (rw e at (c .before .loop .inv .1))
+    rw e at (c .before .loop .inv .1)
 
 pub coordinates-fit-spec : {M : Type 1} → statement M
 coordinates-fit-spec =
@@ -80,8 +75,7 @@ coordinates-fit-spec =
     mul-in-range
     shared-slice-copy-out-in-range
     in-range-requires
-    returns
     add-i
     loop-less
     loop-again
-    returns-2)
+    returns)

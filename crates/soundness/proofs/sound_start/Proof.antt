@@ -1,6 +1,6 @@
 -- `soundness::sound_start` meets its contract: its parts are those of the test of the rules.
 use borrow.Author.Needs.{needs}
-use Prim.Native.Nat.{ℕ, _*_, _<_}
+use Prim.Native.Nat.{_*_}
 use native.Mathlib.Omega.{arith}
 use mathlib.Core.Bool.{true}
 use mathlib.Core.Path.{_≡_}
@@ -8,15 +8,12 @@ use Rattle.rules.proofs.Numbers.Decide.{when-true}
 use Rattle.rules.proofs.Soundness.SoundTest.{tables-agree-is}
 use Rattle.rules.specs.Below.{all}
 use Rattle.rules.specs.Tables.{Mesh, TablesAgree, topologyOf, meshOf, tablesAgree}
-use Rattle.soundness.specs.Parts.{countsFit, triangleFits}
+use Rattle.soundness.specs.Parts.{countsFit}
 use Rattle.soundness.proofs.Answers.{refused, passed}
-use Rattle.soundness.proofs.sound_start.Proof.Parts.{TriangleFits, triangles-are, CountsFit, counts-are}
-use Rattle.soundness.proofs.sound_start.Proof.Parts.{coordinateFits}
-use Rattle.soundness.proofs.sound_start.Proof.Parts.{room, corners-in-use, sides-glued, parts}
+use Rattle.soundness.proofs.sound_start.Proof.Parts.{CountsFit, counts-are, coordinateFits, room, parts}
 use Rattle.soundness.proofs.sound_start.Statement.{statement}
 use Rattle.soundness.proofs.sound_start.Tie as tie
 mod Parts
-mod Pairs
 
 abbrev mesh : tie.Start → Mesh
 mesh c =
@@ -36,9 +33,6 @@ from-2 c = from-1 (c .before .before)
 abbrev from-3 : tie.Else3 → tie.Start
 from-3 c = from-2 (c .before .before)
 
-abbrev from-4 : tie.Else4 → tie.Start
-from-4 c = from-3 (c .before .before)
-
 -- What each test tells that is passed.
 agreed : (c : tie.Else1) → tablesAgree (mesh (from-1 c)) ≡ true
 agreed c =
@@ -50,26 +44,16 @@ counted c =
     let args = from-2 c .args in
     passed (c .before .counts-fit .ensures (args .corners .now) (args .links .now)) (c .if2 .left)
 
-fitted : (c : tie.Else3) →
-    let t = mesh (from-3 c) .topology in
-    all (t .triangles) (triangleFits t) ≡ true
-fitted c = passed (c .before .triangles-fit .ensures) (c .if3 .left)
-
-placed : (c : tie.Else4) →
-    let m = mesh (from-4 c) in
+placed : (c : tie.Else3) →
+    let m = mesh (from-3 c) in
     all (3 * m .topology .vertices) (coordinateFits m) ≡ true
-placed c = passed (c .before .coordinates-fit .ensures) (c .if4 .left)
+placed c = passed (c .before .coordinates-fit .ensures) (c .if3 .left)
 
 agree : (c : tie.Else1) → TablesAgree (mesh (from-1 c))
 agree c = when-true (tables-agree-is (mesh (from-1 c))) (agreed c)
 
 counts : (c : tie.Else2) → CountsFit (mesh (from-2 c))
 counts c = when-true (counts-are (mesh (from-2 c))) (counted c)
-
-triangles : (c : tie.Else3) →
-    let t = mesh (from-3 c) .topology in
-    (x : ℕ) → x < t .triangles → TriangleFits t x
-triangles c = when-true (triangles-are (mesh (from-3 c) .topology)) (fitted c)
 
 tables-agree-requires : tie.Need-tables-agree-requires
 tables-agree-requires c κs = search needs
@@ -91,44 +75,30 @@ returns-2 c =
     let none = refused (c .before .counts-fit .ensures (args .corners .now) (args .links .now)) (c .if2 .taken) in
     rw (parts _, agreed else1, none)
 
-triangles-fit-requires : tie.Need-triangles-fit-requires
-triangles-fit-requires c κs = room (mesh (from-2 c)) (agree (c .before .before)) (counts c)
-
-returns-3 : tie.Need-returns-3
-returns-3 c =
-    let else2 = c .before .before in
-    let else1 = else2 .before .before in
-    let none = refused (c .before .triangles-fit .ensures) (c .if3 .taken) in
-    rw (parts _, agreed else1, counted else2, none)
-
 mul-coordinates-fit : tie.Need-mul-coordinates-fit
 mul-coordinates-fit c = search needs
 
 coordinates-fit-requires : tie.Need-coordinates-fit-requires
-coordinates-fit-requires c κs = omega (arith, counts (c .before .before) .vertexRoom)
+coordinates-fit-requires c κs = omega (arith, counts c .vertexRoom)
+
+returns-3 : tie.Need-returns-3
+returns-3 c =
+    let else2 = c .before .before in
+    let none = refused (c .before .coordinates-fit .ensures) (c .if3 .taken) in
+    rw (parts _, agreed (else2 .before .before), counted else2, none)
+
+start-requires : tie.Need-start-requires
+start-requires c κs =
+    let else2 = c .before .before in
+    let A = agree (else2 .before .before) in
+    let C = counts else2 in
+    (room (mesh (from-3 c)) A C, omega (arith, A .fewVertices, C .vertexRoom))
 
 returns-4 : tie.Need-returns-4
 returns-4 c =
-    let else3 = c .before .before in
+    let else3 = c .before in
     let else2 = else3 .before .before in
-    let else1 = else2 .before .before in
-    let none = refused (c .before .coordinates-fit .ensures) (c .if4 .taken) in
-    rw (parts _, agreed else1, counted else2, fitted else3, none)
-
-fan-start-requires : tie.Need-fan-start-requires
-fan-start-requires c κs =
-    let else3 = c .before .before in
-    let else2 = else3 .before .before in
-    corners-in-use (mesh (from-4 c)) (agree (else2 .before .before)) (counts else2) (triangles else3)
-
-returns-5 : tie.Need-returns-5
-returns-5 c =
-    let else4 = c .before in
-    let else3 = else4 .before .before in
-    let else2 = else3 .before .before in
-    let else1 = else2 .before .before in
-    rw (parts _, agreed else1, counted else2, fitted else3, placed else4)
-    (c .fan-start .ensures _ (sides-glued (mesh (from-4 else4)) (agree else1) (counts else2) (triangles else3)))
+    rw (parts _, agreed (else2 .before .before), counted else2, placed else3) (c .start .ensures)
 
 pub sound-start-spec : {M : Type 1} → statement M
 sound-start-spec =
@@ -138,10 +108,8 @@ sound-start-spec =
     returns
     counts-fit-requires
     returns-2
-    triangles-fit-requires
-    returns-3
     mul-coordinates-fit
     coordinates-fit-requires
-    returns-4
-    fan-start-requires
-    returns-5)
+    returns-3
+    start-requires
+    returns-4)

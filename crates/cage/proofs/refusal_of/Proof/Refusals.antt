@@ -3,7 +3,7 @@ use mathlib.Core.Path.{_≡_, refl, sym, ap, _∙_}
 use mathlib.Core.Logic.{inl, inr}
 use mathlib.Core.Bool.{Bool, true, false}
 use mathlib.Core.List.{List, []}
-use Prim.Native.Nat.{ℕ, _+_, _*_, _≤_, _<_}
+use Prim.Native.Nat.{ℕ, _+_, _*_, _-_, _≤_, _<_}
 use native.Mathlib.Omega.{arith}
 use lib.ListN.{length, getD}
 use Rattle.rules.proofs.Loads.Alike.{SameCorners, SameSides, all-same, corners-fit-same, sides-differ-same}
@@ -24,10 +24,10 @@ use Rattle.rules.specs.Conditions.{SizesFit, SidesDiffer}
 use Rattle.rules.specs.Numbers.{numberAt, signed, inRange, KnownRule, knownRule}
 use Rattle.rules.specs.Sound.{hasOneFan}
 use Rattle.rules.specs.Tables.{Mesh, TablesAgree, tablesAgree, topologyOf}
-use Rattle.soundness.specs.Walks.{CornersInUse, TellsFans}
+use Rattle.soundness.specs.Walks.{AllBegun, TellsFans}
 use Rattle.cage.specs.Answers.{Refuses}
 use Rattle.cage.specs.Decoded.{decoded, Readable, Sized, Holds}
-use Rattle.cage.specs.Pairing.{Matched}
+use Rattle.cage.specs.Pairing.{Threads, Matched}
 
 -- ---- matching links
 
@@ -58,6 +58,22 @@ module _ (v f : ℕ) (origins partners : List ℕ) (M : Matched (decoded v f ori
     distinct = when-true (corners-fit-is (decoded v f origins)) k .distinct;
     joined = joined;
   }
+
+-- The threads' heads are sides to walk from, before the boundary is looked at.
+pub threads-begin : {v f : ℕ} {origins partners heads nexts : List ℕ}
+    → Threads (decoded v f origins) (3 * f) heads nexts → AllBegun v origins partners (3 * f) 0 heads
+threads-begin {heads} T = record {
+  size = T .headRoom;
+  each = λ x l.
+      let L = T .head x l in
+      let p : ℕ = getD heads x 0 in
+      record {
+        none = λ e h i. L .none h (omega arith) i;
+        inUse = L .most;
+        out = λ k. L .from (p - 1) (omega arith);
+        best = λ k. inr (λ h i. absurd (omega arith));
+      };
+}
 
 -- ---- the tests
 
@@ -141,15 +157,6 @@ module _ {bytes : List ℕ} {v f : ℕ} {origins : List ℕ} (F : Fits bytes v f
       load-by-tests rule bytes m (agrees A) (known K) (sizes S) corners coordinates (differs (is-false n)) refl
 
   module _ {partners : List ℕ} (M : Matched (decoded v f origins) partners) where
-    pub in-use : CornersInUse v f origins partners
-    in-use = record {
-      fewVertices = F .read .sized .fewVertices;
-      fewTriangles = F .read .sized .fewTriangles;
-      cornerRoom = F .read .room;
-      linkRoom = M .room;
-      corner = readable .corner;
-    }
-
     pub holds : Holds (cageOf bytes) origins partners
     holds =
         let e = F .read .sized .triangles in

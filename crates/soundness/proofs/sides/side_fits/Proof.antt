@@ -1,64 +1,124 @@
 -- `soundness::sides::side_fits` meets its contract.
 use borrow.Author.Needs.{needs}
 use borrow.Author.Tests.{lt-ltb, le-ltb, eq-eqb, ne-eqb}
-use Rattle.soundness.specs.Parts.{sideFits}
+use Prim.Native.Nat.{ℕ, _*_, _<_}
+use native.Mathlib.Omega.{arith}
+use mathlib.Core.Bool.{Bool}
+use mathlib.Core.Logic.{_≢_}
+use mathlib.Core.Path.{_≡_, refl}
+use Rattle.rules.specs.Tables.{Topology, sides, boundary, link}
+use Rattle.soundness.specs.Parts.{partnerFits, linkFits}
+use Rattle.soundness.proofs.Answers.{never}
+use Rattle.soundness.proofs.Starts.{kept-boundary, side-seen}
 use Rattle.soundness.proofs.sides.side_fits.Statement.{statement}
 use Rattle.soundness.proofs.sides.side_fits.Tie as tie
 
-mul-h : tie.Need-mul-h
-mul-h c = search needs
+not-boundary : (k n : ℕ) → k < n → n < boundary → k ≢ boundary
+not-boundary k n l f e = omega arith
 
-add-h : tie.Need-add-h
-add-h c = search needs
+-- Where the link is a side in use, its partner decides.
+linked-by : (m : Topology) (h : ℕ) {r : Bool} → link m h < sides m → sides m < boundary
+    → r ≡ partnerFits m h (link m h) → r ≡ linkFits m h
+unfolding linkFits
+linked-by m h l f e = rw (ne-eqb _ _ (not-boundary _ _ l f), lt-ltb _ _ l, linkFits) e
 
-mul-from : tie.Need-mul-from
-mul-from c = search needs
+mul-across : tie.Need-mul-across
+mul-across c = search needs
 
-shared-slice-read-from : tie.Need-shared-slice-read-from
-shared-slice-read-from c = search needs
+shared-slice-read-across : tie.Need-shared-slice-read-across
+shared-slice-read-across c = search needs
+
+cast-k : tie.Need-cast-k
+cast-k c = omega (arith, c .shared-slice-known4 .given (c .before .before .before .before .before .args .h))
+
+mul-if1 : tie.Need-mul-if1
+mul-if1 c = search needs
 
 returns : tie.Need-returns
-unfolding sideFits
-returns c = rw (le-ltb _ _ (c .if1 .taken), sideFits)
+unfolding linkFits
+returns c = (rw (ne-eqb _ _ (c .if2 .taken), le-ltb _ _ (c .before .if1 .taken), linkFits), never)
 
-next-in-requires : tie.Need-next-in-requires
-next-in-requires c κs = search needs
+cast-starts : tie.Need-cast-starts
+cast-starts c = search needs
 
-mul-to : tie.Need-mul-to
-mul-to c = search needs
+add-starts : tie.Need-add-starts
+add-starts c = search needs
 
-shared-slice-read-to : tie.Need-shared-slice-read-to
-shared-slice-read-to c = search needs
+mul-starts : tie.Need-mul-starts
+mul-starts c = search needs
+
+slice-write-starts : tie.Need-slice-write-starts
+slice-write-starts c = search needs
+
+same-length : tie.Need-same-length
+same-length c = search needs
 
 returns-2 : tie.Need-returns-2
-unfolding sideFits
+unfolding linkFits
 returns-2 c =
-    let e = c .before .before .next-in .ensures in
-    rw (lt-ltb _ _ (c .before .before .before .if1 .left), eq-eqb _ _ (rw e at (c .if2 .taken)), sideFits)
+    let pre = c .before .before .before .before .before .before .before .pre in (
+      rw (eq-eqb _ _ (c .if2 .left), linkFits),
+      λ _. side-seen _ _ _ _ _ _ _ (pre .1 .1) (pre .1 .0 .0 .origin) (pre .1 .0 .1)
+          (λ _. kept-boundary _ _ _ _ 0 refl (c .if2 .left)),
+    )
 
-link-fits-requires : tie.Need-link-fits-requires
-link-fits-requires c κs = search needs
+mul-first-kept : tie.Need-mul-first-kept
+mul-first-kept c = search needs
+
+slice-read-first-kept : tie.Need-slice-read-first-kept
+slice-read-first-kept c = search needs
+
+cast-first-kept : tie.Need-cast-first-kept
+cast-first-kept c = search needs
+
+first-kept-requires : tie.Need-first-kept-requires
+first-kept-requires c κs = search needs
+
+mul-starts-2 : tie.Need-mul-starts-2
+mul-starts-2 c = search needs
+
+slice-write-starts-2 : tie.Need-slice-write-starts-2
+slice-write-starts-2 c = search needs
+
+partner-fits-requires : tie.Need-partner-fits-requires
+partner-fits-requires c κs = search needs
+
+same-length-2 : tie.Need-same-length-2
+same-length-2 c = search needs
 
 returns-3 : tie.Need-returns-3
-unfolding sideFits
 returns-3 c =
-    let at-if2 = c .before in
-    let at-if1 = at-if2 .before .before .before in
-    let e = at-if2 .before .before .next-in .ensures in
-    rw (lt-ltb _ _ (at-if1 .if1 .left), ne-eqb _ _ (rw e at (at-if2 .if2 .left)), sideFits) (c .link-fits .ensures _)
+    let at-if1 = c .before .before .before in
+    let start = at-if1 .before .before .before .before .before .before in
+    let pre = start .pre in
+    let low = at-if1 .if1 .left in
+    let few : 3 * start .args .triangles < boundary = omega (arith, pre .0 .0 .fewSlots, pre .0 .0 .triangleRoom) in (
+      linked-by _ _ low few (c .partner-fits .ensures _ _ _ (pre .1 .0 .0)),
+      λ _. side-seen _ _ _ _ _ _ _ (pre .1 .1) (pre .1 .0 .0 .origin) (pre .1 .0 .1)
+          (c .before .first-kept .ensures _ _ (not-boundary _ _ low few)),
+    )
 
 pub side-fits-spec : {M : Type 1} → statement M
 side-fits-spec =
     tie.close
     (tie.spec
-    mul-h
-    add-h
-    mul-from
-    shared-slice-read-from
+    mul-across
+    shared-slice-read-across
+    cast-k
+    mul-if1
     returns
-    next-in-requires
-    mul-to
-    shared-slice-read-to
+    cast-starts
+    add-starts
+    mul-starts
+    slice-write-starts
+    same-length
     returns-2
-    link-fits-requires
+    mul-first-kept
+    slice-read-first-kept
+    cast-first-kept
+    first-kept-requires
+    mul-starts-2
+    slice-write-starts-2
+    partner-fits-requires
+    same-length-2
     returns-3)
