@@ -108,7 +108,7 @@ typedef struct {
 /* Loads a cage: its numbers of vertices and triangles, 3 signed coordinates a vertex, 3 corners a triangle,
    each number 4 bytes, low byte first. What is loaded depends neither on the counts nor on what the tables held. The
    rule is the mesh's until the next load that is carried out.
-   Refuses with 1, 16, 2, 3, 4, 5, 6, in this order. Writes the first slots of all tables. Needs 2.8 MB of stack. */
+   Refuses with 1, 16, 2, 3, 4, 5, 6, in this order. Writes the first slots of all tables. Needs 2.7 MB of stack. */
 rawplinth_worked rawplinth_load(
     int32_t *positions, size_t positions_length,
     uint32_t *corners, size_t corners_length,

@@ -12,7 +12,7 @@ mod tables;
 
 use std::thread;
 
-/// A call of the library needs at most 2.8 MB of stack.
+/// A call of the library needs at most 2.7 MB of stack.
 const STACK: usize = 16 << 20;
 
 fn main() {
