@@ -13,7 +13,7 @@ use Rattle.rules.proofs.Loads.Load.{links-are}
 use Rattle.rules.proofs.Calls.Outcomes.{load-makes, refine-makes, chain-falls, refine-is-split}
 use Rattle.rules.proofs.Calls.Outcomes.{whole-step-makes, limit-makes, ring-reads, position-reads}
 use Rattle.rules.proofs.Chains.Refine.{chain-counts, chain-takes}
-use Rattle.rules.proofs.Mirrors.MirrorCalls.{call-mirror}
+use Rattle.rules.proofs.Mirrors.MirrorCalls.{call-mirror, history-mirror}
 use Rattle.rules.proofs.Rings.RingTheory.{ring-makes}
 use Rattle.rules.proofs.Numbers.Rounding.{nearest-third, nearest-third-only, rounded-nearest, nearest-only}
 use Rattle.rules.proofs.Soundness.SoundTest.{sound-is}
@@ -25,7 +25,7 @@ use Rattle.rules.specs.Conditions.{SidesDiffer, EndsAtBoundary, OddInCha
 use Rattle.rules.specs.Conditions.{refineConditions, wholeStepConditions, limitConditions, ringConditions}
 use Rattle.rules.specs.Conditions.{positionConditions, Takes}
 use Rattle.rules.specs.History.{Call, outcome, lent, after, lastLoad, nothing, cage, EveryHistory}
-use Rattle.rules.specs.Mirror.{mirror, mirrorOutcome, Mirrors, Rounds}
+use Rattle.rules.specs.Mirror.{mirror, mirrorOutcome, Mirrors, Rounds, MirrorsEach}
 use Rattle.rules.specs.Numbers.{nearestThird, rounded}
 use Rattle.rules.specs.Promises.{Nearest, Matches, Loaded, ChainFalls, RefineMakes, StepMakes, LimitMakes}
 use Rattle.rules.specs.Promises.{RingMakes}
@@ -201,3 +201,8 @@ sound-after = history-sound
 pub mirrored : (k : ℕ) {c c′ : Call} (m : Mesh) → Mirrors k c c′ → (Rounds c → m .rule ≡ 2)
     → outcome c′ (mirror k m) ≡ mirrorOutcome k (outcome c m)
 mirrored k m = call-mirror k m
+
+-- So lists of calls that mirror each other leave mirror images.
+pub mirrored-after : (k : ℕ) {cs cs′ : List Call} (m : Mesh) → MirrorsEach k cs cs′ m
+    → after cs′ (mirror k m) ≡ mirror k (after cs m)
+mirrored-after k m = history-mirror k m

@@ -1,7 +1,7 @@
 -- Mirror images: coordinate k of everything negated. (Request c)
 use Prim.Native.Nat.{ℕ, _*_, _%_, _<_}
 use mathlib.Core.Bool.{true, false}
-use mathlib.Core.List.{List}
+use mathlib.Core.List.{List, [], _∷_}
 use mathlib.Core.Path.{_≡_}
 use lib.Dec.{eqb}
 use lib.IntN.{ℤ, pos, negℤ}
@@ -10,6 +10,7 @@ use Rattle.rules.specs.Below.{fill}
 use Rattle.rules.specs.Cage.{cageOf}
 use Rattle.rules.specs.Calls.{Answer, Room, Outcome, outcomeOf}
 use Rattle.rules.specs.History.{Call, changes, asks, loads, refines, steps, ringOf, positionOf, limitsOf}
+use Rattle.rules.specs.History.{outcome}
 use Rattle.rules.specs.Tables.{Mesh, withPositions}
 
 -- Coordinate j of a point whose coordinate k is negated.
@@ -69,3 +70,10 @@ pub data Mirrors (k : ℕ) : Call → Call → Type 0 where
 pub data Rounds : Call → Type 0 where
   step : Rounds (changes steps)
   limit : {table : List ℤ} → Rounds (asks (limitsOf table))
+
+-- Two lists of calls, each call of the second the mirror image of the first's, where those that round, on what the ones
+-- before left of m, do so by rule 2.
+pub data MirrorsEach (k : ℕ) : List Call → List Call → Mesh → Type 0 where
+  none : {m : Mesh} → MirrorsEach k [] [] m
+  next : {c c′ : Call} {cs cs′ : List Call} {m : Mesh} → Mirrors k c c′ → (Rounds c → m .rule ≡ 2)
+      → MirrorsEach k cs cs′ (outcome c m .mesh) → MirrorsEach k (c ∷ cs) (c′ ∷ cs′) m

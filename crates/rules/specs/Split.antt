@@ -20,8 +20,8 @@ use Rattle.rules.specs.Tables.{isBase, coordinate, putThree, putTriangle
 --        /       \                 /  .P.  \
 --       /         \               / .  t  . \
 --      A-----------B             A-----------B
-unfoldable pub split : ℕ → Topology → Topology
-split t m =
+unfoldable pub faceCut : ℕ → Topology → Topology
+faceCut t m =
     let f = m .triangles in
     let e = f + 1 in
     let p = m .vertices in
@@ -133,10 +133,10 @@ unfoldable pub secondThird : Mesh → ℕ → ℕ → ℤ
 secondThird = thirdOf 0 1 1
 
 -- The split with the new vertex placed at the centre.
-unfoldable pub splitPlaced : ℕ → Mesh → Mesh
-splitPlaced t m =
+unfoldable pub facePlaced : ℕ → Mesh → Mesh
+facePlaced t m =
     let v = m .topology .vertices in
-    meshOf (split t (m .topology)) (putThree v (centre m t 0, centre m t 1, centre m t 2) (m .positions)) (m .rule)
+    meshOf (faceCut t (m .topology)) (putThree v (centre m t 0, centre m t 1, centre m t 2) (m .positions)) (m .rule)
 
 -- The cut of the rim split with A' and B' placed at the thirds of the base.
 unfoldable pub rimPlaced : ℕ → Mesh → Mesh
@@ -163,7 +163,7 @@ settleAll (s ∷ rest) w = settleAll rest (settle s w)
 unfoldable pub faceSplit : ℕ → Work → Work
 faceSplit t w =
     let f = w .mesh .topology .triangles in
-    settleAll (t ∷ f ∷ (f + 1) ∷ []) (withSplit (splitPlaced t (w .mesh)) w)
+    settleAll (t ∷ f ∷ (f + 1) ∷ []) (withSplit (facePlaced t (w .mesh)) w)
 
 -- The rim split of an odd t whose base is on the boundary: the cut, and then a flip wherever the base of t or F + 1, in
 -- this order, meets a base. Slot F is even and has none. After the face split of a cage of one triangle, three rim

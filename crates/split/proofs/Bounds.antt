@@ -12,8 +12,8 @@ use Rattle.rules.proofs.Splits.Bases.{base-is}
 use Rattle.rules.proofs.Numbers.Decide.{when-true}
 use Rattle.rules.proofs.Chains.RefineLoop.{settle-counts}
 use Rattle.rules.proofs.Chains.Runs.{split-even, split-odd}
-use Rattle.rules.specs.Split.{Work, withSplit, split, rimCut, flip, withFlip, splitPlaced, rimPlaced, settle, settleAll}
-use Rattle.rules.specs.Split.{faceSplit, rimSplit, splitAt}
+use Rattle.rules.specs.Split.{Work, withSplit, faceCut, rimCut, flip, withFlip, facePlaced, rimPlaced, settle}
+use Rattle.rules.specs.Split.{settleAll, faceSplit, rimSplit, splitAt}
 use Rattle.rules.specs.Tables.{Topology, withTopology, link, generation, isBase}
 use Rattle.split.specs.Made.{Hands}
 
@@ -77,10 +77,10 @@ cut-hands t g h w slots cut written flips i j settled =
 
 module _ (t : ℕ) (w a : Work) (young : generation (w .mesh .topology) t < 20) where
   -- A face split leaves its three triangles, one above t.
-  pub face-hands : a ≡ withSplit (splitPlaced t (w .mesh)) w → generation (w .mesh .topology) t % 2 ≡ 0
+  pub face-hands : a ≡ withSplit (facePlaced t (w .mesh)) w → generation (w .mesh .topology) t % 2 ≡ 0
       → let f = w .mesh .topology .triangles in
       Hands t w (t ∷ f ∷ (f + 1) ∷ []) a
-  unfolding faceSplit splitPlaced split
+  unfolding faceSplit facePlaced faceCut
   face-hands ea even =
       let g : ℕ = suc (generation (w .mesh .topology) t) in
       rw ea (cut-hands t g g w _ _ refl refl (omega arith) (omega arith) (sym (split-even t w even)))

@@ -8,7 +8,7 @@ use lib.IntN.{ℤ}
 use lib.ListN.{getD}
 use Rattle.points.specs.declared.Point.{Point}
 use Rattle.points.specs.Axes.{eachAxis, thirds}
-use Rattle.rules.specs.Split.{Work, withSplit, thirdOf, centre, firstThird, secondThird, split, splitPlaced, rimCut}
+use Rattle.rules.specs.Split.{Work, withSplit, thirdOf, centre, firstThird, secondThird, faceCut, facePlaced, rimCut}
 use Rattle.rules.specs.Split.{rimPlaced, flip, settle}
 use Rattle.rules.specs.Tables.{Topology, Mesh, meshOf, withTopology, origin, link, isBase, coordinate, withCounts}
 use Rattle.rules.specs.Tables.{relink}
@@ -58,10 +58,10 @@ pub face-cut-steps : (t : ℕ) (w : Work) (e : Topology) (p : Point) (positions 
       splits = w .splits + 1;
       flips = w .flips;
     })
-    (withSplit (splitPlaced t (w .mesh)) w)
-unfolding splitPlaced split centre
+    (withSplit (facePlaced t (w .mesh)) w)
+unfolding facePlaced faceCut centre
 face-cut-steps t w e p positions x r ep eq ex er ee =
-    rw (ee, er, ex, eq, ep, splitPlaced, split, centre, add-one (w .splits), add-one (w .mesh .topology .vertices))
+    rw (ee, er, ex, eq, ep, facePlaced, faceCut, centre, add-one (w .splits), add-one (w .mesh .topology .vertices))
 
 pub rim-cut-steps : (t : ℕ) (w : Work) (e : Topology) (p q : Point) (one two : List ℤ) (x : Triangle)
     (r : List Triangle)

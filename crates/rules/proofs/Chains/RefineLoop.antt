@@ -20,7 +20,7 @@ use Rattle.rules.proofs.Chains.Runs.{split-splitting}
 use Rattle.rules.proofs.Splits.Settled.{nowhere}
 use Rattle.rules.specs.Calls.{splitsOf, rimSplitsOf}
 use Rattle.rules.specs.Conditions.{RoomFor}
-use Rattle.rules.specs.Split.{Work, atFirst, flip, withFlip, settle, splitPlaced, withSplit, faceSplit, chainEnd}
+use Rattle.rules.specs.Split.{Work, atFirst, flip, withFlip, settle, facePlaced, withSplit, faceSplit, chainEnd}
 use Rattle.rules.specs.Split.{chainOdd, rimPlaced, rimSplit, splitAt, raise, refine}
 use Rattle.rules.specs.Tables.{Topology, Mesh, TablesAgree, withTopology, link, generation, isBase, vertexSlots}
 
@@ -198,7 +198,7 @@ face-split-counts : (t : ℕ) (w : Work) → faceSplit t w .flips ≤ w .flips +
 unfolding faceSplit
 face-split-counts t w =
     let f : ℕ = reached w .triangles in
-    let a : Work = withSplit (splitPlaced t (w .mesh)) w in
+    let a : Work = withSplit (facePlaced t (w .mesh)) w in
     let b : Work = settle t a in
     omega (arith, settle-counts t a, settle-counts f b, settle-counts (f + 1) (settle f b))
 

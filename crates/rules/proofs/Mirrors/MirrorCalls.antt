@@ -2,7 +2,7 @@
 use Prim.Native.Nat.{ℕ, zero, suc, _*_, _%_}
 use native.Mathlib.Omega.{arith}
 use mathlib.Core.List.{List, []}
-use mathlib.Core.Path.{_≡_, refl, ap}
+use mathlib.Core.Path.{_≡_, refl, ap, _∙_}
 use lib.IntN.{ℤ}
 use Rattle.rules.proofs.Loads.Alike.{all-same, SameCorners, corners-fit-same, sides-differ-same, partner-same}
 use Rattle.rules.proofs.Mirrors.MirrorTables.{length-mirror, getD-mirror, fill-mirror, coordinate-mirror}
@@ -14,9 +14,10 @@ use Rattle.rules.specs.Cage.{cageOf, partner, loaded, sizesFit, coordina
 use Rattle.rules.specs.Calls.{Room, Outcome, ringRoom, zeroPoint, worked, unless, loadRefusal, refineRefusal}
 use Rattle.rules.specs.Calls.{wholeStepRefusal, limitRefusal, ringRefusal, positionRefusal, loadCall, refineCall}
 use Rattle.rules.specs.Calls.{wholeStepCall, limitCall, ringCall, positionCall}
-use Rattle.rules.specs.History.{Call, outcome}
+use Rattle.rules.specs.History.{Call, outcome, after}
 use Rattle.rules.specs.Mirror.{mirrorPoint, mirrorTable, mirror, mirrorRoom, mirrorOutcome, MirrorCage}
-use Rattle.rules.specs.Mirror.{Mirrors, Rounds, load, refine, step, ring, position, limit}
+use Rattle.rules.specs.Mirror.{Mirrors, Rounds, load, refine, step, ring, position, limit, MirrorsEach}
+use Rattle.rules.specs.Mirror.{none, next}
 use Rattle.rules.specs.Sound.{isSound}
 use Rattle.rules.specs.Split.{Work, atFirst}
 use Rattle.rules.specs.Tables.{Mesh, withRule, tablesAgree}
@@ -133,3 +134,10 @@ module _ (k : ℕ) (m : Mesh) where
       (rw (at 0 (omega arith), at 1 (omega arith), at 2 (omega arith), ring-room []))
   call-mirror (limit {table}) two =
       unless-mirror _ _ (limit-refused table) refl (rw (limits-mirror k m (two limit) table, no-point))
+
+pub history-mirror : (k : ℕ) {cs cs′ : List Call} (m : Mesh) → MirrorsEach k cs cs′ m
+    → after cs′ (mirror k m) ≡ mirror k (after cs m)
+unfolding after
+history-mirror k m none = refl
+history-mirror k m (next {c} {cs′ = cs′} M two rest) =
+    ap (λ (o : Outcome). after cs′ (o .mesh)) (call-mirror k m M two) ∙ history-mirror k (outcome c m .mesh) rest

@@ -10,7 +10,7 @@ use Rattle.rules.proofs.Mirrors.MirrorTables.{put-mirror, fill-mirror, 
 use Rattle.rules.proofs.Mirrors.Opposites.{mirror-zero, mirror-sum, mirror-third, mirror-moved, mirror-limit}
 use Rattle.rules.specs.Mirror.{mirrorAt, mirrorTable, mirror}
 use Rattle.rules.specs.Split.{Work, atFirst, withSplit, withFlip, withMesh, flip, thirdOf, centre, firstThird}
-use Rattle.rules.specs.Split.{secondThird, splitPlaced, rimPlaced, settle, settleAll, faceSplit, rimSplit}
+use Rattle.rules.specs.Split.{secondThird, facePlaced, rimPlaced, settle, settleAll, faceSplit, rimSplit}
 use Rattle.rules.specs.Split.{splitAt, chainEnd, raise, refine}
 use Rattle.rules.specs.Step.{sumOver, movedCoordinate, moveVertices, refineFirst, wholeStep, limitCoordinate}
 use Rattle.rules.specs.Step.{limitPositions}
@@ -25,8 +25,8 @@ module _ (k : ℕ) where
       → thirdOf h i j (mirror k m) t c ≡ mirrorAt k c (thirdOf h i j m t c)
   third-mirror h i j m t c b = simp (coordinate-mirror k m, mirror-sum, mirror-third)
 
-  split-mirror : (t : ℕ) (m : Mesh) → splitPlaced t (mirror k m) ≡ mirror k (splitPlaced t m)
-  unfolding splitPlaced centre
+  split-mirror : (t : ℕ) (m : Mesh) → facePlaced t (mirror k m) ≡ mirror k (facePlaced t m)
+  unfolding facePlaced centre
   split-mirror t m = rw (put-mirror k (m .positions) _ (centre m t) (centre (mirror k m) t) (third-mirror 0 1 2 m t))
 
   rim-mirror : (t : ℕ) (m : Mesh) → rimPlaced t (mirror k m) ≡ mirror k (rimPlaced t m)
@@ -60,7 +60,7 @@ module _ (k : ℕ) where
       let f = w .mesh .topology .triangles in
       either (odd (generation (w .mesh .topology) t)) (rimSplit t w) (faceSplit t w)
       (rw rim-mirror (settle-all-mirror (t ∷ (f + 1) ∷ []) (withSplit (rimPlaced t (w .mesh)) w)))
-      (rw split-mirror (settle-all-mirror (t ∷ f ∷ (f + 1) ∷ []) (withSplit (splitPlaced t (w .mesh)) w)))
+      (rw split-mirror (settle-all-mirror (t ∷ f ∷ (f + 1) ∷ []) (withSplit (facePlaced t (w .mesh)) w)))
 
   raise-mirror : (n g t : ℕ) (w : Work) → raise n g t (mirrorWork k w) ≡ mirrorWork k (raise n g t w)
   unfolding raise

@@ -9,7 +9,7 @@ use lib.Seq.{getD-set-same, getD-set-other, lt-length-set, drop-set-lt}
 use Rattle.rules.proofs.Links.Manifold.{Manifold, Joined}
 use Rattle.rules.proofs.Links.Past.{Past, drop-put, drop-told, joined-below}
 use Rattle.rules.proofs.Links.Sides.{renameTwo, Mutual, relinked, length-put, put-else, Row, put-row, row-else}
-use Rattle.rules.specs.Split.{split, rimCut}
+use Rattle.rules.specs.Split.{faceCut, rimCut}
 use Rattle.rules.specs.Tables.{Topology, sides, origin, boundary, link, generation, putThree, putTriangle, relink}
 use Rattle.rules.specs.Tables.{withCounts}
 
@@ -188,8 +188,8 @@ faceParts t m =
       vertices = suc p;
     }
 
-pub split-is : (t : ℕ) (m : Topology) → split t m ≡ parted t (faceParts t m) m
-unfolding split
+pub split-is : (t : ℕ) (m : Topology) → faceCut t m ≡ parted t (faceParts t m) m
+unfolding faceCut
 split-is t m = refl
 
 -- ---- a rim split

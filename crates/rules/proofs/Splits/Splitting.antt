@@ -21,7 +21,7 @@ use Rattle.rules.proofs.Splits.RimKeeps.{rim-manifold}
 use Rattle.rules.proofs.Splits.SplitKeeps.{split-manifold}
 use Rattle.rules.specs.Numbers.{InRange}
 use Rattle.rules.specs.Promises.{odds}
-use Rattle.rules.specs.Split.{Work, split, flip, withSplit, withFlip, centre, splitPlaced, settle, settleAll}
+use Rattle.rules.specs.Split.{Work, faceCut, flip, withSplit, withFlip, centre, facePlaced, settle, settleAll}
 use Rattle.rules.specs.Split.{faceSplit, thirdOf, firstThird, secondThird, rimCut, rimPlaced, rimSplit}
 use Rattle.rules.specs.Tables.{Topology, Mesh, meshOf, withTopology, origin, boundary, link, generation, isBase}
 use Rattle.rules.specs.Tables.{coordinate, putThree, withCounts}
@@ -175,7 +175,7 @@ pub face-positions : (t : ℕ) (w : Work)
     → faceSplit t w .mesh .positions
     ≡ putThree (reached w .vertices) (centre (w .mesh) t 0, centre (w .mesh) t 1, centre (w .mesh) t 2)
     (w .mesh .positions)
-unfolding faceSplit splitPlaced
+unfolding faceSplit facePlaced
 face-positions t w = simp settle-positions
 
 -- ---- any split, with what is counted and placed
@@ -222,19 +222,19 @@ third-fits h i j m t F b x y z a = (all 0 (omega arith), all 1 (omega arith), al
 module _ (v : ℕ) (w : Work) (F : Manifold (reached w)) (b : v < reached w .triangles) (R : Room 1 (reached w)) where
   pub face-splitting : generation (reached w) v % 2 ≡ 0
       → Splitting v (suc (generation (reached w) v)) 1 0 w (faceSplit v w)
-  unfolding faceSplit splitPlaced centre
+  unfolding faceSplit facePlaced centre
   face-splitting even =
       let rc = R .corners in
       let rl = R .links in
       let rg = R .generations in
       let m : Topology = reached w in
-      let S : Parted v (faceParts v m) m (split v m) =
+      let S : Parted v (faceParts v m) m (faceCut v m) =
       rw (split-is v m) (parted-is v (faceParts v m) m F b (omega arith) (omega arith) (omega arith)) in
-      let N : Manifold (split v m) =
-      split-manifold v m (split v m) F b even S (omega arith) (omega arith) (omega arith) in
-      splitting-of v _ 1 0 _ w (splitPlaced v (w .mesh)) F b (face-cut v m (split v m) F b even S N)
-      (split-odds v m (split v m) b even S)
-      (places-new (w .mesh) (splitPlaced v (w .mesh)) _ (S .vertices) refl refl
+      let N : Manifold (faceCut v m) =
+      split-manifold v m (faceCut v m) F b even S (omega arith) (omega arith) (omega arith) in
+      splitting-of v _ 1 0 _ w (facePlaced v (w .mesh)) F b (face-cut v m (faceCut v m) F b even S N)
+      (split-odds v m (faceCut v m) b even S)
+      (places-new (w .mesh) (facePlaced v (w .mesh)) _ (S .vertices) refl refl
       (third-fits 0 1 2 (w .mesh) v F b (omega arith) (omega arith) (omega arith)))
 
   pub rim-splitting : generation (reached w) v % 2 ≡ 1 → link (reached w) (3 * v) ≡ boundary
