@@ -2,5 +2,6 @@
 pub mod FirstThatHolds
 pub mod CallRefusals
 pub mod Carried
+pub mod EveryCall
 pub mod Outcomes
 pub mod Histories

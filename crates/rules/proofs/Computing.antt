@@ -9,10 +9,12 @@ use Rattle.rules.specs.Calls.{Outcome, closedEven, loadRefusal, refineRe
 use Rattle.rules.specs.Calls.{positionRefusal, limitRefusal, loadCall, refineCall, wholeStepCall, ringCall}
 use Rattle.rules.specs.Calls.{positionCall, limitCall}
 use Rattle.rules.specs.History.{Change, changes, after, outcomes, lastLoad, edges, cageEdges}
+use Rattle.rules.specs.Lists.{entryRefusal, entryWork, handle, handleAll, sparesRefusal, listCall}
 use Rattle.rules.specs.Numbers.{numberAt, signed, floorDiv, nearestThird, halfUp, rounded, weights, weight, moved}
 use Rattle.rules.specs.Numbers.{limit}
 use Rattle.rules.specs.Ring.{firstSide, fanFrom, fan, neighbours, ring}
 use Rattle.rules.specs.Sound.{isLinked, soundSide, hasOneFan, isSound}
+use Rattle.rules.specs.Spares.{Spares, copied, sameSizes}
 use Rattle.rules.specs.Split.{faceCut, flip, centre, facePlaced, settle, faceSplit, chainEndWithin}
 use Rattle.rules.specs.Split.{chainOddWithin, raise, refine, rimCut, firstThird, secondThird, rimPlaced, rimSplit}
 use Rattle.rules.specs.Step.{sumOver, movedCoordinate, moveVertices, refineFirst, wholeStep, limitCoordinate}
@@ -27,7 +29,8 @@ unfolding all any lowest total fill cageOf partner loaded sizesFit cornersFit co
     halfUp rounded weights weight moved firstSide fanFrom fan neighbours ring isLinked soundSide hasOneFan isSound
     faceCut flip limit limitCoordinate limitPositions limitRefusal limitCall centre firstThird secondThird facePlaced
     rimCut rimPlaced settle faceSplit rimSplit chainEndWithin chainOddWithin raise refine sumOver movedCoordinate
-    moveVertices refineFirst wholeStep tablesAgree
+    moveVertices refineFirst wholeStep tablesAgree copied sameSizes entryRefusal entryWork handle handleAll sparesRefusal
+    listCall
 computing = tt
 
 -- The mesh after these changes, and the outcome of each.
@@ -42,6 +45,15 @@ unfoldable pub fresh : ℕ → ℕ → Mesh
 fresh v f =
     meshOf (topologyOf 0 0 (replicate (3 * f) 0) (replicate (3 * f) 0) (replicate f 0)) (replicate (3 * v) (pos 0))
     1
+
+-- Spare tables of so many slots, 7 in each entry.
+unfoldable pub sevens : ℕ → ℕ → Spares
+sevens v f = record {
+  positions = replicate (3 * v) (pos 7);
+  corners = replicate (3 * f) 7;
+  links = replicate (3 * f) 7;
+  generations = replicate f 7;
+}
 
 -- Numbers below 256 as the four bytes of each, low byte first.
 unfoldable pub bytes : List ℕ → List ℕ

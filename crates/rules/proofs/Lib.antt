@@ -8,6 +8,8 @@ pub mod Soundness
 pub mod Loads
 pub mod Steps
 pub mod Calls
+pub mod Spares
+pub mod Lists
 pub mod Mirrors
 pub mod Results
 pub mod Computing

@@ -2,4 +2,6 @@
 pub mod Opposites
 pub mod MirrorTables
 pub mod MirrorWork
+pub mod MirrorRefusals
+pub mod MirrorLists
 pub mod MirrorCalls

@@ -4,11 +4,11 @@ use mathlib.Core.List.{List, [], _∷_, _++_, map}
 use mathlib.Core.Path.{_≡_, refl}
 use lib.IntN.{ℤ, pos, negsuc}
 use lib.ListN.{replicate, drop, getD}
-use Rattle.rules.proofs.Computing.{computing, made, madeEach, fresh, bytes, tetrahedron}
+use Rattle.rules.proofs.Computing.{computing, made, madeEach, fresh, sevens, bytes, tetrahedron}
 use Rattle.rules.proofs.Examples.{lineOf, triangleOf, pointOf}
 use Rattle.rules.proofs.Refusals.{refusalAfter, cageAtOrigin, triangle}
-use Rattle.rules.specs.History.{Change, loads, refines, steps, ringOf, positionOf, limitsOf, asked, changes}
-use Rattle.rules.specs.History.{nothing, cage, lastLoad, edges}
+use Rattle.rules.specs.History.{Change, loads, refines, steps, refinesEach, ringOf, positionOf, limitsOf, asked}
+use Rattle.rules.specs.History.{changes, outcome, nothing, cage, lastLoad, edges}
 use Rattle.rules.specs.Mirror.{mirror, mirrorTable}
 use Rattle.rules.specs.Numbers.{nearestThird, rounded}
 use Rattle.rules.specs.Tables.{Mesh, topologyOf, meshOf, link, generation, coordinate}
@@ -20,6 +20,20 @@ store = fresh 12 20
 unfoldable pub sideOne : List Change
 unfolding tetrahedron
 sideOne = loads 1 tetrahedron ∷ refines 0 ∷ refines 3 ∷ refines 7 ∷ refines 9 ∷ []
+
+-- The tetrahedron with a list of its triangles refined.
+unfoldable pub lassoed : List ℕ → List Change
+unfolding tetrahedron sevens
+lassoed list = loads 1 tetrahedron ∷ refinesEach list (sevens 12 20) ∷ []
+
+-- Of that list: how many entries succeeded, the vertices and triangles of the mesh in the spare tables, and there the
+-- generations in slots 0, 1, 5 and 6.
+unfoldable pub heldBy : List ℕ → List ℕ
+unfolding fresh tetrahedron sevens
+heldBy list =
+    let o = outcome (changes (refinesEach list (sevens 12 20))) (made (loads 1 tetrahedron ∷ []) store) in
+    let g : ℕ → ℕ = λ t. getD (o .room .spares .generations) t 0 in
+    o .answer .handled ∷ o .answer .spareVertices ∷ o .answer .spareTriangles ∷ g 0 ∷ g 1 ∷ g 5 ∷ g 6 ∷ []
 
 unfoldable pub octahedron : List Change
 unfolding cageAtOrigin
@@ -163,9 +177,27 @@ pub record Table : Type 0 where
   -- Half goes up by rule 1, and away from zero by rule 2.
   pub halves : rounded 1 (pos 5) 2 ∷ rounded 1 (negsuc 4) 2 ∷ [] ≡ pos 3 ∷ negsuc 1 ∷ []
   pub halvesAway : rounded 2 (pos 5) 2 ∷ rounded 2 (negsuc 4) 2 ∷ [] ≡ pos 3 ∷ negsuc 2 ∷ []
+  -- A triangle listed twice is refined once; two lists are not one. (Request e)
+  pub listedTwice : map lineOf (madeEach (lassoed (0 ∷ 0 ∷ [])) store)
+      ≡ (0 ∷ 0 ∷ 0 ∷ 4 ∷ 4 ∷ []) ∷ (0 ∷ 1 ∷ 0 ∷ 5 ∷ 6 ∷ []) ∷ []
+  pub twoLists : map lineOf (madeEach (lassoed (0 ∷ []) ++ (refinesEach (0 ∷ []) (sevens 12 20) ∷ [])) store)
+      ≡ (0 ∷ 0 ∷ 0 ∷ 4 ∷ 4 ∷ []) ∷ (0 ∷ 1 ∷ 0 ∷ 5 ∷ 6 ∷ []) ∷ (0 ∷ 1 ∷ 1 ∷ 6 ∷ 8 ∷ []) ∷ []
+  -- A triangle that another entry has raised is passed over: the refine of slot 0, which is odd, splits slot 1.
+  pub raisedByOther :
+      let calls = loads 1 tetrahedron ∷ refines 0 ∷ refinesEach (0 ∷ 1 ∷ []) (sevens 12 20) ∷ [] in
+      map lineOf (drop 2 (madeEach calls store)) ≡ (0 ∷ 1 ∷ 1 ∷ 6 ∷ 8 ∷ []) ∷ []
+  -- A slot that an earlier entry made was not in use at the start: the mesh stands, the spare tables hold the mesh
+  -- after that entry, and the answer says how many entries succeeded, and the counts there.
+  pub madeByEarlier : map lineOf (madeEach (lassoed (0 ∷ 4 ∷ [])) store)
+      ≡ (0 ∷ 0 ∷ 0 ∷ 4 ∷ 4 ∷ []) ∷ (8 ∷ 0 ∷ 0 ∷ 4 ∷ 4 ∷ []) ∷ []
+  pub heldInSpares : heldBy (0 ∷ 4 ∷ []) ≡ 1 ∷ 5 ∷ 6 ∷ 1 ∷ 0 ∷ 1 ∷ 7 ∷ []
+  -- An empty list is carried out, with zeros, and copies the mesh.
+  pub emptyList : map lineOf (madeEach (lassoed []) store)
+      ≡ (0 ∷ 0 ∷ 0 ∷ 4 ∷ 4 ∷ []) ∷ (0 ∷ 0 ∷ 0 ∷ 4 ∷ 4 ∷ []) ∷ []
+  pub heldByNone : heldBy [] ≡ 0 ∷ 4 ∷ 4 ∷ 0 ∷ 0 ∷ 7 ∷ 7 ∷ []
 
 pub readings : Table
-unfolding computing mirrorTable fresh tetrahedron triangle store sideOne octahedron pulled spike longChain hinge
+unfolding computing mirrorTable fresh sevens lassoed heldBy tetrahedron triangle store sideOne octahedron pulled spike longChain hinge
     withFirst signedBytes foil atEighteen
 readings = record {
   throughSideOne = refl;
@@ -204,4 +236,11 @@ readings = record {
   thirds = refl;
   halves = refl;
   halvesAway = refl;
+  listedTwice = refl;
+  twoLists = refl;
+  raisedByOther = refl;
+  madeByEarlier = refl;
+  heldInSpares = refl;
+  emptyList = refl;
+  heldByNone = refl;
 }

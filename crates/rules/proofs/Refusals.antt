@@ -4,8 +4,9 @@ use mathlib.Core.List.{List, [], _∷_, _++_}
 use mathlib.Core.Path.{_≡_, refl}
 use lib.IntN.{pos}
 use lib.ListN.{replicate, take}
-use Rattle.rules.proofs.Computing.{computing, made, fresh, bytes, tetrahedron}
-use Rattle.rules.specs.History.{Change, loads, refines, steps, ringOf, limitsOf, Call, changes, asks, outcome}
+use Rattle.rules.proofs.Computing.{computing, made, fresh, sevens, bytes, tetrahedron}
+use Rattle.rules.specs.History.{Change, loads, refines, steps, refinesEach, ringOf, limitsOf, Call, changes}
+use Rattle.rules.specs.History.{asks, outcome}
 use Rattle.rules.specs.Tables.{Mesh, topologyOf, meshOf, withRule, boundary}
 
 -- The refusal of the last call, on a mesh, after the others.
@@ -86,9 +87,13 @@ pub record Table : Type 0 where
   pub n16 : refusalAfter [] (changes (loads 0 tetrahedron)) small ≡ 16
   pub tablesBeforeRule : refusalAfter [] (changes (loads 3 tetrahedron)) uneven ≡ 1
   pub ruleBeforeSizes : refusalAfter [] (changes (loads 3 (take 7 tetrahedron))) small ≡ 16
+  -- Spare tables of another size, after 1 and before 7.
+  pub n17 : refusalAfter (loads 1 tetrahedron ∷ []) (changes (refinesEach [] (sevens 6 8))) small ≡ 17
+  pub tablesBeforeSpares : refusalAfter [] (changes (refinesEach [] (sevens 6 8))) uneven ≡ 1
+  pub sparesBeforeSound : refusalAfter [] (changes (refinesEach [] (sevens 5 9))) small ≡ 17
 
 pub refusals : Table
-unfolding computing fresh small uneven tetrahedron cageAtOrigin triangle tooFar grown shell doublePyramid
+unfolding computing fresh sevens small uneven tetrahedron cageAtOrigin triangle tooFar grown shell doublePyramid
 refusals = record {
   n1 = refl;
   n2 = refl;
@@ -115,4 +120,7 @@ refusals = record {
   n16 = refl;
   tablesBeforeRule = refl;
   ruleBeforeSizes = refl;
+  n17 = refl;
+  tablesBeforeSpares = refl;
+  sparesBeforeSound = refl;
 }

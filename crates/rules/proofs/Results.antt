@@ -1,37 +1,44 @@
 -- What is proved of the rules: the theorems that users rely on, readable with the specs alone.
 use mathlib.Core.Path.{_≡_}
 use mathlib.Core.Logic.{_≢_, _↔_}
-use mathlib.Core.List.{List}
+use mathlib.Core.List.{List, [], _∷_, _++_}
 use Prim.Native.Nat.{ℕ, _-_, _*_, _%_, _≤_, _<_}
 use lib.Dec.{T}
 use lib.IntN.{ℤ, pos, natAbs, _-ℤ_, _*ℤ_}
+use lib.ListN.{length}
 use Rattle.rules.proofs.Calls.CallRefusals.{load-refusal, refine-refusal, whole-step-refusal, ring-refusal}
-use Rattle.rules.proofs.Calls.CallRefusals.{position-refusal, limit-refusal, refused-leaves}
-use Rattle.rules.proofs.Calls.CallRefusals.{no-ten, taken-at-boundary}
+use Rattle.rules.proofs.Calls.CallRefusals.{position-refusal, limit-refusal, taken-at-boundary}
+use Rattle.rules.proofs.Calls.EveryCall.{refused-leaves, no-ten}
 use Rattle.rules.proofs.Calls.Histories.{every-history, history-sound}
 use Rattle.rules.proofs.Loads.Load.{links-are}
 use Rattle.rules.proofs.Calls.Outcomes.{load-makes, refine-makes, chain-falls, refine-is-split}
 use Rattle.rules.proofs.Calls.Outcomes.{whole-step-makes, limit-makes, ring-reads, position-reads}
 use Rattle.rules.proofs.Chains.Refine.{chain-counts, chain-takes}
+use Rattle.rules.proofs.Lists.Entries.{handled-then}
+use Rattle.rules.proofs.Lists.ListCall.{list-refusal, list-makes, list-stops, one-entry}
+use Rattle.rules.proofs.Lists.EveryList.{refused-first, empty-list, held-in-spares, one-failure, listed-twice}
 use Rattle.rules.proofs.Mirrors.MirrorCalls.{call-mirror, history-mirror}
 use Rattle.rules.proofs.Rings.RingTheory.{ring-makes}
 use Rattle.rules.proofs.Numbers.Rounding.{nearest-third, nearest-third-only, rounded-nearest, nearest-only}
 use Rattle.rules.proofs.Soundness.SoundTest.{sound-is}
+use Rattle.rules.proofs.Spares.Adds.{refine-adds}
 use Rattle.rules.specs.Cage.{Cage, cageOf, loaded}
-use Rattle.rules.specs.Calls.{refusedWith, worked, loadCall, refineCall, wholeStepCall, ringRead, ringCall}
+use Rattle.rules.specs.Calls.{worked, loadCall, refineCall, wholeStepCall, ringRead, ringCall}
 use Rattle.rules.specs.Calls.{positionRead, positionCall, limitRead, limitCall, splitsOf}
-use Rattle.rules.specs.Calls.{rimSplitsOf, verticesOf, trianglesOf}
+use Rattle.rules.specs.Calls.{rimSplitsOf, verticesOf, trianglesOf, spareRoom, refusedWith}
 use Rattle.rules.specs.Conditions.{SidesDiffer, EndsAtBoundary, OddInChain, First, loadConditions}
 use Rattle.rules.specs.Conditions.{refineConditions, wholeStepConditions, limitConditions, ringConditions}
-use Rattle.rules.specs.Conditions.{positionConditions, Takes}
-use Rattle.rules.specs.History.{Call, outcome, lent, after, lastLoad, nothing, cage, EveryHistory}
+use Rattle.rules.specs.Conditions.{positionConditions, listConditions, Takes, FailsAfter}
+use Rattle.rules.specs.History.{Call, outcome, after, lastLoad, nothing, cage, EveryHistory}
+use Rattle.rules.specs.Lists.{Progress, begun, handleAll, refineEach, sparesRefusal, allOrNothing}
+use Rattle.rules.specs.Lists.{listCall}
 use Rattle.rules.specs.Mirror.{mirror, mirrorOutcome, Mirrors, Rounds, MirrorsEach}
 use Rattle.rules.specs.Numbers.{nearestThird, rounded}
-use Rattle.rules.specs.Promises.{Nearest, Matches, Loaded, ChainFalls, RefineMakes, StepMakes, LimitMakes}
-use Rattle.rules.specs.Promises.{RingMakes}
-use Rattle.rules.specs.Promises.{kobbelt}
+use Rattle.rules.specs.Promises.{Nearest, Matches, Loaded, ChainFalls, RefineMakes, added, StepMakes, LimitMakes}
+use Rattle.rules.specs.Promises.{RefusalLeaves, RingMakes, kobbelt, ListMakes, SameWork}
 use Rattle.rules.specs.Sound.{Sound, isSound}
-use Rattle.rules.specs.Split.{atFirst, chainOdd, refine}
+use Rattle.rules.specs.Spares.{Spares, copied, meshIn, SameSizes}
+use Rattle.rules.specs.Split.{Work, atFirst, chainOdd, refine}
 use Rattle.rules.specs.Step.{wholeStep, limitPositions}
 use Rattle.rules.specs.Tables.{Mesh, TablesAgree, vertexSlots, triangleSlots, boundary, link, generation}
 use Rattle.rules.specs.Tables.{withRule}
@@ -88,13 +95,18 @@ position-returns = position-refusal
 pub limit-returns : (table : List ℤ) (m : Mesh) → First (limitConditions table m) (limitCall table m .answer .refusal)
 limit-returns = limit-refusal
 
+-- So does a list of triangles: after 1, 17 and 7 that is what its first failing entry fails with.
+pub list-returns : (list : List ℕ) (spares : Spares) (m : Mesh)
+    → First (listConditions list spares m) (listCall list spares m .answer .refusal)
+list-returns = list-refusal
+
 -- No call returns 10, on any content of the tables: a base chain that ends at the boundary is split there. (Request b)
 pub never-ten : (c : Call) (m : Mesh) → outcome c m .answer .refusal ≢ 10
 never-ten = no-ten
 
--- A refused call answers its number with zeros and the counts as they stood, and leaves the mesh and its room.
-pub refusal-leaves : (c : Call) (m : Mesh) → outcome c m .answer .refusal ≢ 0
-    → outcome c m ≡ refusedWith (outcome c m .answer .refusal) m (lent c)
+-- A refused call answers its number with zeros and the counts as they stood, and leaves the mesh and its room; of spare
+-- tables that it worked in, the slots in use of the last good mesh hold that, and the others keep their content.
+pub refusal-leaves : (c : Call) (m : Mesh) → outcome c m .answer .refusal ≢ 0 → RefusalLeaves c m (outcome c m)
 refusal-leaves = refused-leaves
 
 -- ---- load (Load)
@@ -147,6 +159,68 @@ chain-steps = chain-falls
 pub refine-recursive : (t n : ℕ) (m : Mesh) → refineCall t m .answer .refusal ≡ 0 → generation (m .topology) t < n
     → refine t (atFirst m) ≡ kobbelt n t (atFirst m)
 refine-recursive = refine-is-split
+
+-- ---- a list of triangles (Request e)
+
+-- A list that is carried out answers and leaves what its entries make, each at its turn.
+pub list-carried : (list : List ℕ) (spares : Spares) (m : Mesh) → listCall list spares m .answer .refusal ≡ 0
+    → let p = refineEach list m in
+    (listCall list spares m ≡ allOrNothing 0 p spares m) × (p .handled ≡ length list) × ListMakes list m (p .work)
+list-carried = list-makes
+
+-- One that is refused with 1, 17 or 7, which `sparesRefusal` computes, answers zeros and leaves the spare tables too.
+pub list-refused : (list : List ℕ) (spares : Spares) (m : Mesh) → sparesRefusal spares m ≢ 0
+    → listCall list spares m ≡ refusedWith (sparesRefusal spares m) m (spareRoom spares)
+list-refused = refused-first
+
+-- One that is refused after 7 tells which entry failed, and leaves the mesh, and in the spare tables what the entries
+-- before it made.
+pub list-stopped : (list : List ℕ) (spares : Spares) (m : Mesh) → SameSizes spares m → Sound m
+    → listCall list spares m .answer .refusal ≢ 0
+    → let p = refineEach list m in
+    (listCall list spares m ≡ allOrNothing (p .refusal) p spares m)
+    × FailsAfter list m (p .handled) (p .work) (p .refusal)
+list-stopped = list-stops
+
+-- A list fails at one place alone, and with one number.
+pub list-fails-once : {list : List ℕ} {m : Mesh} {k k′ n n′ : ℕ} {w w′ : Work} → Sound m → FailsAfter list m k w n
+    → FailsAfter list m k′ w′ n′ → (k ≡ k′) × (n ≡ n′)
+list-fails-once = one-failure
+
+-- After 7, carried out or refused, the spare tables hold what the entries that succeeded made of the mesh, and it is
+-- sound there; their other slots keep their content.
+pub list-held : (list : List ℕ) (spares : Spares) (m : Mesh) → SameSizes spares m → Sound m
+    → let n = refineEach list m .work .mesh in
+    (listCall list spares m .room ≡ spareRoom (copied n spares)) × Sound (meshIn (copied n spares) n)
+list-held = held-in-spares
+
+-- A refine adds its splits and flips to those made before it, and makes of the mesh what it makes alone.
+pub list-sums : (t : ℕ) (w : Work) → refine t w ≡ added w (refine t (atFirst (w .mesh)))
+list-sums = refine-adds
+
+-- An empty list is carried out, with zeros.
+pub list-empty : (spares : Spares) (m : Mesh) → SameSizes spares m → Sound m
+    → listCall [] spares m ≡ allOrNothing 0 (begun m) spares m
+list-empty = empty-list
+
+-- The entries of a list in two parts: those of the second go on from what the first part left, judged by the call's
+-- start.
+pub list-parts : (start : Mesh) (xs ys : List ℕ) (p : Progress)
+    → handleAll start (xs ++ ys) p ≡ handleAll start ys (handleAll start xs p)
+list-parts = handled-then
+
+-- A triangle listed again does no harm: carried out or refused, on any content, the list does to the mesh and to the
+-- spare tables, and answers of the mesh, what it does without this entry.
+pub list-twice : (t : ℕ) (xs ys zs : List ℕ) (spares : Spares) (m : Mesh) →
+    let a = listCall (xs ++ (t ∷ ys) ++ (t ∷ zs)) spares m in
+    let b = listCall (xs ++ (t ∷ ys) ++ zs) spares m in
+    SameWork a b × (a .room ≡ b .room)
+list-twice = listed-twice
+
+-- A list of one triangle answers and does to the mesh what a refine of it does.
+pub list-of-one : (t : ℕ) (spares : Spares) (m : Mesh) → SameSizes spares m
+    → SameWork (listCall (t ∷ []) spares m) (refineCall t m)
+list-of-one = one-entry
 
 -- ---- whole step (Whole step)
 

@@ -10,13 +10,15 @@ use Rattle.rules.specs.Cage.{cageOf, loaded, sizesFit, cornersFit, coord
 use Rattle.rules.specs.Numbers.{knownRule}
 use Rattle.rules.specs.Ring.{ring}
 use Rattle.rules.specs.Sound.{isSound}
+use Rattle.rules.specs.Spares.{Spares, noSpares}
 use Rattle.rules.specs.Split.{Work, atFirst, chainEnd, chainOdd, refine}
 use Rattle.rules.specs.Step.{wholeStep, limitPositions}
 use Rattle.rules.specs.Tables.{Topology, Mesh, tablesAgree, vertexSlots, triangleSlots, sides, link, boundary}
 use Rattle.rules.specs.Tables.{generation, odd, coordinate, withRule}
 
 -- What a call answers: the number of its refusal, 0 for none, the splits and flips that it made, the length of a ring,
--- a position, and the counts: V, F and the rule. The calls build it by `answerOf` alone.
+-- a position, and the counts: V, F and the rule; and of work in spare tables (request e) how many entries of a list
+-- succeeded, and the counts of the mesh in them. The calls build it by `answerOf` and `sparesAnswer` alone.
 pub record Answer : Type 0 where
   pub refusal : ℕ
   pub splits : ℕ
@@ -26,11 +28,16 @@ pub record Answer : Type 0 where
   pub vertices : ℕ
   pub triangles : ℕ
   pub rule : ℕ
+  pub handled : ℕ
+  pub spareVertices : ℕ
+  pub spareTriangles : ℕ
+  pub spareRule : ℕ
 
--- What a call is lent beside the mesh: a ring buffer, a table of points. What it is not lent is empty.
+-- What a call is lent beside the mesh: a ring buffer, a table of points, spare tables. What it is not lent is empty.
 pub record Room : Type 0 where
   pub buffer : List ℕ
   pub table : List ℤ
+  pub spares : Spares
 
 -- A call's answer, the mesh that it leaves and what it leaves in its room.
 pub record Outcome : Type 0 where
@@ -38,7 +45,7 @@ pub record Outcome : Type 0 where
   pub mesh : Mesh
   pub room : Room
 
--- An answer from its parts, with the counts of a mesh.
+-- An answer from its parts, with the counts of a mesh, where no spare tables are worked in.
 abbrev pub answerOf : ℕ → ℕ → ℕ → ℕ → ℤ × ℤ × ℤ → Mesh → Answer
 answerOf refusal splits flips n point m = record {
   refusal = refusal;
@@ -49,17 +56,24 @@ answerOf refusal splits flips n point m = record {
   vertices = m .topology .vertices;
   triangles = m .topology .triangles;
   rule = m .rule;
+  handled = 0;
+  spareVertices = 0;
+  spareTriangles = 0;
+  spareRule = 0;
 }
 
--- No room, a ring buffer alone, a table alone.
+-- No room; a ring buffer, a table, spare tables alone.
 abbrev pub noRoom : Room
-noRoom = record { buffer = []; table = [] }
+noRoom = record { buffer = []; table = []; spares = noSpares }
 
 abbrev pub ringRoom : List ℕ → Room
-ringRoom buffer = record { buffer = buffer; table = [] }
+ringRoom buffer = record { buffer = buffer; table = []; spares = noSpares }
 
 abbrev pub tableRoom : List ℤ → Room
-tableRoom table = record { buffer = []; table = table }
+tableRoom table = record { buffer = []; table = table; spares = noSpares }
+
+abbrev pub spareRoom : Spares → Room
+spareRoom spares = record { buffer = []; table = []; spares = spares }
 
 -- An outcome from its parts.
 abbrev pub outcomeOf : Answer → Mesh → Room → Outcome

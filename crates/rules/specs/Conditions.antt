@@ -1,6 +1,6 @@
 -- The conditions of the refusals as statements, which the tests that the calls compute decide. (Refused inputs)
 use Prim.Native.Nat.{ℕ, suc, _+_, _-_, _*_, _/_, _%_, _≤_, _<_, max}
-use mathlib.Core.List.{List, [], _∷_}
+use mathlib.Core.List.{List, [], _∷_, _++_}
 use mathlib.Core.Logic.{_≢_, _⊎_}
 use mathlib.Core.Path.{_≡_}
 use lib.IntN.{ℤ}
@@ -9,6 +9,8 @@ use Rattle.rules.specs.Cage.{Cage, cageOf, loaded}
 use Rattle.rules.specs.Numbers.{InRange, KnownRule}
 use Rattle.rules.specs.Ring.{ring}
 use Rattle.rules.specs.Sound.{OneFan, Sound}
+use Rattle.rules.specs.Spares.{Spares, SameSizes}
+use Rattle.rules.specs.Split.{Work, atFirst, refine}
 use Rattle.rules.specs.Tables.{Topology, Mesh, TablesAgree, vertexSlots, triangleSlots, sides, next, link}
 use Rattle.rules.specs.Tables.{boundary, generation}
 
@@ -89,6 +91,43 @@ pub record ClosedEven (m : Topology) : Type 0 where
 abbrev pub LongRing : Topology → Type 0
 LongRing m = (v : ℕ) × (v < m .vertices) × (12 < length (ring m v))
 
+-- ---- a list of triangles (Request e)
+
+-- The generation of t in m is above what it was at the call's start.
+abbrev pub Risen : Mesh → ℕ → Mesh → Type 0
+Risen start t m = generation (start .topology) t < generation (m .topology) t
+
+-- What entry t fails with at its turn, on m: it was not in use at the call's start; or it was, has not risen since, and
+-- its refine is refused.
+pub data EntryFails (start : Mesh) (t : ℕ) (m : Mesh) : ℕ → Type 0 where
+  notInUse : ¬ (t < start .topology .triangles) → EntryFails start t m 8
+  old : t < start .topology .triangles → ¬ Risen start t m → TooOld (m .topology) t → EntryFails start t m 9
+  crowded : t < start .topology .triangles → ¬ Risen start t m → ¬ TooOld (m .topology) t → TooFewSlots t m
+      → EntryFails start t m 11
+
+-- Work w with these entries handled in order, none of which fails, is x.
+pub data Handled (start : Mesh) : List ℕ → Work → Work → Type 0 where
+  allDone : {w : Work} → Handled start [] w w
+  passedOver : {t : ℕ} {rest : List ℕ} {w x : Work} → t < start .topology .triangles → Risen start t (w .mesh)
+      → Handled start rest w x → Handled start (t ∷ rest) w x
+  refined : {t : ℕ} {rest : List ℕ} {w x : Work} → t < start .topology .triangles → ¬ Risen start t (w .mesh)
+      → ¬ TooOld (w .mesh .topology) t → ¬ TooFewSlots t (w .mesh)
+      → Handled start rest (refine t w) x → Handled start (t ∷ rest) w x
+
+-- After k entries of the list, which are handled as w, the next fails with n.
+pub record FailsAfter (list : List ℕ) (m : Mesh) (k : ℕ) (w : Work) (n : ℕ) : Type 0 where
+  pub before : List ℕ
+  pub entry : ℕ
+  pub rest : List ℕ
+  pub parts : list ≡ before ++ (entry ∷ rest)
+  pub place : length before ≡ k
+  pub handled : Handled m before (atFirst m) w
+  pub fails : EntryFails m entry (w .mesh) n
+
+-- The first entry that fails does so with n.
+abbrev pub FailsWith : ℕ → List ℕ → Mesh → Type 0
+FailsWith n list m = (k : ℕ) × (w : Work) × FailsAfter list m k w n
+
 -- ---- the first that holds
 
 -- A refusal's number with its condition.
@@ -154,3 +193,15 @@ ringConditions v buffer m =
 
 abbrev pub positionConditions : ℕ → Mesh → List Condition
 positionConditions v m = 1 when (¬ TablesAgree m) ∷ 7 when (¬ Sound m) ∷ 8 when (¬ (v < m .topology .vertices)) ∷ []
+
+-- One entry alone is the first that fails. The three exclude each other, so their order decides nothing.
+abbrev pub entryConditions : List ℕ → Mesh → List Condition
+entryConditions list m =
+    8 when FailsWith 8 list m ∷ 9 when FailsWith 9 list m ∷ 11 when FailsWith 11 list m ∷ []
+
+abbrev pub listConditions : List ℕ → Spares → Mesh → List Condition
+listConditions list spares m =
+    1 when (¬ TablesAgree m)
+    ∷ 17 when (¬ SameSizes spares m)
+    ∷ 7 when (¬ Sound m)
+    ∷ entryConditions list m

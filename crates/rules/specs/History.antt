@@ -8,19 +8,22 @@ use lib.Dec.{eqb, ltb}
 use lib.IntN.{ℤ, pos, _+ℤ_, _-ℤ_}
 use Rattle.rules.specs.Below.{any, count, total}
 use Rattle.rules.specs.Cage.{Cage, cageOf}
-use Rattle.rules.specs.Calls.{Room, noRoom, ringRoom, tableRoom, Outcome, loadCall, refineCall, wholeStepCall}
-use Rattle.rules.specs.Calls.{ringCall, positionCall, limitCall}
+use Rattle.rules.specs.Calls.{Room, noRoom, ringRoom, tableRoom, spareRoom, Outcome, loadCall}
+use Rattle.rules.specs.Calls.{refineCall, wholeStepCall, ringCall, positionCall, limitCall}
 use Rattle.rules.specs.Conditions.{OddInChain, EndsAtBoundary}
+use Rattle.rules.specs.Lists.{listCall}
+use Rattle.rules.specs.Spares.{Spares}
 use Rattle.rules.specs.Tables.{Topology, Mesh, sides, link, boundary, generation, next}
 
--- A call that may change the mesh, with its arguments: a rule and a cage's bytes, a triangle, none.
+-- A call that may change the mesh, with its arguments: a rule and a cage's bytes, a triangle, none, a list of triangles
+-- and spare tables. What a call is lent are lists of their own, never one of the mesh's tables.
 pub data Change : Type 0 where
   loads : ℕ → List ℕ → Change
   refines : ℕ → Change
   steps : Change
+  refinesEach : List ℕ → Spares → Change
 
--- A call that reads the mesh: a vertex and a ring buffer, a vertex, a table for limit positions. Buffer and table are
--- lists of their own, never one of the mesh's tables.
+-- A call that reads the mesh: a vertex and a ring buffer, a vertex, a table for limit positions.
 pub data Question : Type 0 where
   ringOf : ℕ → List ℕ → Question
   positionOf : ℕ → Question
@@ -36,6 +39,7 @@ abbrev pub changed : Change → Mesh → Outcome
 changed (loads rule bytes) m = loadCall rule bytes m
 changed (refines t) m = refineCall t m
 changed steps m = wholeStepCall m
+changed (refinesEach list spares) m = listCall list spares m
 
 abbrev pub asked : Question → Mesh → Outcome
 asked (ringOf v buffer) m = ringCall v buffer m
@@ -48,7 +52,10 @@ outcome (asks q) m = asked q m
 
 -- What a call is lent beside the mesh.
 abbrev pub lent : Call → Room
-lent (changes c) = noRoom
+lent (changes (loads rule bytes)) = noRoom
+lent (changes (refines t)) = noRoom
+lent (changes steps) = noRoom
+lent (changes (refinesEach list spares)) = spareRoom spares
 lent (asks (ringOf v buffer)) = ringRoom buffer
 lent (asks (positionOf v)) = noRoom
 lent (asks (limitsOf table)) = tableRoom table
@@ -76,6 +83,7 @@ opens (changes (loads rule bytes)) m before =
     elim (eqb (loadCall rule bytes m .answer .refusal) 0) [ true ↦ cage bytes | false ↦ before ]
 opens (changes (refines t)) m before = before
 opens (changes steps) m before = before
+opens (changes (refinesEach list spares)) m before = before
 opens (asks q) m before = before
 
 -- The last accepted load after a list of calls.

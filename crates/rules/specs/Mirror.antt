@@ -9,8 +9,9 @@ use lib.ListN.{length, getD}
 use Rattle.rules.specs.Below.{fill}
 use Rattle.rules.specs.Cage.{cageOf}
 use Rattle.rules.specs.Calls.{Answer, Room, Outcome, outcomeOf}
-use Rattle.rules.specs.History.{Call, changes, asks, loads, refines, steps, ringOf, positionOf, limitsOf}
-use Rattle.rules.specs.History.{outcome}
+use Rattle.rules.specs.History.{Call, changes, asks, loads, refines, steps, refinesEach, ringOf, positionOf}
+use Rattle.rules.specs.History.{limitsOf, outcome}
+use Rattle.rules.specs.Spares.{Spares}
 use Rattle.rules.specs.Tables.{Mesh, withPositions}
 
 -- Coordinate j of a point whose coordinate k is negated.
@@ -38,10 +39,26 @@ mirrorAnswer k a = record {
   vertices = a .vertices;
   triangles = a .triangles;
   rule = a .rule;
+  handled = a .handled;
+  spareVertices = a .spareVertices;
+  spareTriangles = a .spareTriangles;
+  spareRule = a .spareRule;
+}
+
+abbrev pub mirrorSpares : ℕ → Spares → Spares
+mirrorSpares k s = record {
+  positions = mirrorTable k (s .positions);
+  corners = s .corners;
+  links = s .links;
+  generations = s .generations;
 }
 
 abbrev pub mirrorRoom : ℕ → Room → Room
-mirrorRoom k r = record { buffer = r .buffer; table = mirrorTable k (r .table) }
+mirrorRoom k r = record {
+  buffer = r .buffer;
+  table = mirrorTable k (r .table);
+  spares = mirrorSpares k (r .spares);
+}
 
 abbrev pub mirrorOutcome : ℕ → Outcome → Outcome
 mirrorOutcome k o = outcomeOf (mirrorAnswer k (o .answer)) (mirror k (o .mesh)) (mirrorRoom k (o .room))
@@ -62,6 +79,8 @@ pub data Mirrors (k : ℕ) : Call → Call → Type 0 where
       → Mirrors k (changes (loads rule those)) (changes (loads rule these))
   refine : {t : ℕ} → Mirrors k (changes (refines t)) (changes (refines t))
   step : Mirrors k (changes steps) (changes steps)
+  list : {entries : List ℕ} {spares : Spares}
+      → Mirrors k (changes (refinesEach entries spares)) (changes (refinesEach entries (mirrorSpares k spares)))
   ring : {v : ℕ} {buffer : List ℕ} → Mirrors k (asks (ringOf v buffer)) (asks (ringOf v buffer))
   position : {v : ℕ} → Mirrors k (asks (positionOf v)) (asks (positionOf v))
   limit : {table : List ℤ} → Mirrors k (asks (limitsOf table)) (asks (limitsOf (mirrorTable k table)))

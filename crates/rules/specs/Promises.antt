@@ -1,4 +1,4 @@
--- What holds of each call that is carried out, as statements; proofs/Results proves every one of them.
+-- What holds of each call, carried out or refused, as statements; proofs/Results proves every one of them.
 use Prim.Native.Nat.{ℕ, zero, suc, _+_, _*_, _/_, _%_, _≤_, _<_}
 use mathlib.Core.Bool.{true, false}
 use mathlib.Core.List.{List, [], _∷_}
@@ -9,13 +9,17 @@ use lib.IntN.{ℤ, pos, natAbs, _+ℤ_, _-ℤ_, _*ℤ_}
 use lib.ListN.{length, getD, drop}
 use lib.Signed.{_≤ℤ_, _<ℤ_}
 use Rattle.rules.specs.Below.{count, total}
-use Rattle.rules.specs.Calls.{splitsOf, rimSplitsOf, worked}
+use Rattle.rules.specs.Calls.{Room, Outcome, noRoom, spareRoom, zeroPoint, splitsOf, rimSplitsOf, worked}
 use Rattle.rules.specs.Cage.{Cage}
-use Rattle.rules.specs.History.{ReportsSplits, edges, cageEdges}
+use Rattle.rules.specs.Conditions.{Risen, Handled}
+use Rattle.rules.specs.History.{Call, changes, asks, loads, refines, steps, refinesEach, lent, ReportsSplits}
+use Rattle.rules.specs.History.{edges, cageEdges}
+use Rattle.rules.specs.Lists.{refineEach, sparesRefusal}
 use Rattle.rules.specs.Numbers.{InRange, weight}
 use Rattle.rules.specs.Ring.{firstSide, fan, ring}
 use Rattle.rules.specs.Sound.{Sound}
-use Rattle.rules.specs.Split.{Work, centre, faceSplit, rimSplit}
+use Rattle.rules.specs.Spares.{copied}
+use Rattle.rules.specs.Split.{Work, atFirst, centre, faceSplit, rimSplit}
 use Rattle.rules.specs.Step.{sumOver, movedCoordinate}
 use Rattle.rules.specs.Tables.{Topology, Mesh, sides, next, previous, origin, target, boundary, link, rotate}
 use Rattle.rules.specs.Tables.{generation, odd, coordinate}
@@ -44,6 +48,27 @@ pub record SamePast (m n : Mesh) : Type 0 where
       drop (n .topology .triangles) (n .topology .generations)
       ≡ drop (n .topology .triangles) (m .topology .generations)
   pub positions : drop (3 * n .topology .vertices) (n .positions) ≡ drop (3 * n .topology .vertices) (m .positions)
+
+-- ---- refusals (Refused inputs, below the table)
+
+-- What a refused call leaves in its room: what it was lent. But spare tables that were worked in, where neither 1, 17
+-- nor 7 refuses, hold the mesh after the last entry that succeeded, in the slots that this has in use. (Request e)
+abbrev pub left : Call → Mesh → Room
+left (changes (refinesEach list spares)) m = spareRoom (
+    elim (sparesRefusal spares m) [ zero ↦ copied (refineEach list m .work .mesh) spares | suc n ↦ spares ])
+left (changes (loads rule bytes)) m = noRoom
+left (changes (refines t)) m = noRoom
+left (changes steps) m = noRoom
+left (asks q) m = lent (asks q)
+
+-- A refused call answers zeros and the counts as they stand, and leaves the mesh. (Refused inputs, below the table)
+pub record RefusalLeaves (c : Call) (m : Mesh) (o : Outcome) : Type 0 where
+  pub zeros : (o .answer .splits ≡ 0) × (o .answer .flips ≡ 0) × (o .answer .ringLength ≡ 0)
+      × (o .answer .point ≡ zeroPoint)
+  pub counts : (o .answer .vertices ≡ m .topology .vertices) × (o .answer .triangles ≡ m .topology .triangles)
+      × (o .answer .rule ≡ m .rule)
+  pub mesh : o .mesh ≡ m
+  pub room : o .room ≡ left c m
 
 -- ---- load (Load)
 
@@ -147,6 +172,35 @@ kobbelt (suc n) t w = elim (odd (generation (w .mesh .topology) t)) [
         elim (ltb g (generation (w′ .mesh .topology) t)) [ true ↦ w′ | false ↦ kobbelt n (mate t w′) w′ ]
   ]
 ]
+
+-- ---- a list of triangles (Request e)
+
+-- The mesh of r, with what both counted.
+abbrev pub added : Work → Work → Work
+added w r = record { mesh = r .mesh; splits = w .splits + r .splits; flips = w .flips + r .flips }
+
+-- What a list that is carried out makes of a mesh.
+pub record ListMakes (list : List ℕ) (m : Mesh) (w : Work) : Type 0 where
+  pub sound : Sound (w .mesh)
+  pub handled : Handled m list (atFirst m) w
+  -- Each triangle listed has risen.
+  pub risen : (i : ℕ) → i < length list → Risen m (getD list i 0) (w .mesh)
+  pub triangles : w .mesh .topology .triangles ≡ m .topology .triangles + 2 * w .splits
+  pub still : Still (m .topology) (w .mesh .topology)
+  pub oldVertices : (i : ℕ) → i < 3 * m .topology .vertices
+      → getD (w .mesh .positions) i (pos 0) ≡ getD (m .positions) i (pos 0)
+  pub rule : w .mesh .rule ≡ m .rule
+  pub past : SamePast m (w .mesh)
+
+-- One call does to the mesh, and answers of it, what the other does.
+pub record SameWork (o o′ : Outcome) : Type 0 where
+  pub refusal : o .answer .refusal ≡ o′ .answer .refusal
+  pub splits : o .answer .splits ≡ o′ .answer .splits
+  pub flips : o .answer .flips ≡ o′ .answer .flips
+  pub vertices : o .answer .vertices ≡ o′ .answer .vertices
+  pub triangles : o .answer .triangles ≡ o′ .answer .triangles
+  pub rule : o .answer .rule ≡ o′ .answer .rule
+  pub mesh : o .mesh ≡ o′ .mesh
 
 -- ---- whole step (Whole step)
 

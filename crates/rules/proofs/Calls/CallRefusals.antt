@@ -40,7 +40,7 @@ use Rattle.rules.specs.Tables.{withRule}
 -- ---- tests
 
 -- A number not in use.
-unused-is : (n k : ℕ) → Decides (leb k n) (¬ (n < k))
+pub unused-is : (n k : ℕ) → Decides (leb k n) (¬ (n < k))
 unused-is n k = is-iff (λ l q. omega arith) (λ q. omega arith) (is-le k n)
 
 pub room-is : (v f : ℕ) (m : Mesh) → Decides (roomFor v f m) (RoomFor v f m)
@@ -221,33 +221,3 @@ ring-refusal v buffer m = rw (judged-refusal refl (ring-judged v buffer m)) (rin
 
 pub position-refusal : (v : ℕ) (m : Mesh) → First (positionConditions v m) (positionCall v m .answer .refusal)
 position-refusal v m = rw (judged-refusal refl (position-judged v m)) (position-refusal-first v m)
-
--- A refused call leaves what it is lent.
-pub refused-leaves : (c : Call) (m : Mesh) → outcome c m .answer .refusal ≢ 0
-    → outcome c m ≡ refusedWith (outcome c m .answer .refusal) m (lent c)
-refused-leaves (changes (loads rule bytes)) m = judged-refused refl (load-judged rule bytes m)
-refused-leaves (changes (refines t)) m = judged-refused refl (refine-judged t m)
-refused-leaves (changes steps) m = judged-refused refl (whole-step-judged m)
-refused-leaves (asks (ringOf v buffer)) m = judged-refused refl (ring-judged v buffer m)
-refused-leaves (asks (positionOf v)) m = judged-refused refl (position-judged v m)
-refused-leaves (asks (limitsOf table)) m = judged-refused refl (limit-judged table m)
-
--- A question leaves the mesh.
-judged-stands : {n : ℕ} {m : Mesh} {room : Room} {success o : Outcome} → success .mesh ≡ m
-    → Judged n m room success o → o .mesh ≡ m
-judged-stands e (carried z) = e
-judged-stands e (refused z) = refl
-
-pub question-stands : (q : Question) (m : Mesh) → asked q m .mesh ≡ m
-question-stands (ringOf v buffer) m = judged-stands refl (ring-judged v buffer m)
-question-stands (positionOf v) m = judged-stands refl (position-judged v m)
-question-stands (limitsOf table) m = judged-stands refl (limit-judged table m)
-
--- No call returns 10, on any mesh.
-pub no-ten : (c : Call) (m : Mesh) → outcome c m .answer .refusal ≢ 10
-no-ten (changes (loads rule bytes)) m = first-not 10 (load-refusal rule bytes m) tt
-no-ten (changes (refines t)) m = first-not 10 (refine-refusal t m) tt
-no-ten (changes steps) m = first-not 10 (whole-step-refusal m) tt
-no-ten (asks (ringOf v buffer)) m = first-not 10 (ring-refusal v buffer m) tt
-no-ten (asks (positionOf v)) m = first-not 10 (position-refusal v m) tt
-no-ten (asks (limitsOf table)) m = first-not 10 (limit-refusal table m) tt

@@ -2,7 +2,7 @@
 use mathlib.Core.Path.{_≡_, refl, sym, _∙_, ap}
 use mathlib.Core.Logic.{_≢_}
 use mathlib.Core.Bool.{Bool, true, false, not, _&&_}
-use mathlib.Core.List.{List, [], _∷_}
+use mathlib.Core.List.{List, [], _∷_, _++_}
 use Prim.Native.Nat.{ℕ, zero, suc, _<_}
 use native.Mathlib.Omega.{arith}
 use lib.Dec.{T, ltb, eqb}
@@ -21,6 +21,13 @@ first-if n {b = false} d f = later (d .passes) (f (d .passes))
 pub first-unless : (n : ℕ) {b : Bool} {Q : Type 0} {k : ℕ} {rest : List Condition} → Decides b Q → (Q → First rest k)
     → First (n when (¬ Q) ∷ rest) (elim (not b) [ true ↦ n | false ↦ k ])
 first-unless n d f = first-if n (is-not d) (λ x. f (stable d x))
+
+-- One of the first conditions holds; the rest do not matter.
+pub first-before : {conditions : List Condition} {n : ℕ} (rest : List Condition) → First conditions n → n ≢ 0
+    → First (conditions ++ rest) n
+first-before rest none z = absurd (z refl)
+first-before rest (this p) z = this p
+first-before rest (later q f) z = later q (first-before rest f z)
 
 -- ---- no condition holds
 

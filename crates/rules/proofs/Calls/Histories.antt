@@ -10,7 +10,10 @@ use lib.IntN.{pos, _+ℤ_, _-ℤ_}
 use borrow.Author.Tests.{ne-eqb}
 use Rattle.rules.proofs.Splits.Bases.{reached}
 use Rattle.rules.proofs.Loads.CageEdges.{load-characteristic}
-use Rattle.rules.proofs.Calls.CallRefusals.{load-judged, refine-judged, whole-step-judged, question-stands}
+use Rattle.rules.proofs.Calls.CallRefusals.{load-judged, refine-judged, whole-step-judged}
+use Rattle.rules.proofs.Calls.EveryCall.{question-stands}
+use Rattle.rules.proofs.Lists.Going.{Going, going-begins, going-on, same-characteristic}
+use Rattle.rules.proofs.Lists.ListCall.{list-keeps}
 use Rattle.rules.proofs.Calls.Carried.{LoadFound, RefineFound, load-found, refine-found, found-refined}
 use Rattle.rules.proofs.Calls.Carried.{step-found}
 use Rattle.rules.proofs.Calls.Carried.{found-step}
@@ -25,7 +28,8 @@ use Rattle.rules.specs.Cage.{cageOf, loaded}
 use Rattle.rules.specs.Calls.{Room, noRoom, Outcome, worked, loadRefusal, refineCall, rimSplitsOf}
 use Rattle.rules.specs.Conditions.{OddInChain, atEven, atBoundary, onward, EndsAtBoundary, Takes, evenEnd}
 use Rattle.rules.specs.Conditions.{boundaryEnd}
-use Rattle.rules.specs.History.{Near, ReportsSplits, Kept, loads, refines, steps, Call, changes, asks}
+use Rattle.rules.specs.History.{Near, ReportsSplits, Kept, loads, refines, steps, refinesEach, Call, changes}
+use Rattle.rules.specs.History.{asks}
 use Rattle.rules.specs.History.{LastLoad, nothing, cage, outcome, after, opens, lastLoad, edges, characteristic}
 use Rattle.rules.specs.History.{cageCharacteristic, EveryHistory}
 use Rattle.rules.specs.Promises.{StepMakes}
@@ -48,24 +52,13 @@ pub record Keeps (c : Call) (m : Mesh) : Type 0 where
 
 -- ---- splits keep the characteristic
 
--- s splits, q of them rim splits.
-same-characteristic : (v e f s q : ℕ) {v′ e′ f′ : ℕ} → v′ ≡ v + s + q → e′ ≡ e + 3 * s + q → f′ ≡ f + 2 * s
-    → pos v′ -ℤ pos e′ +ℤ pos f′ ≡ pos v -ℤ pos e +ℤ pos f
-same-characteristic v e f s q {v′} {e′} {f′} a b c =
-    equal (add (sub (nat v′) (nat e′)) (nat f′)) (add (sub (nat v) (nat e)) (nat f)) (omega arith)
-
 -- A mesh that a call made of a sound one: sound, and of the same characteristic.
 record Stays (m n : Mesh) : Type 0 where
   sound : Sound n
   euler : characteristic (n .topology) ≡ characteristic (m .topology)
 
-refined-stays : {t s q : ℕ} {m : Mesh} {w : Work} → Refined t s q m w → Stays m (w .mesh)
-refined-stays {s = s} {q = q} {m = m} R = record {
-  sound = R .sound;
-  euler =
-      same-characteristic (m .topology .vertices) (edges (m .topology)) (m .topology .triangles) s q (R .vertices)
-      (R .edges) (R .triangles);
-}
+going-stays : {m : Mesh} {w : Work} → Going m w → Stays m (w .mesh)
+going-stays G = record { sound = G .sound; euler = G .euler }
 
 step-stays : {g : ℕ} {m : Mesh} {w : Work} → StepMakes g m w → Stays m (w .mesh)
 step-stays {m = m} {w = w} P =
@@ -110,10 +103,15 @@ pub keeps : (c : Call) (m : Mesh) → Keeps c m
 keeps (changes (loads rule bytes)) m = record { holds = λ a. load-holds rule bytes m a (load-judged rule bytes m) }
 keeps (changes (refines t)) m = record {
   holds = λ a.
-      judged-keeps a (refine-judged t m) (λ z. holds-on a (refined-stays (found-refined (refine-found t m z))));
+      judged-keeps a (refine-judged t m) (λ z.
+      let F = refine-found t m z in
+      holds-on a (going-stays (going-on (going-begins (F .sound)) F)));
 }
 keeps (changes steps) m = record {
   holds = λ a. judged-keeps a (whole-step-judged m) (λ z. holds-on a (step-stays (found-step (step-found m z))));
+}
+keeps (changes (refinesEach list spares)) m = record {
+  holds = λ a h. list-keeps list spares m (Holds a) h (λ G. holds-on a (going-stays G) h);
 }
 keeps (asks q) m = record { holds = λ a. subst (Holds a) (sym (question-stands q m)) }
 

@@ -17,6 +17,7 @@ use Rattle.rules.proofs.Soundness.SoundTest.{sound-is}
 use Rattle.rules.proofs.Steps.Limits.{limits-made}
 use Rattle.rules.proofs.Calls.Histories.{found-refines}
 use Rattle.rules.proofs.Chains.Kobbelt.{refine-is-kobbelt}
+use Rattle.rules.proofs.Lists.Going.{going-begins, going-on, same-past}
 use Rattle.rules.proofs.Loads.Load.{loaded-loads, links-are, load-sound, loaded-past, loaded-positions-past}
 use Rattle.rules.proofs.Soundness.Relaxed.{sound-manifold, sound-bases}
 use Rattle.rules.specs.Cage.{Cage, cageOf, loaded}
@@ -75,8 +76,7 @@ refine-makes t m z =
     let x = judged-carried (refine-judged t m) z in
     let F = refine-found t m (x .0) in
     let R = found-refined F in
-    let s = R .splits in
-    let P = R .past in (
+    let s = R .splits in (
       x .1,
       record {
         sound = R .sound;
@@ -90,16 +90,7 @@ refine-makes t m z =
         still = R .still;
         oldVertices = R .places .old;
         rule = R .places .rule;
-        past = record {
-          cornerSlots = R .cornerRoom;
-          linkSlots = R .linkRoom;
-          generationSlots = R .generationRoom;
-          positionSlots = R .places .size;
-          corners = P .corners;
-          links = P .links;
-          generations = P .generations;
-          positions = R .places .past (refine t (atFirst m) .mesh .topology .vertices) (omega arith);
-        };
+        past = same-past (going-on (going-begins (F .sound)) F);
       },
     )
 

@@ -39,7 +39,7 @@ pub record Refined (t s q : ℕ) (m : Mesh) (w : Work) : Type 0 where
   pub cornerRoom : length (reached w .corners) ≡ length (m .topology .corners)
   pub linkRoom : length (reached w .links) ≡ length (m .topology .links)
   pub generationRoom : length (reached w .generations) ≡ length (m .topology .generations)
-  pub past : Past (reached w .triangles) (m .topology) (reached w)
+  pub past : (b : ℕ) → reached w .triangles ≤ b → Past b (m .topology) (reached w)
   pub places : Places m (w .mesh)
 
 pub sound-room : {m : Mesh} {v : ℕ} (s : ℕ) → TablesAgree m → RoomFor v (2 * s) m → Room s (m .topology)
@@ -121,7 +121,7 @@ module _ (t : ℕ) (m : Mesh) (S : Sound m) (b : t < m .topology .triangles) (yo
         cornerRoom = X .cornerRoom;
         linkRoom = X .linkRoom;
         generationRoom = X .generationRoom;
-        past = X .past (reached w .triangles) (omega arith);
+        past = X .past;
         places = X .places;
       }
 

@@ -213,6 +213,13 @@ split-counts : (t : ℕ) (w : Work) → Splittable (reached w) t → splitAt t w
 split-counts t w (isEven e) = rw (split-even t w e) (face-split-counts t w)
 split-counts t w (onBoundary o e) = rw (split-odd t w o) (rim-split-counts t w)
 
+ends-count : {g t : ℕ} (k : ℕ) (w : Work) → Ahead k g t w → splitEnds k t w .flips ≤ w .flips + 3 * k
+unfolding splitEnds
+ends-count zero w A = omega arith
+ends-count {t = t} (suc k) w A =
+    let v = chainEnd (reached w) t in
+    omega (arith, split-counts v w (ahead-end A .fit), ends-count k (splitAt v w) (ahead-on A))
+
 -- The vertices that the splits left take: one each, and one more where the next is a rim split.
 abbrev pub verticesLeft : ℕ → ℕ → Topology → ℕ
 verticesLeft zero t m = 0
@@ -263,6 +270,9 @@ module _ {t : ℕ} {m : Mesh} (R : RefineFound t m) where
   refine-is-split-ends =
       raise-is-split-ends (splitsOf (m .topology) t) _ (atFirst m)
       (omega (arith, chain-bound t m (R .sound) (R .inUse))) ahead
+
+  pub refine-flips : refine t (atFirst m) .flips ≤ 3 * splitsOf (m .topology) t
+  refine-flips = rw refine-is-split-ends (omega (arith, ends-count (splitsOf (m .topology) t) (atFirst m) ahead))
 
   pub few-splits : splitsOf (m .topology) t ≤ 10
   few-splits = omega (arith, chain-bound t m (R .sound) (R .inUse), found-young R)

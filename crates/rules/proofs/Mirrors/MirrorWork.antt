@@ -38,7 +38,7 @@ module _ (k : ℕ) where
       )
 
   -- A test of the topology goes the same way.
-  either : (b : Bool) (x y : Work) {x′ y′ : Work} → x′ ≡ mirrorWork k x → y′ ≡ mirrorWork k y
+  pub either : (b : Bool) (x y : Work) {x′ y′ : Work} → x′ ≡ mirrorWork k x → y′ ≡ mirrorWork k y
       → _≡_ {A = Work} (elim b [ true ↦ x′ | false ↦ y′ ]) (mirrorWork k (elim b [ true ↦ x | false ↦ y ]))
   either true x y e f = e
   either false x y e f = f

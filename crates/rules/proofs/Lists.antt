@@ -1,0 +1,6 @@
+-- Triangles refined one after the other: what a list makes of a mesh, which entry fails, and with what.
+pub mod Going
+pub mod Entries
+pub mod ListCall
+pub mod EveryList
+pub mod InSpares

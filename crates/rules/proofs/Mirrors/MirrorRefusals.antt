@@ -1,0 +1,94 @@
+-- What a call of a mirrored mesh refuses.
+use Prim.Native.Nat.{ℕ, _*_, _%_}
+use native.Mathlib.Omega.{arith}
+use mathlib.Core.List.{List}
+use mathlib.Core.Path.{_≡_}
+use lib.IntN.{ℤ}
+use Rattle.rules.proofs.Loads.Alike.{all-same, SameCorners, corners-fit-same, sides-differ-same, partner-same}
+use Rattle.rules.proofs.Mirrors.MirrorTables.{length-mirror, getD-mirror, fill-mirror}
+use Rattle.rules.proofs.Mirrors.Opposites.{mirror-range}
+use Rattle.rules.proofs.Numbers.Fill.{fill-same}
+use Rattle.rules.specs.Cage.{cageOf, partner, loaded, sizesFit, coordinatesFit, fansFit}
+use Rattle.rules.specs.Calls.{loadRefusal, refineRefusal, wholeStepRefusal, limitRefusal, ringRefusal}
+use Rattle.rules.specs.Calls.{positionRefusal}
+use Rattle.rules.specs.Lists.{sparesRefusal}
+use Rattle.rules.specs.Mirror.{mirrorTable, mirror, mirrorSpares, MirrorCage}
+use Rattle.rules.specs.Sound.{isSound}
+use Rattle.rules.specs.Spares.{Spares, sameSizes}
+use Rattle.rules.specs.Tables.{Mesh, tablesAgree}
+
+module _ (k : ℕ) (m : Mesh) where
+  tables-mirror : tablesAgree (mirror k m) ≡ tablesAgree m
+  unfolding tablesAgree
+  tables-mirror = rw (length-mirror k (m .positions))
+
+  sound-mirror : isSound (mirror k m) ≡ isSound m
+  unfolding isSound
+  sound-mirror = simp (tables-mirror, length-mirror, getD-mirror, mirror-range)
+
+  pub refine-refused : (t : ℕ) → refineRefusal t (mirror k m) ≡ refineRefusal t m
+  unfolding refineRefusal
+  refine-refused t = rw (tables-mirror, sound-mirror, length-mirror k (m .positions))
+
+  pub step-refused : wholeStepRefusal (mirror k m) ≡ wholeStepRefusal m
+  unfolding wholeStepRefusal
+  step-refused = rw (tables-mirror, sound-mirror, length-mirror k (m .positions))
+
+  pub limit-refused : (table : List ℤ) → limitRefusal (mirrorTable k table) (mirror k m) ≡ limitRefusal table m
+  unfolding limitRefusal
+  limit-refused table = rw (tables-mirror, sound-mirror, length-mirror k table)
+
+  pub ring-refused : (v : ℕ) (buffer : List ℕ) → ringRefusal v buffer (mirror k m) ≡ ringRefusal v buffer m
+  unfolding ringRefusal
+  ring-refused v buffer = rw (tables-mirror, sound-mirror)
+
+  pub position-refused : (v : ℕ) → positionRefusal v (mirror k m) ≡ positionRefusal v m
+  unfolding positionRefusal
+  position-refused v = rw (tables-mirror, sound-mirror)
+
+  pub spares-refused : (spares : Spares)
+      → sparesRefusal (mirrorSpares k spares) (mirror k m) ≡ sparesRefusal spares m
+  unfolding sparesRefusal sameSizes
+  spares-refused spares =
+      rw (tables-mirror, sound-mirror, length-mirror k (m .positions), length-mirror k (spares .positions))
+
+  module _ {those these : List ℕ} (C : MirrorCage k those these) where
+    same-corners : SameCorners (cageOf these) (cageOf those)
+    same-corners = record {
+      vertices = C .vertices;
+      triangles = C .triangles;
+      corner = λ h l. C .corners h (omega arith);
+    }
+
+    pub loaded-mirror : loaded (cageOf these) (mirror k m) ≡ mirror k (loaded (cageOf those) m)
+    unfolding loaded
+    loaded-mirror =
+        let c = cageOf these in
+        let d = cageOf those in
+        let t = m .topology in
+        rw (
+          fill-same (3 * c .triangles) (c .corner) (d .corner) (t .corners) (same-corners .corner),
+          fill-same (3 * c .triangles) (partner c) (partner d) (t .links) (partner-same same-corners),
+          C .vertices,
+          C .triangles,
+          fill-mirror k (3 * d .vertices) (d .coordinate) (c .coordinate) (m .positions) (C .coordinates),
+        )
+
+    sizes-mirror : sizesFit these (mirror k m) ≡ sizesFit those m
+    unfolding sizesFit
+    sizes-mirror = rw (C .size, C .vertices, C .triangles, length-mirror k (m .positions))
+
+    coordinates-mirror : coordinatesFit (cageOf these) ≡ coordinatesFit (cageOf those)
+    unfolding coordinatesFit
+    coordinates-mirror = rw (C .vertices) (all-same _ _ _ (λ i b. rw (C .coordinates i b) (mirror-range k (i % 3) _)))
+
+    fans-mirror : fansFit (cageOf these) (mirror k m) ≡ fansFit (cageOf those) m
+    unfolding fansFit
+    fans-mirror = rw (loaded-mirror, C .vertices)
+
+    pub load-refused : (rule : ℕ) → loadRefusal rule these (mirror k m) ≡ loadRefusal rule those m
+    unfolding loadRefusal
+    load-refused rule =
+        let corners = corners-fit-same same-corners in
+        let sides = sides-differ-same same-corners in
+        rw (tables-mirror, sizes-mirror, corners, coordinates-mirror, sides, fans-mirror)

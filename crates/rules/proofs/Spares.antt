@@ -1,0 +1,7 @@
+-- Work in spare tables: what it counts, and that it comes out as in the mesh whose content they hold.
+pub mod Adds
+pub mod Copies
+pub mod CopiedCuts
+pub mod CopiedWork
+pub mod OverSpares
+pub mod CopiedBack
