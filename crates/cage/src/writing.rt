@@ -1,7 +1,7 @@
 // Writes a cage that is not refused into the lent tables.
 ghost use mathlib.Core.Path.{_≡_};
 ghost use Prim.Native.Nat.{_+_, _*_, _≤_};
-ghost use lib.ListN.{length, getD};
+ghost use lib.ListN.{length};
 ghost use Rattle.rules.specs.Below.{fill};
 ghost use Rattle.rules.specs.Cage.{cageOf, loaded};
 ghost use Rattle.rules.specs.Numbers.{numberAt, signed};
@@ -21,19 +21,6 @@ fn place(cage: &[u8], count: usize, positions: &mut [i32])
     let mut i: usize = 0;
     while i < count {
         positions[i] = points::signed_at(cage, 8 + 4 * i);
-        i += 1;
-    }
-}
-
-// The first entries of a list into a table.
-fn copy(list: &[u32], count: usize, table: &mut [u32])
-    requires { ⌜ count ≤ length (now list) ⌝ }
-    requires { ⌜ count ≤ length (now table) ⌝ }
-    ensures { λ _. ⌜ now (table .exit) ≡ fill count (λ i. getD (now (list .entry)) i 0) (now (table .entry)) ⌝ }
-{
-    let mut i: usize = 0;
-    while i < count {
-        table[i] = list[i];
         i += 1;
     }
 }
@@ -78,7 +65,7 @@ pub fn write(
     let coordinates = 3 * (vertices as usize);
     let sides = 3 * (triangles as usize);
     place(cage, coordinates, positions);
-    copy(origins, sides, corners);
-    copy(partners, sides, links);
+    tables::copies::copy(origins, sides, corners);
+    tables::copies::copy(partners, sides, links);
     clear(triangles as usize, generations);
 }

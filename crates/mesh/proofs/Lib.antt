@@ -1,3 +1,4 @@
 -- What the proofs of the calls share.
 pub mod FindRing
 pub mod Refusing
+pub mod InSpares

@@ -1,14 +1,12 @@
 -- The answers of the calls, with what the lent slices hold afterwards, as outcomes of the rules.
 use Prim.Native.Nat.{ℕ, _*_, _≤_}
-use mathlib.Core.Bool.{not}
-use mathlib.Core.List.{List, [], _∷_}
+use mathlib.Core.List.{List}
 use mathlib.Core.Path.{_≡_}
 use lib.IntN.{ℤ}
 use lib.ListN.{length}
-use Rattle.rules.specs.Calls.{Outcome, answerOf, noRoom, ringRoom, outcomeOf, zeroPoint, firstOf, _if_, ringRefusal}
+use Rattle.rules.specs.Calls.{Outcome, answerOf, noRoom, ringRoom, outcomeOf, zeroPoint, ringRefusal}
 use Rattle.rules.specs.Ring.{ring}
-use Rattle.rules.specs.Sound.{isSound}
-use Rattle.rules.specs.Tables.{Mesh, tablesAgree}
+use Rattle.rules.specs.Tables.{Mesh}
 use Rattle.rings.specs.Rings.{ringFrom, Walkable}
 use Rattle.tables.specs.Answers.{tableOutcome}
 use Rattle.tables.specs.Lent.{meshNow}
@@ -16,10 +14,6 @@ use Rattle.mesh.specs.declared.FoundRing.{FoundRing}
 use Rattle.mesh.specs.declared.LimitRead.{LimitRead}
 use Rattle.mesh.specs.declared.RingRead.{RingRead}
 use Rattle.mesh.specs.declared.PositionRead.{PositionRead}
-
--- The first refusal of a mesh, by every call but load.
-abbrev pub standing : Mesh → ℕ
-standing m = firstOf (1 if not (tablesAgree m) ∷ 7 if not (isSound m) ∷ [])
 
 -- The outcome of a call that reads limit positions.
 abbrev pub limitOutcome : LimitRead → List ℤ → List ℕ → List ℕ → List ℕ → List ℤ → Outcome

@@ -3,12 +3,15 @@
 use mesh::LimitRead;
 use mesh::PositionRead;
 use mesh::RingRead;
+use refining::lists::BatchWorked;
 use tables::Counts;
 use tables::Worked;
 ghost use mathlib.Core.Path.{_≡_};
 ghost use Rattle.rules.specs.Calls.{loadCall, refineCall, wholeStepCall, limitCall, ringCall, positionCall};
+ghost use Rattle.rules.specs.Lists.{listCall};
 ghost use Rattle.tables.specs.Answers.{workedOutcome};
-ghost use Rattle.tables.specs.Lent.{meshNow};
+ghost use Rattle.tables.specs.Lent.{meshNow, sparesNow};
+ghost use Rattle.refining.specs.Batches.{batchOutcome};
 ghost use Rattle.mesh.specs.Answers.{limitOutcome, ringOutcome, positionOutcome};
 
 // Loads a cage, to be rounded by a rule.
@@ -63,6 +66,43 @@ pub extern "C" fn rawplinth_whole_step(
         (now (generations .entry))) ⌝ }
 {
     mesh::whole_step(positions, corners, links, generations, counts)
+}
+
+// Refines a list of triangles, all or none, in spare tables.
+#[no_mangle]
+pub extern "C" fn rawplinth_refine_list(
+    positions: &mut [i32],
+    corners: &mut [u32],
+    links: &mut [u32],
+    generations: &mut [u8],
+    counts: Counts,
+    list: &[u32],
+    spare_positions: &mut [i32],
+    spare_corners: &mut [u32],
+    spare_links: &mut [u32],
+    spare_generations: &mut [u8],
+) -> BatchWorked
+    ensures { λ r. ⌜ batchOutcome r (now (positions .exit)) (now (corners .exit)) (now (links .exit))
+        (now (generations .exit))
+        (sparesNow (now («spare_positions» .exit)) (now («spare_corners» .exit)) (now («spare_links» .exit))
+        (now («spare_generations» .exit)))
+        ≡ listCall (now (list .entry)) (sparesNow (now («spare_positions» .entry)) (now («spare_corners» .entry))
+        (now («spare_links» .entry)) (now («spare_generations» .entry)))
+        (meshNow counts (now (positions .entry)) (now (corners .entry)) (now (links .entry))
+        (now (generations .entry))) ⌝ }
+{
+    mesh::lists::refine_list(
+        positions,
+        corners,
+        links,
+        generations,
+        counts,
+        list,
+        spare_positions,
+        spare_corners,
+        spare_links,
+        spare_generations,
+    )
 }
 
 // Writes the limit position of each vertex.

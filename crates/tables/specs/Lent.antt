@@ -6,6 +6,7 @@ use lib.IntN.{ℤ, pos}
 use lib.ListN.{length, getD}
 use Rattle.points.specs.Axes.{eachAxis}
 use Rattle.points.specs.declared.Point.{Point}
+use Rattle.rules.specs.Spares.{Spares}
 use Rattle.rules.specs.Tables.{Topology, Mesh, topologyOf, meshOf, origin, link, generation, putThree, putTriangle}
 use Rattle.tables.specs.declared.Counts.{Counts}
 use Rattle.tables.specs.declared.Triangle.{Triangle}
@@ -17,6 +18,22 @@ topologyNow n corners links generations = topologyOf (n .vertices) (n .triangles
 abbrev pub meshNow : Counts → List ℤ → List ℕ → List ℕ → List ℕ → Mesh
 meshNow n positions corners links generations =
     meshOf (topologyNow n corners links generations) positions (n .rule)
+
+-- Spare tables.
+abbrev pub sparesNow : List ℤ → List ℕ → List ℕ → List ℕ → Spares
+sparesNow positions corners links generations = record {
+  positions = positions;
+  corners = corners;
+  links = links;
+  generations = generations;
+}
+
+-- Tables with slots for so many vertices and triangles.
+pub record HasSlots (n : Counts) (p : List ℤ) (c l g : List ℕ) : Type 0 where
+  pub positions : 3 * n .vertices ≤ length p
+  pub corners : 3 * n .triangles ≤ length c
+  pub links : 3 * n .triangles ≤ length l
+  pub generations : n .triangles ≤ length g
 
 -- The triangles' tables agree in their slots and keep to the maximum.
 pub record TrianglesAgree (c l g : List ℕ) : Type 0 where

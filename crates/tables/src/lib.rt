@@ -10,6 +10,7 @@ ghost use Rattle.tables.specs.declared.Counts.{Counts};
 ghost use Rattle.tables.specs.Lent.{meshNow, topologyNow, TrianglesAgree, VerticesAgree};
 ghost use Rattle.tables.specs.Lent.{triangleAt, entries, put, pointIn, putPoint};
 
+pub mod copies;
 pub mod sides;
 
 // The slots in use, which are the first of their tables, and the rule of rounding, 1 or 2.

@@ -3,7 +3,8 @@ use borrow.Author.Needs.{needs}
 use Rattle.rules.proofs.Steps.StepRefusals.{limit-refused}
 use Rattle.rules.specs.Tables.{Mesh}
 use Rattle.tables.specs.Lent.{meshNow}
-use Rattle.mesh.proofs.Refusing.{limit-standing, standing-sound}
+use Rattle.mesh.proofs.Refusing.{limit-standing}
+use Rattle.refining.proofs.Refusing.{standing-sound}
 use Rattle.mesh.proofs.limit.Statement.{statement}
 use Rattle.mesh.proofs.limit.Tie as tie
 

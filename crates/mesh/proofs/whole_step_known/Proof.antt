@@ -2,7 +2,8 @@
 use Rattle.rules.proofs.Steps.StepRefusals.{step-refused}
 use Rattle.rules.specs.Tables.{Mesh}
 use Rattle.tables.specs.Lent.{meshNow}
-use Rattle.mesh.proofs.Refusing.{step-standing, standing-sound}
+use Rattle.mesh.proofs.Refusing.{step-standing}
+use Rattle.refining.proofs.Refusing.{standing-sound}
 use borrow.Author.Needs.{needs}
 use Rattle.mesh.proofs.whole_step_known.Statement.{statement}
 use Rattle.mesh.proofs.whole_step_known.Tie as tie

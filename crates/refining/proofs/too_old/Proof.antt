@@ -1,13 +1,13 @@
--- `mesh::too_old` meets its contract.
+-- `refining::too_old` meets its contract.
 use borrow.Author.Needs.{needs}
 use Prim.Native.Nat.{ℕ}
 use mathlib.Core.List.{List}
 use Rattle.rules.specs.Tables.{Topology}
 use Rattle.tables.specs.declared.Counts.{Counts}
 use Rattle.tables.specs.Lent.{topologyNow}
-use Rattle.mesh.proofs.Refusing.{old-twenty, old-nineteen, old-none}
-use Rattle.mesh.proofs.too_old.Statement.{statement}
-use Rattle.mesh.proofs.too_old.Tie as tie
+use Rattle.refining.proofs.Refusing.{old-twenty, old-nineteen, old-none}
+use Rattle.refining.proofs.too_old.Statement.{statement}
+use Rattle.refining.proofs.too_old.Tie as tie
 
 generation-at-requires : tie.Need-generation-at-requires
 generation-at-requires c κs = search needs

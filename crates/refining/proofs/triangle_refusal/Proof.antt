@@ -1,4 +1,4 @@
--- `mesh::triangle_refusal` meets its contract.
+-- `refining::triangle_refusal` meets its contract.
 use Prim.Native.Nat.{ℕ}
 use borrow.Author.Tests.{le-leb, lt-leb}
 use mathlib.Core.List.{List}
@@ -6,10 +6,10 @@ use mathlib.Core.Path.{sym, _∙_}
 use lib.IntN.{ℤ}
 use Rattle.rules.specs.Tables.{Mesh}
 use Rattle.tables.specs.Lent.{meshNow}
-use Rattle.mesh.proofs.Refusing.{triangle-standing, triangle-eight, triangle-nine, triangle-none}
+use Rattle.refining.proofs.Refusing.{triangle-standing, triangle-eight, triangle-nine, triangle-none}
 use borrow.Author.Needs.{needs}
-use Rattle.mesh.proofs.triangle_refusal.Statement.{statement}
-use Rattle.mesh.proofs.triangle_refusal.Tie as tie
+use Rattle.refining.proofs.triangle_refusal.Statement.{statement}
+use Rattle.refining.proofs.triangle_refusal.Tie as tie
 
 abbrev mesh-of : tie.Start → List ℤ → List ℕ → Mesh
 mesh-of c positions corners =

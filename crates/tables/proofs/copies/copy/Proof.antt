@@ -1,4 +1,4 @@
--- `cage::writing::copy` meets its contract: the first i entries are copied.
+-- `tables::copies::copy` meets its contract: the first i entries are copied.
 use borrow.Author.Needs.{needs}
 use Prim.Native.Nat.{_-_, _≤_}
 use native.Mathlib.Omega.{arith}
@@ -6,31 +6,31 @@ use mathlib.Core.Path.{_≡_, refl}
 use lib.ListN.{length, getD, length-set}
 use Rattle.rules.proofs.Numbers.Fill.{fill-more}
 use Rattle.rules.specs.Below.{fill}
-use Rattle.cage.proofs.writing.copy.Statement.{statement}
-use Rattle.cage.proofs.writing.copy.Tie as tie
+use Rattle.tables.proofs.copies.copy.Statement.{statement}
+use Rattle.tables.proofs.copies.copy.Tie as tie
 
 abbrev Inv-loop : tie.InvT-loop
-Inv-loop list count table₀ i₀ table i =
-    (i ≤ count) × (length table ≡ length table₀) × (table ≡ fill i (λ k. getD list k 0) table₀)
+Inv-loop from count to₀ i₀ to i =
+    (i ≤ count) × (length to ≡ length to₀) × (to ≡ fill i (λ k. getD from k 0) to₀)
 
 abbrev μ-loop : tie.MeasureT-loop
-μ-loop list count table₀ i₀ table i = count - i
+μ-loop from count to₀ i₀ to i = count - i
 
 loop-holds : tie.Need-loop-holds Inv-loop μ-loop
 unfolding fill
 loop-holds c = search needs
 
-mul-table : tie.Need-mul-table Inv-loop μ-loop
-mul-table c = search needs
+mul-to : tie.Need-mul-to Inv-loop μ-loop
+mul-to c = search needs
 
-shared-slice-read-table : tie.Need-shared-slice-read-table Inv-loop μ-loop
-shared-slice-read-table c = search needs
+shared-slice-read-to : tie.Need-shared-slice-read-to Inv-loop μ-loop
+shared-slice-read-to c = search needs
 
-mul-table-2 : tie.Need-mul-table-2 Inv-loop μ-loop
-mul-table-2 c = search needs
+mul-to-2 : tie.Need-mul-to-2 Inv-loop μ-loop
+mul-to-2 c = search needs
 
-slice-write-table : tie.Need-slice-write-table Inv-loop μ-loop
-slice-write-table c = search needs
+slice-write-to : tie.Need-slice-write-to Inv-loop μ-loop
+slice-write-to c = search needs
 
 add-i : tie.Need-add-i Inv-loop μ-loop
 add-i c = search needs
@@ -58,10 +58,10 @@ copy-spec =
     Inv-loop
     μ-loop
     loop-holds
-    mul-table
-    shared-slice-read-table
-    mul-table-2
-    slice-write-table
+    mul-to
+    shared-slice-read-to
+    mul-to-2
+    slice-write-to
     add-i
     loop-less
     loop-again

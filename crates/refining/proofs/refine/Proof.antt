@@ -1,15 +1,15 @@
--- `mesh::refine_known` meets its contract.
+-- `refining::refine` meets its contract.
 use mathlib.Core.Path.{_≡_, sym, ap, _∙_}
 use Rattle.rules.proofs.Calls.Carried.{refine-found}
 use Rattle.rules.specs.Calls.{worked, refineRefusal}
 use Rattle.rules.specs.Tables.{Mesh}
 use Rattle.tables.specs.Lent.{meshNow}
 use Rattle.split.specs.Made.{BaseChain}
-use Rattle.mesh.proofs.Refusing.{triangleRefusal, refine-triangle, refine-chain, refine-young, refine-refused}
-use Rattle.mesh.proofs.Refusing.{refine-carried}
+use Rattle.refining.proofs.Refusing.{triangleRefusal, refine-triangle, refine-chain, refine-young, refine-refused}
+use Rattle.refining.proofs.Refusing.{refine-carried}
 use borrow.Author.Needs.{needs}
-use Rattle.mesh.proofs.refine_known.Statement.{statement}
-use Rattle.mesh.proofs.refine_known.Tie as tie
+use Rattle.refining.proofs.refine.Statement.{statement}
+use Rattle.refining.proofs.refine.Tie as tie
 
 abbrev mesh-of : tie.Start → Mesh
 mesh-of c =
@@ -114,8 +114,8 @@ returns-3 c =
     ap worked (at-refine .refine .ensures)
     ∙ refine-carried (start at .args .t) (mesh-of (start at)) _ (refusal-is at) (at-if2 .if2 .left)
 
-pub refine-known-spec : {M : Type 1} → statement M
-refine-known-spec =
+pub refine-spec : {M : Type 1} → statement M
+refine-spec =
     tie.close
     (tie.spec
     triangle-refusal-requires

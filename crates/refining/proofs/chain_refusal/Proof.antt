@@ -1,4 +1,4 @@
--- `mesh::chain_refusal` meets its contract.
+-- `refining::chain_refusal` meets its contract.
 use borrow.Author.Needs.{needs}
 use borrow.Author.Tests.{not-true, not-false}
 use Prim.Native.Nat.{ℕ, _+_, _-_, _*_, max}
@@ -7,9 +7,9 @@ use mathlib.Core.Path.{_≡_, sym, ap, _∙_}
 use Rattle.rules.specs.Calls.{roomFor}
 use Rattle.rules.specs.Tables.{Mesh}
 use Rattle.tables.specs.Lent.{meshNow}
-use Rattle.mesh.proofs.Refusing.{chain-eleven, chain-none}
-use Rattle.mesh.proofs.chain_refusal.Statement.{statement}
-use Rattle.mesh.proofs.chain_refusal.Tie as tie
+use Rattle.refining.proofs.Refusing.{chain-eleven, chain-none}
+use Rattle.refining.proofs.chain_refusal.Statement.{statement}
+use Rattle.refining.proofs.chain_refusal.Tie as tie
 
 -- What is told of the room, with whatever corners and links.
 module _ (c : tie.After-has-room) (corners links : List ℕ) where

@@ -1,0 +1,97 @@
+-- `mesh::lists::refine_list` meets its contract.
+use borrow.Author.Needs.{needs}
+use mathlib.Core.Path.{_∙_}
+use Rattle.mesh.proofs.InSpares.{may-work, list-refused, list-carried}
+use Rattle.mesh.proofs.lists.refine_list.Statement.{statement}
+use Rattle.mesh.proofs.lists.refine_list.Tie as tie
+
+spares-refusal-requires : tie.Need-spares-refusal-requires
+spares-refusal-requires c κs = search needs
+
+same-length : tie.Need-same-length
+same-length c = search needs
+
+same-length-2 : tie.Need-same-length-2
+same-length-2 c = search needs
+
+same-length-3 : tie.Need-same-length-3
+same-length-3 c = search needs
+
+same-length-4 : tie.Need-same-length-4
+same-length-4 c = search needs
+
+same-length-5 : tie.Need-same-length-5
+same-length-5 c = search needs
+
+same-length-6 : tie.Need-same-length-6
+same-length-6 c = search needs
+
+same-length-7 : tie.Need-same-length-7
+same-length-7 c = search needs
+
+same-length-8 : tie.Need-same-length-8
+same-length-8 c = search needs
+
+returns : tie.Need-returns
+returns c = list-refused _ _ _ (c .before .spares-refusal .ensures) _ (c .if1 .taken)
+
+refine-list-requires : tie.Need-refine-list-requires
+refine-list-requires c κs =
+    let at-if1 = c .before .before .before .before .before .before .before .before in
+    may-work _ _ _ (at-if1 .before .spares-refusal .ensures) (at-if1 .if1 .left)
+
+same-length-9 : tie.Need-same-length-9
+same-length-9 c = search needs
+
+same-length-10 : tie.Need-same-length-10
+same-length-10 c = search needs
+
+same-length-11 : tie.Need-same-length-11
+same-length-11 c = search needs
+
+same-length-12 : tie.Need-same-length-12
+same-length-12 c = search needs
+
+same-length-13 : tie.Need-same-length-13
+same-length-13 c = search needs
+
+same-length-14 : tie.Need-same-length-14
+same-length-14 c = search needs
+
+same-length-15 : tie.Need-same-length-15
+same-length-15 c = search needs
+
+same-length-16 : tie.Need-same-length-16
+same-length-16 c = search needs
+
+returns-2 : tie.Need-returns-2
+returns-2 c =
+    let at-list = c .before .before .before .before .before .before .before .before .before .before .before .before .before .before in
+    let at-if1 = at-list .before .before .before .before .before .before .before .before .before in
+    at-list .refine-list .ensures
+    ∙ list-carried _ _ _ (at-if1 .before .spares-refusal .ensures) _ (at-if1 .if1 .left)
+
+pub refine-list-spec : {M : Type 1} → statement M
+refine-list-spec =
+    tie.close
+    (tie.spec
+    spares-refusal-requires
+    same-length
+    same-length-2
+    same-length-3
+    same-length-4
+    same-length-5
+    same-length-6
+    same-length-7
+    same-length-8
+    returns
+    refine-list-requires
+    same-length-9
+    same-length-10
+    same-length-11
+    same-length-12
+    same-length-13
+    same-length-14
+    same-length-15
+    same-length-16
+    returns-2)

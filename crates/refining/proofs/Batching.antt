@@ -1,0 +1,147 @@
+-- A list handled in spare tables: its start, and its entries by the answers of their tests.
+use borrow.Author.Tests.{le-leb, lt-leb, lt-ltb, le-ltb}
+use mathlib.Core.Bool.{Bool, true, false}
+use mathlib.Core.List.{List}
+use mathlib.Core.Path.{_≡_, refl, sym, ap, ap₂, _∙_}
+use Prim.Native.Nat.{ℕ, _≤_, _<_}
+use native.Mathlib.Omega.{arith}
+use lib.Dec.{leb}
+use lib.IntN.{ℤ}
+use lib.ListN.{length, getD}
+use Rattle.rules.proofs.Lists.InSpares.{entryOutcome, Doing, doing-begins, Done, going-sizes}
+use Rattle.rules.proofs.Lists.ListCall.{folded}
+use Rattle.rules.proofs.Numbers.Fill.{length-fill}
+use Rattle.rules.proofs.Soundness.Relaxed.{SameSlots}
+use Rattle.rules.proofs.Spares.OverSpares.{over, over-sound}
+use Rattle.rules.specs.Calls.{noRoom, refusedWith, worked, unless, refineRefusal, refineCall}
+use Rattle.rules.specs.Lists.{risen, entryRefusal, entryWork, refineEach}
+use Rattle.rules.specs.Sound.{Sound}
+use Rattle.rules.specs.Spares.{Spares, copied, meshIn, SameSizes}
+use Rattle.rules.specs.Split.{Work, atFirst, refine}
+use Rattle.rules.specs.Tables.{Mesh, generation}
+use Rattle.tables.specs.declared.Counts.{Counts}
+use Rattle.tables.specs.Lent.{meshNow, HasSlots}
+use Rattle.refining.specs.Batches.{StartsWith, Begins, MayWork}
+use Rattle.refining.proofs.Refusing.{standing-sound}
+
+module _ (m x : Mesh) (f t : ℕ) (g : List ℕ) (W : StartsWith f g m) where
+  by-tests : {c r : Bool} → leb (m .topology .triangles) t ≡ c → risen m t x ≡ r →
+      let n : ℕ = elim c [ true ↦ 8 | false ↦ elim r [ true ↦ 0 | false ↦ refineRefusal t x ] ] in
+      let w : Work = elim r [ true ↦ atFirst x | false ↦ refine t (atFirst x) ] in
+      unless n x noRoom (worked w) ≡ entryOutcome m t x
+  unfolding entryRefusal entryWork
+  by-tests e q =
+      ap₂ (λ (c r : Bool).
+      let n : ℕ = elim c [ true ↦ 8 | false ↦ elim r [ true ↦ 0 | false ↦ refineRefusal t x ] ] in
+      let w : Work = elim r [ true ↦ atFirst x | false ↦ refine t (atFirst x) ] in
+      unless n x noRoom (worked w))
+      (sym e) (sym q)
+
+  pub entry-eight : f ≤ t → refusedWith 8 x noRoom ≡ entryOutcome m t x
+  entry-eight l = by-tests (le-leb (m .topology .triangles) t (omega (arith, W .triangles))) refl
+
+  module _ (l : t < f) where
+    in-use : leb (m .topology .triangles) t ≡ false
+    in-use = lt-leb (m .topology .triangles) t (omega (arith, W .triangles))
+
+    pub entry-passed : getD g t 0 < generation (x .topology) t → worked (atFirst x) ≡ entryOutcome m t x
+    entry-passed r = by-tests in-use (lt-ltb _ _ (rw (W .generations) at r))
+
+    pub entry-refined : generation (x .topology) t ≤ getD g t 0 → refineCall t x ≡ entryOutcome m t x
+    unfolding refineCall
+    entry-refined r = by-tests in-use (le-ltb _ _ (rw (W .generations) at r))
+
+-- ---- the start
+
+module _ {m x : Mesh} {s : Spares} {g : List ℕ} (B : Begins m s g x) where
+  pub begins-with : StartsWith (x .topology .triangles) g m
+  begins-with = record {
+    triangles = ap (λ (y : Mesh). y .topology .triangles) (B .tables);
+    generations = B .generations;
+  }
+
+  pub begins-doing : (list : List ℕ) → Doing m s list 0 0 0 x
+  begins-doing list = rw (B .tables) (doing-begins list (B .sizes) (B .sound))
+
+-- ---- the tables keep their lengths
+
+over-sizes : (s : Spares) (m : Mesh) → SameSizes s (over s m)
+unfolding copied
+over-sizes s m = record {
+  positions = sym (length-fill _ _ (s .positions));
+  corners = sym (length-fill _ _ (s .corners));
+  links = sym (length-fill _ _ (s .links));
+  generations = sym (length-fill _ _ (s .generations));
+}
+
+-- Two meshes copied into the same tables.
+pub over-slots : (s : Spares) (m n : Mesh) {x y : Mesh} → x ≡ over s m → y ≡ over s n → SameSlots x y
+over-slots s m n e f =
+    let a = over-sizes s m in
+    let b = over-sizes s n in
+    rw (e, f) (record {
+      positions = sym (b .positions) ∙ a .positions;
+      corners = sym (b .corners) ∙ a .corners;
+      links = sym (b .links) ∙ a .links;
+      generations = sym (b .generations) ∙ a .generations;
+    })
+
+-- ---- slots for what is copied
+
+pub has-slots : (n : Counts) {p : List ℤ} {c l g : List ℕ} → Sound (meshNow n p c l g) → HasSlots n p c l g
+has-slots n S =
+    let A = S .tables in
+    record {
+      positions = omega (arith, A .positions, S .vertexRoom);
+      corners = omega (arith, A .corners, S .triangleRoom);
+      links = omega (arith, A .links, S .triangleRoom);
+      generations = S .triangleRoom;
+    }
+
+-- Tables as long have the same.
+same-slots : {n : Counts} {p q : List ℤ} {c l g d k h : List ℕ} → HasSlots n p c l g → length q ≡ length p
+    → length d ≡ length c → length k ≡ length l → length h ≡ length g → HasSlots n q d k h
+same-slots H a b c d = record {
+  positions = omega (arith, H .positions);
+  corners = omega (arith, H .corners);
+  links = omega (arith, H .links);
+  generations = omega (arith, H .generations);
+}
+
+module _ {m : Mesh} {s : Spares} (W : MayWork m s) where
+  pub may-sound : Sound m
+  may-sound = standing-sound m 0 (W .stands) refl
+
+  pub may-begin : {x : Spares} → x ≡ copied m s → Begins m s (m .topology .generations) (meshIn x m)
+  may-begin e = record {
+    sound = may-sound;
+    sizes = W .sizes;
+    generations = refl;
+    tables = ap (λ (y : Spares). meshIn y m) e;
+  }
+
+-- The mesh copied into the spare tables, and what a list made of it copied back.
+module _ (n : Counts) {p : List ℤ} {c l g : List ℕ} {s : Spares} (W : MayWork (meshNow n p c l g) s) where
+  pub slots-there : HasSlots n p c l g × HasSlots n (s .positions) (s .corners) (s .links) (s .generations)
+  slots-there =
+      let H = has-slots n (may-sound W) in
+      let L = W .sizes in
+      (H, same-slots H (L .positions) (L .corners) (L .links) (L .generations))
+
+  pub slots-back : (list : List ℕ) (k : Counts) {q : List ℤ} {d f h : List ℕ} {e at i j : ℕ}
+      → Done (refineEach list (meshNow n p c l g)) s e at i j (meshNow k q d f h)
+      → HasSlots k q d f h × HasSlots k p c l g
+  slots-back list k {q} {d} {f} {h} D =
+      let m = meshNow n p c l g in
+      let S = may-sound W in
+      let G = folded list s m S .going in
+      let X : Sound (meshNow k q d f h) = rw (D .tables) (over-sound (going-sizes (W .sizes) G) (G .sound)) in
+      let H = has-slots k X in
+      let L = W .sizes in
+      let R = over-slots s m (refineEach list m .work .mesh) refl (D .tables) in
+      let Z = over-sizes s m in (
+        H,
+        same-slots H (sym (L .positions) ∙ Z .positions ∙ sym (R .positions))
+            (sym (L .corners) ∙ Z .corners ∙ sym (R .corners)) (sym (L .links) ∙ Z .links ∙ sym (R .links))
+            (sym (L .generations) ∙ Z .generations ∙ sym (R .generations)),
+      )

@@ -1,0 +1,3 @@
+-- Laws that the proofs of refines use.
+pub mod Refusing
+pub mod Batching

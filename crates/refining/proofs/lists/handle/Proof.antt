@@ -1,0 +1,79 @@
+-- `refining::lists::handle` meets its contract.
+use borrow.Author.Needs.{needs}
+use mathlib.Core.Path.{_∙_}
+use Rattle.rules.specs.Tables.{Mesh}
+use Rattle.tables.specs.Lent.{meshNow}
+use Rattle.refining.proofs.Batching.{entry-eight, entry-passed, entry-refined}
+use Rattle.refining.proofs.lists.handle.Statement.{statement}
+use Rattle.refining.proofs.lists.handle.Tie as tie
+
+abbrev mesh-of : tie.Start → Mesh
+mesh-of c =
+    let args = c .args in
+    meshNow (args .counts) (args .positions .now) (args .corners .now) (args .links .now) (args .generations .now)
+
+returns : tie.Need-returns
+returns c m W =
+    let start = c .before .before .before .before .before in
+    entry-eight m (mesh-of start) _ _ _ W (c .if1 .taken)
+
+generation-at-requires : tie.Need-generation-at-requires
+generation-at-requires c κs = search needs
+
+generation-at-requires-2 : tie.Need-generation-at-requires-2
+generation-at-requires-2 c κs = search needs
+
+same-length : tie.Need-same-length
+same-length c = search needs
+
+returns-2 : tie.Need-returns-2
+returns-2 c m W =
+    let at-second = c .before in
+    let at-first = at-second .before .before in
+    let at-if1 = at-first .before in
+    let start = at-if1 .before .before .before .before .before in
+    entry-passed m (mesh-of start) _ _ _ W (at-if1 .if1 .left)
+    (rw (at-first .generation-at .ensures, at-second .generation-at2 .ensures) at (c .if2 .taken))
+
+refine-requires : tie.Need-refine-requires
+refine-requires c κs = search needs
+
+same-length-2 : tie.Need-same-length-2
+same-length-2 c = search needs
+
+same-length-3 : tie.Need-same-length-3
+same-length-3 c = search needs
+
+same-length-4 : tie.Need-same-length-4
+same-length-4 c = search needs
+
+same-length-5 : tie.Need-same-length-5
+same-length-5 c = search needs
+
+returns-3 : tie.Need-returns-3
+returns-3 c m W =
+    let at-refine = c .before .before .before .before .before .before .before in
+    let at-if2 = at-refine .before .before .before .before .before in
+    let at-second = at-if2 .before in
+    let at-first = at-second .before .before in
+    let at-if1 = at-first .before in
+    let start = at-if1 .before .before .before .before .before in
+    at-refine .refine .ensures
+    ∙ entry-refined m (mesh-of start) _ _ _ W (at-if1 .if1 .left)
+    (rw (at-first .generation-at .ensures, at-second .generation-at2 .ensures) at (at-if2 .if2 .left))
+
+pub handle-spec : {M : Type 1} → statement M
+handle-spec =
+    tie.close
+    (tie.spec
+    returns
+    generation-at-requires
+    generation-at-requires-2
+    same-length
+    returns-2
+    refine-requires
+    same-length-2
+    same-length-3
+    same-length-4
+    same-length-5
+    returns-3)

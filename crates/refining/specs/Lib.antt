@@ -1,0 +1,3 @@
+-- What the contracts of refines cite beside the rules.
+pub mod Standing
+pub mod Batches

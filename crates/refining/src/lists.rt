@@ -1,0 +1,238 @@
+// A list of triangles refined one after the other, in spare tables.
+use tables::Counts;
+use tables::Worked;
+ghost use mathlib.Core.Path.{_≡_};
+ghost use Rattle.rules.proofs.Lists.InSpares.{entryOutcome};
+ghost use Rattle.rules.specs.Spares.{Spares};
+ghost use Rattle.rules.specs.Tables.{Mesh};
+ghost use Rattle.tables.specs.Answers.{workedOutcome};
+ghost use Rattle.tables.specs.Lent.{meshNow, sparesNow};
+ghost use Rattle.refining.specs.Batches.{StartsWith, Begins, Handles, MayWork, listDone, batchOutcome};
+ghost use Rattle.refining.specs.Standing.{standing};
+
+// How far a list was handled, with what its entries made: the number that the next one failed with, 0 for none, and the
+// counts of the mesh in the spare tables.
+pub struct Batch {
+    pub refusal: u32,
+    pub splits: u32,
+    pub flips: u32,
+    pub handled: usize,
+    pub counts: Counts,
+}
+
+// Handles entry t on a sound mesh, judged by the triangles that were in use at the call's start, and their generations.
+fn handle(
+    positions: &mut [i32],
+    corners: &mut [u32],
+    links: &mut [u32],
+    generations: &mut [u8],
+    counts: Counts,
+    t: u32,
+    triangles: u32,
+    start: &[u8],
+) -> Worked
+    requires { ⌜ 0 ≡ standing (meshNow counts (now positions) (now corners) (now links) (now generations)) ⌝ }
+    ensures { λ r. ⌜ ((m : Mesh) → StartsWith triangles (now (start .entry)) m →
+        workedOutcome r (now (positions .exit)) (now (corners .exit)) (now (links .exit)) (now (generations .exit))
+        ≡ entryOutcome m t (meshNow counts (now (positions .entry)) (now (corners .entry)) (now (links .entry))
+        (now (generations .entry)))) ⌝ }
+{
+    if triangles <= t {
+        return Worked {
+            refusal: 8,
+            splits: 0,
+            flips: 0,
+            counts,
+        };
+    }
+    if tables::generation_at(start, t) < tables::generation_at(generations, t) {
+        return Worked {
+            refusal: 0,
+            splits: 0,
+            flips: 0,
+            counts,
+        };
+    }
+    crate::refine(positions, corners, links, generations, counts, t, 0)
+}
+
+// Handles the entries of a list in tables that hold the mesh, whose generations at the call's start are given.
+fn handle_all(
+    positions: &mut [i32],
+    corners: &mut [u32],
+    links: &mut [u32],
+    generations: &mut [u8],
+    counts: Counts,
+    list: &[u32],
+    start: &[u8],
+) -> Batch
+    requires { ⌜ ((m : Mesh) × (s : Spares) ×
+        Begins m s (now start) (meshNow counts (now positions) (now corners) (now links) (now generations))) ⌝ }
+    ensures { λ r. ⌜ ((m : Mesh) (s : Spares) →
+        Begins m s (now (start .entry)) (meshNow counts (now (positions .entry)) (now (corners .entry))
+        (now (links .entry)) (now (generations .entry)))
+        → Handles (now (list .entry)) m s r (meshNow (r .counts) (now (positions .exit)) (now (corners .exit))
+        (now (links .exit)) (now (generations .exit)))) ⌝ }
+{
+    let mut at: usize = 0;
+    let mut splits: u32 = 0;
+    let mut flips: u32 = 0;
+    let mut reached = counts;
+    while at < list.len() {
+        let done = handle(
+            positions,
+            corners,
+            links,
+            generations,
+            reached,
+            list[at],
+            counts.triangles,
+            start,
+        );
+        reached = done.counts;
+        if done.refusal != 0 {
+            return Batch {
+                refusal: done.refusal,
+                splits,
+                flips,
+                handled: at,
+                counts: reached,
+            };
+        }
+        splits += done.splits;
+        flips += done.flips;
+        at += 1;
+    }
+    Batch {
+        refusal: 0,
+        splits,
+        flips,
+        handled: at,
+        counts: reached,
+    }
+}
+
+// What a list makes of a mesh, worked out in the spare tables.
+fn work_in_spares(
+    positions: &[i32],
+    corners: &[u32],
+    links: &[u32],
+    generations: &[u8],
+    counts: Counts,
+    list: &[u32],
+    spare_positions: &mut [i32],
+    spare_corners: &mut [u32],
+    spare_links: &mut [u32],
+    spare_generations: &mut [u8],
+) -> Batch
+    requires { ⌜ MayWork (meshNow counts (now positions) (now corners) (now links) (now generations))
+        (sparesNow (now «spare_positions») (now «spare_corners») (now «spare_links») (now «spare_generations»)) ⌝ }
+    ensures { λ r. ⌜
+        Handles (now (list .entry)) (meshNow counts (now (positions .entry)) (now (corners .entry))
+        (now (links .entry)) (now (generations .entry)))
+        (sparesNow (now («spare_positions» .entry)) (now («spare_corners» .entry)) (now («spare_links» .entry))
+        (now («spare_generations» .entry)))
+        r (meshNow (r .counts) (now («spare_positions» .exit)) (now («spare_corners» .exit))
+        (now («spare_links» .exit)) (now («spare_generations» .exit))) ⌝ }
+{
+    tables::copies::copy_mesh(
+        positions,
+        corners,
+        links,
+        generations,
+        counts,
+        spare_positions,
+        spare_corners,
+        spare_links,
+        spare_generations,
+    );
+    handle_all(
+        spare_positions,
+        spare_corners,
+        spare_links,
+        spare_generations,
+        counts,
+        list,
+        generations,
+    )
+}
+
+// The answer of a call that refines several triangles in spare tables: how many entries were handled, which is all of
+// them unless one failed, and the counts of the mesh that the spare tables hold, 0 where none was copied.
+#[repr(C)]
+pub struct BatchWorked {
+    pub refusal: u32,
+    pub splits: u32,
+    pub flips: u32,
+    pub counts: Counts,
+    pub handled: usize,
+    pub spares: Counts,
+}
+
+// Refines a list of triangles: all of them, or none of the mesh.
+pub fn refine_list(
+    positions: &mut [i32],
+    corners: &mut [u32],
+    links: &mut [u32],
+    generations: &mut [u8],
+    counts: Counts,
+    list: &[u32],
+    spare_positions: &mut [i32],
+    spare_corners: &mut [u32],
+    spare_links: &mut [u32],
+    spare_generations: &mut [u8],
+) -> BatchWorked
+    requires { ⌜ MayWork (meshNow counts (now positions) (now corners) (now links) (now generations))
+        (sparesNow (now «spare_positions») (now «spare_corners») (now «spare_links») (now «spare_generations»)) ⌝ }
+    ensures { λ r. ⌜
+        batchOutcome r (now (positions .exit)) (now (corners .exit)) (now (links .exit)) (now (generations .exit))
+        (sparesNow (now («spare_positions» .exit)) (now («spare_corners» .exit)) (now («spare_links» .exit))
+        (now («spare_generations» .exit)))
+        ≡ listDone (now (list .entry)) (meshNow counts (now (positions .entry)) (now (corners .entry))
+        (now (links .entry)) (now (generations .entry)))
+        (sparesNow (now («spare_positions» .entry)) (now («spare_corners» .entry)) (now («spare_links» .entry))
+        (now («spare_generations» .entry))) ⌝ }
+{
+    let made = work_in_spares(
+        positions,
+        corners,
+        links,
+        generations,
+        counts,
+        list,
+        spare_positions,
+        spare_corners,
+        spare_links,
+        spare_generations,
+    );
+    let reached = made.counts;
+    if made.refusal != 0 {
+        return BatchWorked {
+            refusal: made.refusal,
+            splits: 0,
+            flips: 0,
+            counts,
+            handled: made.handled,
+            spares: reached,
+        };
+    }
+    tables::copies::copy_mesh(
+        spare_positions,
+        spare_corners,
+        spare_links,
+        spare_generations,
+        reached,
+        positions,
+        corners,
+        links,
+        generations,
+    );
+    BatchWorked {
+        refusal: 0,
+        splits: made.splits,
+        flips: made.flips,
+        counts: reached,
+        handled: made.handled,
+        spares: reached,
+    }
+}

@@ -1,0 +1,61 @@
+-- `tables::copies::copy_generations` meets its contract: the first i entries are copied.
+use borrow.Author.Needs.{needs}
+use Prim.Native.Nat.{_-_, _≤_}
+use native.Mathlib.Omega.{arith}
+use mathlib.Core.Path.{_≡_, refl}
+use lib.ListN.{length, getD, length-set}
+use Rattle.rules.proofs.Numbers.Fill.{fill-more}
+use Rattle.rules.specs.Below.{fill}
+use Rattle.tables.proofs.copies.copy_generations.Statement.{statement}
+use Rattle.tables.proofs.copies.copy_generations.Tie as tie
+
+abbrev Inv-loop : tie.InvT-loop
+Inv-loop from count to₀ i₀ to i =
+    (i ≤ count) × (length to ≡ length to₀) × (to ≡ fill i (λ k. getD from k 0) to₀)
+
+abbrev μ-loop : tie.MeasureT-loop
+μ-loop from count to₀ i₀ to i = count - i
+
+loop-holds : tie.Need-loop-holds Inv-loop μ-loop
+unfolding fill
+loop-holds c = search needs
+
+shared-slice-read-to : tie.Need-shared-slice-read-to Inv-loop μ-loop
+shared-slice-read-to c = search needs
+
+slice-write-to : tie.Need-slice-write-to Inv-loop μ-loop
+slice-write-to c = search needs
+
+add-i : tie.Need-add-i Inv-loop μ-loop
+add-i c = search needs
+
+loop-less : tie.Need-loop-less Inv-loop μ-loop
+loop-less c = search needs
+
+loop-again : tie.Need-loop-again Inv-loop μ-loop
+loop-again c =
+    let inv = c .before .before .loop .inv in
+    (omega arith, simp length-set (inv .1), fill-more _ _ _ (inv .2) refl)
+
+same-length : tie.Need-same-length Inv-loop μ-loop
+same-length c = search needs
+
+returns : tie.Need-returns Inv-loop μ-loop
+returns c =
+    let e : c .before .loop .i ≡ c .before .before .args .count = omega arith in
+    rw e at (c .before .loop .inv .2)
+
+pub copy-generations-spec : {M : Type 1} → statement M
+copy-generations-spec =
+    tie.close
+    (tie.spec
+    Inv-loop
+    μ-loop
+    loop-holds
+    shared-slice-read-to
+    slice-write-to
+    add-i
+    loop-less
+    loop-again
+    same-length
+    returns)
