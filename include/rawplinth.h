@@ -14,7 +14,7 @@ extern "C" {
 
 /* Raised by every new call and every change of a signature, a struct or an answer; docs/changes/README.md has a line
    for each. */
-#define RAWPLINTH_VERSION 4
+#define RAWPLINTH_VERSION 5
 
 /* What a side without a partner links to. */
 #define RAWPLINTH_BOUNDARY UINT32_C(4294967295)
@@ -24,8 +24,8 @@ extern "C" {
 #define RAWPLINTH_MAX_TRIANGLE_SLOTS 65536
 
 /* The rules by which whole step and limit round what lies half-way between two whole numbers. Rule 2 keeps mirror
-   images: with one coordinate negated everywhere, in the tables, in a lent table and in the cage of a load, a call leaves
-   and answers the same but for this coordinate, which is negated. */
+   images: with one coordinate negated everywhere, in the tables, in other lent tables and in the cage of a load, a call
+   leaves and answers the same but for this coordinate, which is negated. */
 enum {
     RAWPLINTH_HALF_UP = 1,  /* 2.5 to 3, -2.5 to -2 */
     RAWPLINTH_HALF_AWAY = 2 /* 2.5 to 3, -2.5 to -3 */
@@ -40,7 +40,9 @@ typedef struct {
     uint32_t rule;
 } rawplinth_counts;
 
-/* The refusals. A refused call answers with the number, the counts that it was given and zeros, and writes nothing. */
+/* The refusals. A refused call answers with the number, the counts that it was given and zeros, and writes nothing.
+   There is one exception: refine_list, where an entry fails, leaves the work that it has done in the spare tables, and
+   answers how many entries it handled and the counts of what they hold. */
 enum {
     RAWPLINTH_OK = 0,
     RAWPLINTH_TABLES_DISAGREE = 1, /* lengths that do not fit each other, or more slots than allowed */
@@ -58,7 +60,8 @@ enum {
     RAWPLINTH_RING_LONG = 13,      /* a ring of more than 12 entries */
     RAWPLINTH_BUFFER_SHORT = 14,   /* a buffer shorter than the ring */
     RAWPLINTH_TABLE_LENGTH = 15,   /* a table that has not exactly three entries for each vertex in use */
-    RAWPLINTH_RULE = 16            /* a load by a rule that is neither 1 nor 2 */
+    RAWPLINTH_RULE = 16,           /* a load by a rule that is neither 1 nor 2 */
+    RAWPLINTH_SPARES = 17          /* a spare table of another length than the mesh's */
 };
 
 /* The answer of load, refine and whole step. */
@@ -68,6 +71,17 @@ typedef struct {
     uint32_t flips;  /* flips made */
     rawplinth_counts counts;
 } rawplinth_worked;
+
+/* The answer of refine_list. */
+typedef struct {
+    uint32_t refusal;
+    uint32_t splits; /* splits and flips made for all entries together */
+    uint32_t flips;
+    rawplinth_counts counts;
+    size_t handled;          /* entries handled: all of them, or those before the one that fails, so its place;
+                                0 where 1, 17 or 7 refuses */
+    rawplinth_counts spares; /* of the mesh in the spare tables; zeros where 1, 17 or 7 refuses */
+} rawplinth_batch_worked;
 
 /* The answer of ring. */
 typedef struct {
@@ -132,6 +146,29 @@ rawplinth_worked rawplinth_refine(
     uint8_t *generations, size_t generations_length,
     rawplinth_counts counts,
     uint32_t triangle);
+
+/* Refines the triangles of a list in its order, all of them or none. Each has to be in use when the call starts: one
+   that an earlier entry makes is refused with 8. A triangle whose generation is above what it was at the start, by its
+   own entry or by another's, is passed over, so that it does no harm to list a triangle twice. An empty list is carried
+   out with zeros.
+   The work is done in four spare tables, each as long as the mesh's own of that name; what they hold before does not
+   matter. Unless 1, 17 or 7 refuses, they are left with the mesh after the last entry that was handled, or as it was
+   given if none was, in the slots which that mesh has in use; their other slots keep their content. So it is where an
+   entry fails, too, and `spares` of the answer are the counts of what they hold. They must not overlap each other, the
+   list or the mesh's tables.
+   Refuses with 1, 17, 7, in this order, then with what the first entry that fails is refused with: 8, 9 or 11. Writes
+   the spare tables, and if no entry fails the mesh: slots in use and those that it takes. Needs 0.14 MB of stack. */
+rawplinth_batch_worked rawplinth_refine_list(
+    int32_t *positions, size_t positions_length,
+    uint32_t *corners, size_t corners_length,
+    uint32_t *links, size_t links_length,
+    uint8_t *generations, size_t generations_length,
+    rawplinth_counts counts,
+    const uint32_t *list, size_t list_length,
+    int32_t *spare_positions, size_t spare_positions_length,
+    uint32_t *spare_corners, size_t spare_corners_length,
+    uint32_t *spare_links, size_t spare_links_length,
+    uint8_t *spare_generations, size_t spare_generations_length);
 
 /* Refines every triangle of a closed mesh of one even generation, and smooths the old vertices, all at once, each
    coordinate to the nearest, a half by the mesh's rule.

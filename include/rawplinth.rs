@@ -3,7 +3,7 @@
 
 /// Raised with that of the header. A program may go without it.
 #[allow(dead_code)]
-pub const RAWPLINTH_VERSION: u32 = 4;
+pub const RAWPLINTH_VERSION: u32 = 5;
 
 /// The rules by which a mesh rounds halves: up, or away from zero.
 pub const RAWPLINTH_HALF_UP: u32 = 1;
@@ -54,6 +54,20 @@ pub struct PositionRead {
 pub struct LimitRead {
     pub refusal: u32,
     pub counts: Counts,
+}
+
+/// The answer of a list: also the entries handled, all of them where none failed, and the counts of the mesh in the
+/// spare tables, zeros where 1, 17 or 7 refuses. Where an entry fails, the mesh stands, and the spare tables are
+/// written.
+#[repr(C)]
+#[derive(Clone, Copy, Debug, Default, PartialEq, Eq)]
+pub struct BatchWorked {
+    pub refusal: u32,
+    pub splits: u32,
+    pub flips: u32,
+    pub counts: Counts,
+    pub handled: usize,
+    pub spares: Counts,
 }
 
 unsafe extern "C" {
@@ -138,4 +152,26 @@ unsafe extern "C" {
         table: *mut i32,
         table_length: usize,
     ) -> LimitRead;
+
+    pub fn rawplinth_refine_list(
+        positions: *mut i32,
+        positions_length: usize,
+        corners: *mut u32,
+        corners_length: usize,
+        links: *mut u32,
+        links_length: usize,
+        generations: *mut u8,
+        generations_length: usize,
+        counts: Counts,
+        list: *const u32,
+        list_length: usize,
+        spare_positions: *mut i32,
+        spare_positions_length: usize,
+        spare_corners: *mut u32,
+        spare_corners_length: usize,
+        spare_links: *mut u32,
+        spare_links_length: usize,
+        spare_generations: *mut u8,
+        spare_generations_length: usize,
+    ) -> BatchWorked;
 }

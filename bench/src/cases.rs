@@ -2,7 +2,7 @@
 
 use crate::cages::{self, Cage};
 use crate::fast;
-use crate::tables::{Answer, BOUNDARY, Call, HALF_AWAY, HALF_UP, Lent};
+use crate::tables::{Answer, BOUNDARY, Call, HALF_AWAY, HALF_UP, Lent, Tables};
 
 /// The refine that makes the most splits.
 pub const LONGEST: &str = "refine, chain of 10";
@@ -12,8 +12,11 @@ pub const LONGEST_AT_BOUNDARY: &str = "refine at the boundary, chain of 10";
 /// The calls that round halves, by either rule.
 pub const STEPS: [&str; 2] = ["whole step", "whole step, rule 2"];
 pub const LIMITS: [&str; 2] = ["limit", "limit, rule 2"];
+/// Lists: of triangles in a row, each refined by one split, and of one triangle again and again, which is passed over
+/// but for its first time.
+pub const LISTS: [&str; 4] = ["list of 1", "list of 100", "list of 10,000", "list of 10,000 times one"];
 
-const NAMES: [&str; 13] = [
+const NAMES: [&str; 17] = [
     "load",
     "soundness",
     "refine even",
@@ -27,6 +30,10 @@ const NAMES: [&str; 13] = [
     "position",
     LIMITS[0],
     LIMITS[1],
+    LISTS[0],
+    LISTS[1],
+    LISTS[2],
+    LISTS[3],
 ];
 
 pub struct Case {
@@ -38,20 +45,32 @@ pub struct Case {
 }
 
 impl Case {
+    /// The splits of a list: one for each triangle in it, all of them being even.
+    pub fn listed_once(&self) -> usize {
+        let mut list = self.lent.list.clone();
+        list.dedup();
+        list.len()
+    }
+
     /// A refine of a triangle not in use, which is refused once the tables are found sound.
     pub fn soundness(&self) -> Call {
         Call::Refine(self.lent.counts.triangles)
     }
 }
 
-/// All cases. The whole step needs three slots for each triangle, so it has a smaller cage than the other calls.
+/// All cases. The whole step needs three slots for each triangle, so it has a smaller cage than the other calls, and the
+/// longest lists need two for each entry.
 pub fn all() -> Vec<Case> {
-    let spheres = [10, 57].map(cages::sphere);
-    let step_spheres = [10, 33].map(cages::sphere);
+    let small = [cages::tetrahedron(), cages::sphere(10)];
+    let [list_sphere, step_sphere, sphere] = [32, 33, 57].map(cages::sphere);
     let mut list = Vec::new();
     for name in NAMES {
-        let spheres = if STEPS.contains(&name) { &step_spheres } else { &spheres };
-        for cage in [cages::tetrahedron()].iter().chain(spheres) {
+        let (small, large) = match name {
+            name if LISTS.contains(&name) => (&[] as &[Cage], &list_sphere),
+            name if STEPS.contains(&name) => (&small[..], &step_sphere),
+            _ => (&small[..], &sphere),
+        };
+        for cage in small.iter().chain([large]) {
             let open = name == AT_BOUNDARY || name == LONGEST_AT_BOUNDARY;
             let cage = if open { &cage.clone().opened() } else { cage };
             list.push(case(name, cage, false));
@@ -87,6 +106,10 @@ fn case(name: &'static str, cage: &Cage, shuffled: bool) -> Case {
     if name == LONGEST || name == LONGEST_AT_BOUNDARY {
         triangle = end_of_long_chain(&mut lent, triangle);
     }
+    if LISTS.contains(&name) {
+        lent.list = listed(name, lent.counts.triangles);
+        lent.spares = Tables::with_slots(lent.tables.positions.len() / 3, lent.tables.generations.len());
+    }
     let call = match name {
         "load" => Call::Load(rule),
         "soundness" => Call::Refine(lent.counts.triangles),
@@ -94,9 +117,21 @@ fn case(name: &'static str, cage: &Cage, shuffled: bool) -> Case {
         "position" => Call::Position(vertex),
         name if STEPS.contains(&name) => Call::WholeStep,
         name if LIMITS.contains(&name) => Call::Limit,
+        name if LISTS.contains(&name) => Call::RefineList,
         _ => Call::Refine(triangle),
     };
     Case { name, triangles: cage.triangles(), shuffled, lent, call }
+}
+
+/// The entries of a list, about the middle of so many triangles.
+fn listed(name: &str, triangles: u32) -> Vec<u32> {
+    let entries = match name {
+        "list of 1" => 1,
+        "list of 100" => 100,
+        _ => 10_000,
+    };
+    let first = (triangles - entries) / 2;
+    if name == LISTS[3] { vec![triangles / 2; entries as usize] } else { (first..first + entries).collect() }
 }
 
 /// A triangle of generation 1 whose base is on the boundary: a child of the first triangle there.

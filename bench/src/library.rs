@@ -3,9 +3,10 @@
 use crate::rawplinth::*;
 use crate::tables::{Answer, Call, Lent};
 
-/// A call of the function named, with the four tables as pointers and lengths, then the counts, then what follows.
+/// A call of the function named, with the four tables as pointers and lengths, then the counts, then what follows, and
+/// the spare tables after a semicolon.
 macro_rules! call {
-    ($function:ident, $lent:ident $(, $argument:expr)*) => {{
+    ($function:ident, $lent:ident $(, $argument:expr)* $(; $spares:expr)?) => {{
         let (tables, counts) = (&mut $lent.tables, $lent.counts);
         // SAFETY: every pointer is to as many entries as the length beside it says, and no two overlap.
         unsafe {
@@ -20,6 +21,16 @@ macro_rules! call {
                 tables.generations.len(),
                 counts
                 $(, $argument)*
+                $(,
+                    $spares.positions.as_mut_ptr(),
+                    $spares.positions.len(),
+                    $spares.corners.as_mut_ptr(),
+                    $spares.corners.len(),
+                    $spares.links.as_mut_ptr(),
+                    $spares.links.len(),
+                    $spares.generations.as_mut_ptr(),
+                    $spares.generations.len()
+                )?
             )
         }
     }};
@@ -35,5 +46,8 @@ pub fn answer(lent: &mut Lent, call: Call) -> Answer {
         }
         Call::Position(vertex) => Answer::Position(call!(rawplinth_position, lent, vertex)),
         Call::Limit => Answer::Limit(call!(rawplinth_limit, lent, lent.table.as_mut_ptr(), lent.table.len())),
+        Call::RefineList => {
+            Answer::List(call!(rawplinth_refine_list, lent, lent.list.as_ptr(), lent.list.len(); lent.spares))
+        }
     }
 }

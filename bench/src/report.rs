@@ -1,6 +1,6 @@
 //! The table.
 
-use crate::cases::{Case, LIMITS};
+use crate::cases::{Case, LIMITS, LISTS};
 use crate::measure::{Counted, Timed};
 
 /// Instructions of a C program without proofs, written by an expert, for closed meshes in order.
@@ -18,6 +18,11 @@ const MOST_BEYOND: u64 = 3_000;
 const MOST_FOR_EACH: u64 = 150;
 /// How many instructions the limit positions of a tetrahedron may take, with soundness.
 const MOST_OF_SMALL: u64 = 3_500;
+/// How many instructions beyond those of soundness a list may take: for each triangle in use, to copy it to the spare
+/// tables and back, for each split and for each entry.
+const MOST_TO_COPY: u64 = 75;
+const MOST_TO_SPLIT: u64 = 450;
+const MOST_TO_HANDLE: u64 = 60;
 
 const HEADS: [&str; 13] = [
     "call",
@@ -47,6 +52,24 @@ pub fn print(cases: &[Case], counts: Option<&[Counted]>, times: &[Timed]) {
         println!("| {} | {triangles} | {order} | {counted} | {library} | {fast} | {scan} |", case.name);
     }
     println!("\nA figure above its bound is bold.");
+    if let Some(counts) = counts {
+        println!("\n{}", list_shares(cases, counts));
+    }
+}
+
+/// What lists take beyond soundness, by triangle in use, by split and by entry that is passed over: the differences of
+/// the list of one triangle, that of as many as there are entries, and that of one triangle as often, in order.
+fn list_shares(cases: &[Case], counts: &[Counted]) -> String {
+    let beyond = |name: &str| {
+        let place = cases.iter().position(|case| case.name == name && !case.shuffled).expect("each list is a case");
+        let [library, soundness, ..] = counts[place];
+        (library as f64 - soundness as f64, &cases[place])
+    };
+    let [(one, case), (many, long), (again, _)] = [LISTS[0], LISTS[2], LISTS[3]].map(beyond);
+    let more = long.lent.list.len() as f64 - 1.0;
+    let (entry, split) = ((again - one) / more, (many - again) / more);
+    let copies = (one - split - entry) / case.triangles as f64;
+    format!("Lists: {copies:.1} for each triangle in use, {split:.1} for each split, {entry:.1} for each entry.")
 }
 
 fn count_columns(case: &Case, [library, soundness, fast, scan]: Counted) -> [String; 7] {
@@ -77,6 +100,10 @@ fn most_beyond(case: &Case, soundness: u64) -> Option<u64> {
             4 => Some(MOST_OF_SMALL.saturating_sub(soundness)),
             triangles => Some(MOST_FOR_EACH * triangles as u64),
         },
+        name if LISTS.contains(&name) => {
+            let [splits, entries] = [case.listed_once(), case.lent.list.len()].map(|count| count as u64);
+            Some(MOST_TO_COPY * case.triangles as u64 + MOST_TO_SPLIT * splits + MOST_TO_HANDLE * entries)
+        }
         "ring" | "position" => Some(MOST_BEYOND),
         name => name.starts_with("refine").then_some(MOST_BEYOND),
     }

@@ -1,6 +1,6 @@
 //! What a call is lent and what it answers.
 
-pub use crate::rawplinth::{Counts, LimitRead, PositionRead, RingRead, Worked};
+pub use crate::rawplinth::{BatchWorked, Counts, LimitRead, PositionRead, RingRead, Worked};
 pub use crate::rawplinth::{RAWPLINTH_HALF_AWAY as HALF_AWAY, RAWPLINTH_HALF_UP as HALF_UP};
 
 /// The link of a boundary side.
@@ -28,6 +28,9 @@ pub struct Lent {
     pub buffer: Vec<u32>,
     /// The table of a limit query.
     pub table: Vec<i32>,
+    /// A list of triangles, and the tables that it is worked off in.
+    pub list: Vec<u32>,
+    pub spares: Tables,
 }
 
 /// A call with the number it is given, which for a load is the rule.
@@ -39,6 +42,7 @@ pub enum Call {
     Ring(u32),
     Position(u32),
     Limit,
+    RefineList,
 }
 
 #[derive(Clone, Copy, Debug, PartialEq)]
@@ -47,20 +51,34 @@ pub enum Answer {
     Ring(RingRead),
     Position(PositionRead),
     Limit(LimitRead),
+    List(BatchWorked),
+}
+
+impl Tables {
+    /// Tables with these numbers of slots.
+    pub fn with_slots(vertex_slots: usize, triangle_slots: usize) -> Tables {
+        Tables {
+            positions: vec![0; 3 * vertex_slots],
+            corners: vec![0; 3 * triangle_slots],
+            links: vec![0; 3 * triangle_slots],
+            generations: vec![0; triangle_slots],
+        }
+    }
 }
 
 impl Lent {
     /// A fresh store with slots for this many vertices and triangles, as far as the maxima go, and a cage to load.
     pub fn fresh(vertex_slots: usize, triangle_slots: usize, cage: Vec<u8>) -> Lent {
-        let vertex_slots = vertex_slots.min(MOST_VERTEX_SLOTS);
-        let triangle_slots = triangle_slots.min(MOST_TRIANGLE_SLOTS);
-        let tables = Tables {
-            positions: vec![0; 3 * vertex_slots],
-            corners: vec![0; 3 * triangle_slots],
-            links: vec![0; 3 * triangle_slots],
-            generations: vec![0; triangle_slots],
-        };
-        Lent { tables, counts: Counts::default(), cage, buffer: vec![0; 16], table: Vec::new() }
+        let tables = Tables::with_slots(vertex_slots.min(MOST_VERTEX_SLOTS), triangle_slots.min(MOST_TRIANGLE_SLOTS));
+        Lent {
+            tables,
+            counts: Counts::default(),
+            cage,
+            buffer: vec![0; 16],
+            table: Vec::new(),
+            list: Vec::new(),
+            spares: Tables::with_slots(0, 0),
+        }
     }
 }
 

@@ -6,10 +6,10 @@ use std::fs;
 use std::path::PathBuf;
 
 use crate::case::Case;
-use crate::claims::violated_by_refine;
+use crate::claims::{violated_by_list, violated_by_refine};
 use crate::coverage::Coverage;
 use crate::mirror;
-use crate::tables::{Answer, Call, Counts, HALF_AWAY, HALF_UP, Service, Store};
+use crate::tables::{Answer, Call, Counts, HALF_AWAY, HALF_UP, Service, Store, Tables};
 
 /// A case on which the services differ, or on which a claim of demand 3 fails.
 #[derive(Debug)]
@@ -108,17 +108,22 @@ impl Apart {
             return Some(Apart::of("answers differ".to_string(), one.0, other.0));
         }
         let ((tables, room), (others, other_room)) = ((&one.1.tables, &one.1.room), (&other.1.tables, &other.1.room));
-        Apart::entry("positions", &tables.positions, &others.positions)
-            .or_else(|| Apart::entry("corners", &tables.corners, &others.corners))
-            .or_else(|| Apart::entry("links", &tables.links, &others.links))
-            .or_else(|| Apart::entry("generations", &tables.generations, &others.generations))
-            .or_else(|| Apart::entry("ring buffers", &room.ring, &other_room.ring))
-            .or_else(|| Apart::entry("limit tables", &room.table, &other_room.table))
+        Apart::tables("", tables, others)
+            .or_else(|| Apart::tables("spare ", &room.spares, &other_room.spares))
+            .or_else(|| Apart::entry("", "ring buffers", &room.ring, &other_room.ring))
+            .or_else(|| Apart::entry("", "limit tables", &room.table, &other_room.table))
     }
 
-    fn entry<T: PartialEq + Debug>(table: &str, one: &[T], other: &[T]) -> Option<Apart> {
+    fn tables(which: &str, one: &Tables, other: &Tables) -> Option<Apart> {
+        Apart::entry(which, "positions", &one.positions, &other.positions)
+            .or_else(|| Apart::entry(which, "corners", &one.corners, &other.corners))
+            .or_else(|| Apart::entry(which, "links", &one.links, &other.links))
+            .or_else(|| Apart::entry(which, "generations", &one.generations, &other.generations))
+    }
+
+    fn entry<T: PartialEq + Debug>(which: &str, table: &str, one: &[T], other: &[T]) -> Option<Apart> {
         let place = one.iter().zip(other).position(|(one, other)| one != other)?;
-        Some(Apart::of(format!("{table} differ in entry {place}"), &one[place], &other[place]))
+        Some(Apart::of(format!("{which}{table} differ in entry {place}"), &one[place], &other[place]))
     }
 
     fn of(what: String, one: &impl Debug, other: &impl Debug) -> Apart {
@@ -136,10 +141,11 @@ pub fn difference(what: String, store: Store, call: &Call) -> Box<Difference> {
     Box::new(Difference { what, case: Case { store, call: call.clone() } })
 }
 
-/// The fourth claim of demand 3, for every refine that is carried out.
+/// The fourth claim of demand 3, for every refine that is carried out, and what every list that is carried out adds.
 fn claim_violated(before: &Store, call: &Call, answer: &Answer, after: &Store) -> Option<String> {
     match (call, answer.refusal) {
         (&Call::Refine { triangle }, 0) => violated_by_refine(before, triangle as usize, answer, after),
+        (Call::RefineList { .. }, 0) => violated_by_list(before, answer, after),
         _ => None,
     }
 }

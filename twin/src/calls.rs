@@ -2,8 +2,9 @@
 
 use crate::bench::{Bench, Outcome};
 use crate::claims::read_chain;
+use crate::coverage::LONGEST_LIST;
 use crate::rng::Rng;
-use crate::tables::{BOUNDARY, Call, HALF_AWAY, HALF_UP, LAST_GENERATION, NO_RULES, Store};
+use crate::tables::{BOUNDARY, Call, HALF_AWAY, HALF_UP, LAST_GENERATION, NO_RULES, Store, Tables};
 
 /// Three times this number is 2 in 32 bits.
 pub const WRAPPING: u32 = 0x5555_5556;
@@ -11,7 +12,11 @@ pub const WRAPPING: u32 = 0x5555_5556;
 /// One call of any kind but load, for which the store gets room.
 pub fn random_call(store: &mut Store, rng: &mut Rng) -> Call {
     match rng.below(100) {
-        0..56 => Call::Refine { triangle: some_triangle(store, rng) },
+        0..46 => Call::Refine { triangle: some_triangle(store, rng) },
+        46..56 => {
+            store.room.spares = some_spares(store, rng);
+            some_list(store, rng)
+        }
         56..64 => Call::WholeStep,
         64..72 => limit(store, rng),
         72..88 => ring(store, rng),
@@ -19,14 +24,16 @@ pub fn random_call(store: &mut Store, rng: &mut Rng) -> Call {
     }
 }
 
-/// One call of each kind but load, for which the store gets room.
-pub fn one_of_each(store: &mut Store, rng: &mut Rng) -> [Call; 5] {
+/// One call of each kind but load, for which the store gets room, its spare tables of fitting sizes.
+pub fn one_of_each(store: &mut Store, rng: &mut Rng) -> [Call; 6] {
+    store.room.spares = fitting_spares(store, rng);
     [
         Call::Refine { triangle: some_triangle(store, rng) },
         Call::WholeStep,
         limit(store, rng),
         ring(store, rng),
         Call::Position { vertex: some_number(store.counts.vertices, rng) },
+        some_list(store, rng),
     ]
 }
 
@@ -68,6 +75,57 @@ pub fn compare_limits(bench: &mut Bench, store: &mut Store, rng: &mut Rng) -> Ou
         bench.compare_only(store, &Call::Limit)?;
     }
     Ok(())
+}
+
+/// Spare tables of the mesh's sizes, with any content.
+pub fn fitting_spares(store: &Store, rng: &mut Rng) -> Tables {
+    Tables::junk(store.tables.lengths(), rng)
+}
+
+/// Spare tables as the last list left them, or with the mesh in them, or with any content; some of a wrong size.
+fn some_spares(store: &Store, rng: &mut Rng) -> Tables {
+    let mut lengths = store.tables.lengths();
+    let content = rng.below(100);
+    if content < 30 && store.room.spares.lengths() == lengths {
+        return store.room.spares.clone();
+    }
+    if content < 40 {
+        return store.tables.clone();
+    }
+    if rng.percent(15) {
+        let table = rng.below(4);
+        lengths[table] = rng.pick(&other_lengths(lengths[table]));
+    }
+    Tables::junk(lengths, rng)
+}
+
+/// Lengths that a spare table is tried with where it ought to have another.
+pub fn other_lengths(wanted: usize) -> [usize; 4] {
+    let shorter = |by: usize| wanted.checked_sub(by).unwrap_or(wanted + by + 2);
+    [shorter(1), shorter(3), wanted + 1, wanted + 3]
+}
+
+/// A list of any length up to the longest: triangles in use, anywhere or close together, so that some are listed again;
+/// in many lists one entry that may fail.
+fn some_list(store: &Store, rng: &mut Rng) -> Call {
+    let length = rng.below(LONGEST_LIST + 1);
+    let mut list = entries_in_use(store, length, rng);
+    if length > 0 && rng.percent(40) {
+        list[rng.below(length)] = match rng.below(3) {
+            // An earlier entry may have made it.
+            0 => store.counts.triangles.wrapping_add(rng.below(2 * length) as u32),
+            1 => some_triangle(store, rng),
+            _ => some_number(store.counts.triangles, rng),
+        };
+    }
+    Call::RefineList { list }
+}
+
+/// So many triangles in use, anywhere or close together.
+pub fn entries_in_use(store: &Store, length: usize, rng: &mut Rng) -> Vec<u32> {
+    let in_use = store.triangles().max(1);
+    let (first, reach) = (rng.below(in_use), rng.pick(&[3, 30, in_use]));
+    (0..length).map(|_| ((first + rng.below(reach)) % in_use) as u32).collect()
 }
 
 /// Rule 1 or 2.

@@ -16,13 +16,11 @@ pub struct Case {
 impl Display for Case {
     fn fmt(&self, out: &mut fmt::Formatter<'_>) -> fmt::Result {
         let Store { tables, counts, room } = &self.store;
-        writeln!(out, "positions{}", numbers(&tables.positions))?;
-        writeln!(out, "corners{}", numbers(&tables.corners))?;
-        writeln!(out, "links{}", numbers(&tables.links))?;
-        writeln!(out, "generations{}", numbers(&tables.generations))?;
+        write_tables(out, "", tables)?;
         writeln!(out, "counts {} {} {}", counts.vertices, counts.triangles, counts.rule)?;
         writeln!(out, "ring-buffer{}", numbers(&room.ring))?;
         writeln!(out, "limit-table{}", numbers(&room.table))?;
+        write_tables(out, "spare-", &room.spares)?;
         match &self.call {
             Call::Load { rule, cage } => writeln!(out, "load {rule}{}", numbers(cage)),
             Call::Refine { triangle } => writeln!(out, "refine {triangle}"),
@@ -30,8 +28,16 @@ impl Display for Case {
             Call::Ring { vertex } => writeln!(out, "ring {vertex}"),
             Call::Position { vertex } => writeln!(out, "position {vertex}"),
             Call::Limit => writeln!(out, "limit"),
+            Call::RefineList { list } => writeln!(out, "refine-list{}", numbers(list)),
         }
     }
+}
+
+fn write_tables(out: &mut fmt::Formatter<'_>, which: &str, tables: &Tables) -> fmt::Result {
+    writeln!(out, "{which}positions{}", numbers(&tables.positions))?;
+    writeln!(out, "{which}corners{}", numbers(&tables.corners))?;
+    writeln!(out, "{which}links{}", numbers(&tables.links))?;
+    writeln!(out, "{which}generations{}", numbers(&tables.generations))
 }
 
 /// Numbers with a blank before each, equal neighbours drawn together.
@@ -64,24 +70,35 @@ impl FromStr for Case {
             .map(|line| line.split_whitespace().collect())
             .filter(|line: &Vec<&str>| !line.is_empty())
             .collect();
-        let line = |name: &str| {
-            let found = lines.iter().find(|line| line[0] == name);
-            found.map(|line| &line[1..]).ok_or(format!("no line `{name}`"))
-        };
-        let tables = Tables {
-            positions: parsed(line("positions")?)?,
-            corners: parsed(line("corners")?)?,
-            links: parsed(line("links")?)?,
-            generations: parsed(line("generations")?)?,
-        };
-        let counts: Vec<u32> = parsed(line("counts")?)?;
+        let tables = parsed_tables(&lines, "")?;
+        let counts: Vec<u32> = parsed(words_of(&lines, "counts")?)?;
         let [vertices, triangles, rule] = counts[..] else {
             return Err("counts are three numbers".to_string());
         };
-        let room = Room { ring: parsed(line("ring-buffer")?)?, table: parsed(line("limit-table")?)? };
+        let room = Room {
+            ring: parsed(words_of(&lines, "ring-buffer")?)?,
+            table: parsed(words_of(&lines, "limit-table")?)?,
+            spares: parsed_tables(&lines, "spare-")?,
+        };
         let call = parsed_call(lines.last().expect("there are lines"))?;
         Ok(Case { store: Store { tables, counts: Counts { vertices, triangles, rule }, room }, call })
     }
+}
+
+/// What follows the first word of a line.
+fn words_of<'a, 'b>(lines: &'b [Vec<&'a str>], name: &str) -> Result<&'b [&'a str], String> {
+    let found = lines.iter().find(|line| line[0] == name);
+    found.map(|line| &line[1..]).ok_or(format!("no line `{name}`"))
+}
+
+fn parsed_tables(lines: &[Vec<&str>], which: &str) -> Result<Tables, String> {
+    let words = |table: &str| words_of(lines, &format!("{which}{table}"));
+    Ok(Tables {
+        positions: parsed(words("positions")?)?,
+        corners: parsed(words("corners")?)?,
+        links: parsed(words("links")?)?,
+        generations: parsed(words("generations")?)?,
+    })
 }
 
 fn parsed_call(words: &[&str]) -> Result<Call, String> {
@@ -96,6 +113,7 @@ fn parsed_call(words: &[&str]) -> Result<Call, String> {
         "ring" => Ok(Call::Ring { vertex: number()? }),
         "position" => Ok(Call::Position { vertex: number()? }),
         "limit" => Ok(Call::Limit),
+        "refine-list" => Ok(Call::RefineList { list: parsed(&words[1..])? }),
         other => Err(format!("no call `{other}`")),
     }
 }

@@ -80,9 +80,7 @@ pub fn unreached_boundary(store: &Store) -> Option<String> {
     Some(format!("side {unreached} is at the boundary, of generation {}", store.tables.generations[unreached / 3]))
 }
 
-/// What is wrong with the fourth claim, about the splits of a refine that was carried out, and with what they add: with
-/// s splits, q of them rim splits, V + s + q, F + 2s and E + 3s + q, and flips by the odd triangles, of which a face
-/// split makes three, a rim split one and a flip takes two away.
+/// What is wrong with the fourth claim, about the splits of a refine that was carried out, and with what they add.
 pub fn violated_by_refine(before: &Store, triangle: usize, answer: &Answer, after: &Store) -> Option<String> {
     let generation = before.tables.generations[triangle];
     let chain = read_chain(&before.tables, triangle);
@@ -98,7 +96,20 @@ pub fn violated_by_refine(before: &Store, triangle: usize, answer: &Answer, afte
     if generation % 2 == 1 && claimed > usize::from(generation).div_ceil(2) {
         return Some(format!("{claimed} splits at generation {generation}"));
     }
-    let rim_splits = i64::from(chain.ends_at_boundary);
+    wrongly_added(before, answer, after, i64::from(chain.ends_at_boundary))
+}
+
+/// What is wrong with what the splits of a list that was carried out add. Of rim splits there are as many as vertices
+/// beyond one for each split.
+pub fn violated_by_list(before: &Store, answer: &Answer, after: &Store) -> Option<String> {
+    let vertices = i64::from(after.counts.vertices) - i64::from(before.counts.vertices);
+    wrongly_added(before, answer, after, vertices - i64::from(answer.splits))
+}
+
+/// With s splits, q of them rim splits: V + s + q, F + 2s and E + 3s + q, and flips by the odd triangles, of which a face
+/// split makes three, a rim split one and a flip takes two away.
+fn wrongly_added(before: &Store, answer: &Answer, after: &Store, rim_splits: i64) -> Option<String> {
+    let splits = i64::from(answer.splits);
     let grown = |count: fn(&Store) -> i64| count(after) - count(before);
     let added = [
         ("V", grown(|store| i64::from(store.counts.vertices)), splits + rim_splits),

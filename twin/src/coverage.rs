@@ -1,6 +1,6 @@
 //! What a run has met: each refusal of each call, each rule, each kind of linked pair, each chain length over an even
-//! triangle and over the boundary, each ring length of a whole step and of a limit query, halves in these, and sides
-//! linked to themselves.
+//! triangle and over the boundary, each ring length of a whole step and of a limit query, halves in these, sides linked
+//! to themselves, and what becomes of the entries of lists.
 
 use std::collections::{BTreeMap, BTreeSet};
 use std::fmt::{self, Display};
@@ -8,6 +8,7 @@ use std::fmt::{self, Display};
 use crate::claims::read_chain;
 use crate::fault::Seeded;
 use crate::mesh::Mesh;
+use crate::refine::handle;
 use crate::smooth::{Fraction, fractions};
 use crate::sound::kind;
 use crate::tables::{Answer, BOUNDARY, Call, HALF_UP, Store};
@@ -20,7 +21,11 @@ const CALLS: &[(&str, &[u32])] = &[
     ("ring", &[0, 1, 7, 8, 14]),
     ("position", &[0, 1, 7, 8]),
     ("limit", &[0, 1, 7, 12, 13, 15]),
+    ("refine list", &[0, 1, 7, 8, 9, 11, 17]),
 ];
+
+/// The longest of the lists that have to be met in every length.
+pub const LONGEST_LIST: usize = 40;
 
 /// The refusal that no call gives: a base chain that ends at the boundary is split there.
 const NEVER_GIVEN: u32 = 10;
@@ -51,10 +56,23 @@ pub struct Coverage {
     limit_halves: [u64; 4],
     /// Sides linked to themselves in tables refused with 7, by their number in the triangle.
     self_linked: [u64; 3],
+    /// Lists that were carried out, by their length, and those that failed, by the place of the entry.
+    list_lengths: BTreeMap<usize, u64>,
+    failing_places: BTreeMap<usize, u64>,
+    /// Entries of lists, as `ENTRIES` tells them apart.
+    entries: [u64; 7],
+    /// Spare tables of another length, in the order of the tables.
+    spare_sizes: [u64; 4],
 }
 
 /// The halves that are told apart.
 const HALVES: [&str; 4] = ["rule 1, below zero", "rule 1, above", "rule 2, below zero", "rule 2, above"];
+
+/// What becomes of an entry of a list.
+const ENTRIES: [&str; 7] =
+    ["refined", "passed over", "8", "8, made by an entry before", "9", "11", "11, slots taken by entries before"];
+
+const TABLES: [&str; 4] = ["positions", "corners", "links", "generations"];
 
 /// The place of a call in the list.
 fn row(call: &Call) -> usize {
@@ -65,6 +83,7 @@ fn row(call: &Call) -> usize {
         Call::Ring { .. } => 3,
         Call::Position { .. } => 4,
         Call::Limit => 5,
+        Call::RefineList { .. } => 6,
     }
 }
 
@@ -73,6 +92,11 @@ fn count(met: &mut [u64], index: usize) {
     if let Some(met) = met.get_mut(index) {
         *met += 1;
     }
+}
+
+/// The counts of the first so many numbers.
+fn first_of(met: &BTreeMap<usize, u64>, length: usize) -> Vec<u64> {
+    (0..length).map(|number| met.get(&number).copied().unwrap_or(0)).collect()
 }
 
 /// In a mesh without boundary a ring is as long as its vertex has triangles.
@@ -113,6 +137,8 @@ impl Coverage {
                 note_halves(&mut self.limit_halves, before, |[_, limit]| limit);
             }
             (_, 7) => self.note_self_linked(before),
+            (Call::RefineList { .. }, 17) => self.note_spare_sizes(before),
+            (Call::RefineList { list }, 0 | 8 | 9 | 11) => self.note_list(before, list, answer),
             _ => {}
         }
     }
@@ -132,6 +158,32 @@ impl Coverage {
                 count(&mut self.kinds, kind(end(side), end(link as usize)).unwrap_or(0));
             }
         }
+    }
+
+    fn note_spare_sizes(&mut self, before: &Store) {
+        let lengths = before.tables.lengths().into_iter().zip(before.room.spares.lengths());
+        for (table, _) in lengths.enumerate().filter(|(_, (length, spare))| length != spare) {
+            count(&mut self.spare_sizes, table);
+        }
+    }
+
+    fn note_list(&mut self, before: &Store, list: &[u32], answer: &Answer) {
+        let start = Mesh::read(&before.tables, before.counts, Seeded(None));
+        let done = handle(&start, list, before.tables.slots());
+        self.entries[0] += (done.entries - done.passed_over) as u64;
+        self.entries[1] += done.passed_over as u64;
+        if answer.refusal == 0 {
+            *self.list_lengths.entry(list.len()).or_default() += 1;
+            return;
+        }
+        *self.failing_places.entry(answer.handled).or_default() += 1;
+        let made = answer.spares.triangles > before.counts.triangles;
+        let kind = match answer.refusal {
+            8 => 2 + usize::from(list[answer.handled] < answer.spares.triangles),
+            9 => 4,
+            _ => 5 + usize::from(made),
+        };
+        count(&mut self.entries, kind);
     }
 
     fn note_self_linked(&mut self, before: &Store) {
@@ -178,11 +230,23 @@ impl Coverage {
         expect("ring in a limit query, length", &self.limit_rings, 2);
         expect("call by rule", &self.rules, 1);
         expect("side linked to itself, number", &self.self_linked, 0);
-        for (call, met) in [("whole step", &self.step_halves), ("limit query", &self.limit_halves)] {
-            let missed = HALVES.iter().zip(met).filter(|(_, met)| **met == 0);
-            gaps.extend(missed.map(|(half, _)| format!("half in a {call}, {half}: never met")));
+        expect("list carried out, length", &first_of(&self.list_lengths, LONGEST_LIST + 1), 0);
+        expect("entry of a list that fails, place", &first_of(&self.failing_places, LONGEST_LIST), 0);
+        for (title, names, met) in self.named() {
+            let missed = names.iter().zip(met).filter(|(_, met)| **met == 0);
+            gaps.extend(missed.map(|(name, _)| format!("{title}, {name}: never met")));
         }
         gaps
+    }
+
+    /// The counts of what has names, with their titles.
+    fn named(&self) -> [(&str, &[&str], &[u64]); 4] {
+        [
+            ("halves in whole steps", &HALVES, &self.step_halves),
+            ("halves in limit queries", &HALVES, &self.limit_halves),
+            ("entries of lists", &ENTRIES, &self.entries),
+            ("spare tables of other lengths", &TABLES, &self.spare_sizes),
+        ]
     }
 }
 
@@ -217,10 +281,14 @@ impl Display for Coverage {
         list("rings in limit queries", &self.limit_rings, 2)?;
         list("calls carried out by rule", &self.rules, 1)?;
         list("sides linked to themselves in tables refused with 7", &self.self_linked, 0)?;
-        for (calls, met) in [("whole steps", &self.step_halves), ("limit queries", &self.limit_halves)] {
-            let shown: Vec<String> = HALVES.iter().zip(met).map(|(half, met)| format!("{half}: {met}")).collect();
-            writeln!(out, "halves in {calls}  {}", shown.join("  "))?;
+        for (title, names, met) in self.named() {
+            let shown: Vec<String> = names.iter().zip(met).map(|(name, met)| format!("{name}: {met}")).collect();
+            writeln!(out, "{title}  {}", shown.join("  "))?;
         }
-        Ok(())
+        let fewest = |met, length| first_of(met, length).into_iter().min().unwrap_or(0);
+        let (lengths, places) =
+            (fewest(&self.list_lengths, LONGEST_LIST + 1), fewest(&self.failing_places, LONGEST_LIST));
+        writeln!(out, "lists of each length up to {LONGEST_LIST}, carried out  at least {lengths}")?;
+        writeln!(out, "lists that fail at each of {LONGEST_LIST} places  at least {places}")
     }
 }

@@ -152,8 +152,12 @@ fn compare_lengths(bench: &mut Bench, store: &Store, lengths: [usize; 4], rng: &
     changed.tables.links.resize(lengths[2], 7);
     changed.tables.generations.resize(lengths[3], 8);
     let load = Call::Load { rule: calls::some_rule(rng), cage: cages::strip(2).bytes() };
-    for call in calls::one_of_each(&mut changed, rng).iter().chain([&load]) {
+    let of_each = calls::one_of_each(&mut changed, rng);
+    for call in of_each.iter().chain([&load]) {
         bench.compare_only(&changed, call)?;
     }
+    // Spare tables that agree, or do not, with each other, but not with the mesh's.
+    changed.room.spares = store.tables.clone();
+    bench.compare_only(&changed, &of_each[5])?;
     Ok(())
 }

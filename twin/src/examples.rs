@@ -3,6 +3,7 @@
 
 use crate::bench::{Bench, Outcome, difference};
 use crate::cages::{self, Cage};
+use crate::calls::fitting_spares;
 use crate::damage::{at_generation, refined};
 use crate::handmade::{chain, foil};
 use crate::rng::Rng;
@@ -42,6 +43,12 @@ fn limit(refusal: u32, mut store: Store, entries: usize) -> Example {
     example(refusal, store, Call::Limit)
 }
 
+/// A list, with spare tables of the mesh's sizes.
+fn list(refusal: u32, mut store: Store, entries: &[u32], rng: &mut Rng) -> Example {
+    store.room.spares = fitting_spares(&store, rng);
+    example(refusal, store, Call::RefineList { list: entries.to_vec() })
+}
+
 /// The same store with another rule in its counts.
 fn ruled(mut store: Store, rule: u32) -> Store {
     store.counts.rule = rule;
@@ -79,6 +86,31 @@ pub fn refusals(rng: &mut Rng) -> Vec<Example> {
         ring(14, refined(&tetrahedron, &[], 0, rng), 0, 2),
         limit(15, refined(&tetrahedron, &[], 0, rng), 11),
         example(16, roomy, load_by(3, tetrahedron.bytes())),
+        // No spare tables at all.
+        example(17, refined(&tetrahedron, &[], 0, rng), Call::RefineList { list: vec![] }),
+    ]
+}
+
+/// Lists that are carried out, and such as fail: with 8, 9 or 11, the spare tables written.
+pub fn lists(rng: &mut Rng) -> Vec<Example> {
+    let tetrahedron = cages::tetrahedron();
+    let mut ripe = refined(&tetrahedron.clone().with(&cages::strip(1)), &[], 3, rng);
+    ripe.tables.generations[4] = LAST_GENERATION;
+    vec![
+        list(0, refined(&tetrahedron, &[], 0, rng), &[], rng),
+        // Without spare slots nothing can be refined, but a list is handled up to there.
+        list(11, refined(&tetrahedron, &[], 0, rng), &[0], rng),
+        list(8, refined(&tetrahedron, &[], 0, rng), &[4, 0], rng),
+        list(11, refined(&tetrahedron, &[], 3, rng), &[0, 1, 2, 0, 3], rng),
+        list(0, refined(&tetrahedron, &[], 3, rng), &[0, 1, 2, 0, 1, 2], rng),
+        // Triangle 4 is in use by its turn, but was not at the start.
+        list(8, refined(&tetrahedron, &[], 3, rng), &[0, 4, 1], rng),
+        list(8, refined(&tetrahedron, &[], 3, rng), &[0, 1, u32::MAX], rng),
+        list(9, ripe, &[0, 4, 99], rng),
+        // Refining the first of a chain raises the others, which are then passed over.
+        list(0, chain(10, true, 0, &[], rng).store(10, 20, rng), &[10, 9, 8, 7, 6, 5, 4, 3, 2, 1], rng),
+        list(0, chain(10, false, 0, &[], rng).store(10, 18, rng), &[9, 8, 7, 6, 5, 4, 3, 2, 1], rng),
+        list(9, chain(1, false, 18, &[], rng).store(2, 2, rng), &[0], rng),
     ]
 }
 
@@ -91,6 +123,7 @@ pub fn orders(rng: &mut Rng) -> Vec<Example> {
     last_corner_first_coordinate.triangles[3] = [2, 3, 4];
     let mut unequal = Store::junk(9, 9, rng);
     unequal.tables.generations.pop();
+    let unequal_tables = unequal.clone();
     let mut counts_above_slots = refined(&tetrahedron, &[], 0, rng);
     counts_above_slots.counts.triangles = 5;
     let mut exact = refined(&tetrahedron, &[], 1, rng);
@@ -150,6 +183,11 @@ pub fn orders(rng: &mut Rng) -> Vec<Example> {
         example(7, ruled(refined(&tetrahedron, &[], 4, rng), 3), Call::WholeStep),
         example(7, ruled(refined(&tetrahedron, &[], 4, rng), u32::MAX), Call::Position { vertex: 0 }),
         example(0, ruled(refined(&tetrahedron, &[], 4, rng), HALF_AWAY), refine(0)),
+        // Spare tables of other sizes are refused after 1 and before 7, and a mesh that is not sound before any entry.
+        list(1, unequal_tables.clone(), &[0], rng),
+        example(1, unequal_tables, Call::RefineList { list: vec![0] }),
+        example(17, Store::fresh(20, 40), Call::RefineList { list: vec![0] }),
+        list(7, Store::fresh(20, 40), &[99], rng),
     ]
 }
 
@@ -166,7 +204,7 @@ pub fn request_lists() -> Vec<(Cage, Vec<u32>)> {
 
 /// All examples on both services; the numbers that the papers give are tested here as well.
 pub fn run(bench: &mut Bench, rng: &mut Rng) -> Outcome {
-    for Example { refusal, mut store, call } in refusals(rng).into_iter().chain(orders(rng)) {
+    for Example { refusal, mut store, call } in refusals(rng).into_iter().chain(orders(rng)).chain(lists(rng)) {
         let before = store.clone();
         let answer = bench.compare(&mut store, &call)?;
         if answer.refusal != refusal {

@@ -68,6 +68,22 @@ faults! {
     RuleBeforeTables: "load tests 16 before 1",
     SizesBeforeRule: "load tests 2 before 16",
     LinkToItselfAccepted: "a side linked to itself is let pass",
+    MadeByListRefined: "a list refines a triangle that an entry before it made",
+    MadeByListPassedOver: "a list passes over a triangle that an entry before made",
+    ListedTwiceRefined: "a triangle listed twice is refined twice",
+    RisenByTwoRefined: "a list refines what has risen by two already",
+    LastEntryReported: "a list reports the work of its last entry alone",
+    FailedListWrites: "a list that fails leaves what it made in the mesh",
+    FailedListKeepsSpares: "a list that fails leaves the spare tables alone",
+    FailedListReports: "a list that fails reports the work before the failure",
+    FailingEntryCounted: "a list counts the entry that fails as handled",
+    CopiedBackWhole: "a list copies slots past the counts back, too",
+    SparesFilledWhole: "a list copies slots past the counts to the spare tables",
+    EmptyListKeepsSpares: "an empty list leaves the spare tables alone",
+    SparesCountedAsMesh: "a list answers the counts of the mesh for the spares'",
+    SparesBeforeTables: "a list tests 17 before 1",
+    SoundBeforeSpares: "a list tests 7 before 17",
+    SpareLinksUntested: "a list lets spare links of another length pass",
 }
 
 impl Fault {

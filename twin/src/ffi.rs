@@ -1,42 +1,49 @@
 //! The library under test, through its C interface.
 
 use crate::rawplinth::*;
-use crate::tables::{Answer, Call, Room, Service, Store, Tables};
+use crate::tables::{Answer, Call, Service, Store, Tables};
 
 /// Entries on each side of a lent buffer that the library must not write.
 const GUARD: usize = 64;
 
 /// A copy of a table or buffer between guard entries.
 struct Lent<T> {
+    name: &'static str,
     entries: Vec<T>,
     length: usize,
     guard: T,
 }
 
 impl<T: Copy + PartialEq> Lent<T> {
-    fn new(content: &[T], guard: T) -> Lent<T> {
+    fn new(name: &'static str, content: &[T], guard: T) -> Lent<T> {
         let mut entries = vec![guard; content.len() + 2 * GUARD];
         entries[GUARD..GUARD + content.len()].copy_from_slice(content);
-        Lent { entries, length: content.len(), guard }
+        Lent { name, entries, length: content.len(), guard }
     }
 
     fn pointer(&mut self) -> *mut T {
         self.entries[GUARD..].as_mut_ptr()
     }
 
-    /// The content after the call, or the name of the table if a guard entry was written.
-    fn content(&self, name: &str) -> Result<&[T], String> {
+    /// The content after the call, or the error where a guard entry was written.
+    fn content(&self) -> Result<&[T], String> {
         let (before, rest) = self.entries.split_at(GUARD);
         let (content, after) = rest.split_at(self.length);
         if before.iter().chain(after).any(|entry| *entry != self.guard) {
-            return Err(format!("memory beside the {name} was written"));
+            return Err(format!("memory beside the {} was written", self.name));
         }
         Ok(content)
     }
 
+    /// Gives the content after the call back.
+    fn give_back(&self, content: &mut [T]) -> Result<(), String> {
+        content.copy_from_slice(self.content()?);
+        Ok(())
+    }
+
     /// The error where an argument that is only read, or a guard entry beside it, was written.
-    fn unwritten(&self, name: &str, content: &[T]) -> Result<(), String> {
-        if self.content(name)? == content { Ok(()) } else { Err(format!("the {name} was written")) }
+    fn unwritten(&self, content: &[T]) -> Result<(), String> {
+        if self.content()? == content { Ok(()) } else { Err(format!("the {} was written", self.name)) }
     }
 }
 
@@ -48,9 +55,13 @@ struct LentTables {
     generations: Lent<u8>,
 }
 
-/// A call of the function named, with the four tables as pointers and lengths, then what follows.
+const MESH: [&str; 4] = ["positions", "corners", "links", "generations"];
+const SPARES: [&str; 4] = ["spare positions", "spare corners", "spare links", "spare generations"];
+
+/// A call of the function named, with the four tables as pointers and lengths, then what follows, and the spare tables
+/// after a semicolon.
 macro_rules! call {
-    ($function:ident, $lent:expr $(, $argument:expr)*) => {
+    ($function:ident, $lent:expr $(, $argument:expr)* $(; $spares:expr)?) => {
         // SAFETY: every pointer is to as many entries as the length beside it says, and no two overlap.
         unsafe {
             $function(
@@ -63,45 +74,36 @@ macro_rules! call {
                 $lent.generations.pointer(),
                 $lent.generations.length
                 $(, $argument)*
+                $(,
+                    $spares.positions.pointer(),
+                    $spares.positions.length,
+                    $spares.corners.pointer(),
+                    $spares.corners.length,
+                    $spares.links.pointer(),
+                    $spares.links.length,
+                    $spares.generations.pointer(),
+                    $spares.generations.length
+                )?
             )
         }
     };
 }
 
 impl LentTables {
-    fn new(tables: &Tables) -> LentTables {
+    fn new([positions, corners, links, generations]: [&'static str; 4], tables: &Tables) -> LentTables {
         LentTables {
-            positions: Lent::new(&tables.positions, 0x5A5A_5A5A),
-            corners: Lent::new(&tables.corners, 0x5B5B_5B5B),
-            links: Lent::new(&tables.links, 0x5C5C_5C5C),
-            generations: Lent::new(&tables.generations, 0x5D),
+            positions: Lent::new(positions, &tables.positions, 0x5A5A_5A5A),
+            corners: Lent::new(corners, &tables.corners, 0x5B5B_5B5B),
+            links: Lent::new(links, &tables.links, 0x5C5C_5C5C),
+            generations: Lent::new(generations, &tables.generations, 0x5D),
         }
     }
 
     fn give_back(&self, tables: &mut Tables) -> Result<(), String> {
-        tables.positions.copy_from_slice(self.positions.content("positions")?);
-        tables.corners.copy_from_slice(self.corners.content("corners")?);
-        tables.links.copy_from_slice(self.links.content("links")?);
-        tables.generations.copy_from_slice(self.generations.content("generations")?);
-        Ok(())
-    }
-}
-
-/// The room beside the mesh as it is lent to the library.
-struct LentRoom {
-    ring: Lent<u32>,
-    table: Lent<i32>,
-}
-
-impl LentRoom {
-    fn new(room: &Room) -> LentRoom {
-        LentRoom { ring: Lent::new(&room.ring, 0x5E5E_5E5E), table: Lent::new(&room.table, 0x5F5F_5F5F) }
-    }
-
-    fn give_back(&self, room: &mut Room) -> Result<(), String> {
-        room.ring.copy_from_slice(self.ring.content("ring buffer")?);
-        room.table.copy_from_slice(self.table.content("limit table")?);
-        Ok(())
+        self.positions.give_back(&mut tables.positions)?;
+        self.corners.give_back(&mut tables.corners)?;
+        self.links.give_back(&mut tables.links)?;
+        self.generations.give_back(&mut tables.generations)
     }
 }
 
@@ -129,6 +131,12 @@ impl From<LimitRead> for Answer {
     }
 }
 
+impl From<BatchWorked> for Answer {
+    fn from(BatchWorked { refusal, splits, flips, counts, handled, spares }: BatchWorked) -> Answer {
+        Answer { refusal, splits, flips, counts, handled, spares, ..Answer::default() }
+    }
+}
+
 /// The library under test. Its calls get copies of what is lent, with guard entries around them.
 pub struct Library;
 
@@ -138,26 +146,40 @@ impl Service for Library {
     }
 
     fn answer(&self, store: &mut Store, call: &Call) -> Result<Answer, String> {
-        let counts = store.counts;
-        let (mut lent, mut room) = (LentTables::new(&store.tables), LentRoom::new(&store.room));
+        let Store { tables, counts, room } = store;
+        let mut lent = LentTables::new(MESH, tables);
         let answer: Answer = match call {
             Call::Load { rule, cage } => {
-                let mut bytes = Lent::new(cage, 0xA5);
-                let worked = call!(rawplinth_load, lent, counts, *rule, bytes.pointer(), bytes.length);
-                bytes.unwritten("cage", cage)?;
+                let mut bytes = Lent::new("cage", cage, 0xA5);
+                let worked = call!(rawplinth_load, lent, *counts, *rule, bytes.pointer(), bytes.length);
+                bytes.unwritten(cage)?;
                 worked.into()
             }
-            Call::Refine { triangle } => call!(rawplinth_refine, lent, counts, *triangle).into(),
-            Call::WholeStep => call!(rawplinth_whole_step, lent, counts).into(),
+            Call::Refine { triangle } => call!(rawplinth_refine, lent, *counts, *triangle).into(),
+            Call::WholeStep => call!(rawplinth_whole_step, lent, *counts).into(),
             Call::Ring { vertex } => {
-                call!(rawplinth_ring, lent, counts, *vertex, room.ring.pointer(), room.ring.length).into()
+                let mut buffer = Lent::new("ring buffer", &room.ring, 0x5E5E_5E5E);
+                let read = call!(rawplinth_ring, lent, *counts, *vertex, buffer.pointer(), buffer.length);
+                buffer.give_back(&mut room.ring)?;
+                read.into()
             }
-            Call::Position { vertex } => call!(rawplinth_position, lent, counts, *vertex).into(),
-            Call::Limit => call!(rawplinth_limit, lent, counts, room.table.pointer(), room.table.length).into(),
+            Call::Position { vertex } => call!(rawplinth_position, lent, *counts, *vertex).into(),
+            Call::Limit => {
+                let mut table = Lent::new("limit table", &room.table, 0x5F5F_5F5F);
+                let read = call!(rawplinth_limit, lent, *counts, table.pointer(), table.length);
+                table.give_back(&mut room.table)?;
+                read.into()
+            }
+            Call::RefineList { list } => {
+                let (mut entries, mut spares) = (Lent::new("list", list, !0), LentTables::new(SPARES, &room.spares));
+                let worked = call!(rawplinth_refine_list, lent, *counts, entries.pointer(), entries.length; spares);
+                entries.unwritten(list)?;
+                spares.give_back(&mut room.spares)?;
+                worked.into()
+            }
         };
-        lent.give_back(&mut store.tables)?;
-        room.give_back(&mut store.room)?;
-        store.counts = answer.counts;
+        lent.give_back(tables)?;
+        *counts = answer.counts;
         Ok(answer)
     }
 }

@@ -181,6 +181,9 @@ pub fn chains(bench: &mut Bench, rng: &mut Rng) -> Outcome {
                 let (v, f) = added(odd, even_end);
                 for (vertices, triangles) in [(v, f), (v - 1, f), (v, f - 1), (30, 60)] {
                     let mut store = gluing.store(vertices, triangles, rng);
+                    store.room.spares = calls::fitting_spares(&store, rng);
+                    // All triangles, of which those of the chain rise with its first.
+                    bench.compare_only(&store, &Call::RefineList { list: (0..=first).rev().collect() })?;
                     bench.compare(&mut store, &Call::Refine { triangle: first })?;
                     bench.compare(&mut store, &Call::Refine { triangle: first })?;
                     calls::compare_some(bench, &mut store, 4, rng)?;

@@ -260,12 +260,15 @@ fn all_lists_from(bench: &mut Bench, store: &Store, length: usize) -> Outcome {
     Ok(())
 }
 
-/// Cages that fill the largest tables, a whole step that nearly does, and rings of tens of thousands.
+/// Cages that fill the largest tables, a whole step that nearly does, and rings and lists of tens of thousands.
 pub fn largest(bench: &mut Bench, rng: &mut Rng) -> Outcome {
     let fans = [cages::double_pyramid(32_700), cages::open_fan(32_766)];
     for cage in [cages::torus(128, 256), cages::torus(106, 103)].into_iter().chain(fans) {
         let mut history = History::begun(32_768, 65_536, rng);
         history.load(bench, calls::either_rule(rng), cage.shuffled(rng).scattered(rng).bytes())?;
+        history.store.room.spares = calls::fitting_spares(&history.store, rng);
+        let every_other = (0..history.store.counts.triangles).step_by(2).collect();
+        bench.compare_only(&history.store, &Call::RefineList { list: every_other })?;
         for _ in 0..2 {
             history.store.room.table = vec![7; 3 * history.store.vertices()];
             bench.compare(&mut history.store, &Call::Limit)?;

@@ -15,6 +15,7 @@ mod halves;
 mod handmade;
 mod histories;
 mod limits;
+mod lists;
 mod load;
 mod malformed;
 mod mesh;
@@ -26,6 +27,7 @@ mod random_cages;
 #[path = "../../include/rawplinth.rs"]
 #[cfg_attr(not(linked), allow(dead_code))]
 mod rawplinth;
+mod refine;
 mod rng;
 mod smooth;
 mod sound;

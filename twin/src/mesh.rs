@@ -83,6 +83,11 @@ impl Mesh {
         Counts { vertices: self.points.len() as u32, triangles: self.triangles.len() as u32, rule: self.rule }
     }
 
+    /// The opposite of condition 11: of these slots, so many vertices and triangles are free.
+    pub fn leaves_free(&self, [vertex_slots, triangle_slots]: [usize; 2], vertices: usize, triangles: usize) -> bool {
+        self.points.len() + vertices <= vertex_slots && self.triangles.len() + triangles <= triangle_slots
+    }
+
     /// The side across, or none at the boundary.
     pub fn across(&self, side: Side) -> Option<Side> {
         self.triangles[side.triangle].links[side.number]

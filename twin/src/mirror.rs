@@ -1,5 +1,5 @@
-//! Mirror images: one coordinate negated everywhere, in slots that are not in use, in what is lent for results and in
-//! the cage of a load, too.
+//! Mirror images: one coordinate negated everywhere, in slots that are not in use, in what is lent for work and results
+//! and in the cage of a load, too.
 
 use crate::tables::{Answer, Call, Store};
 
@@ -15,6 +15,7 @@ pub fn of_store(store: &Store, axis: usize) -> Store {
     let mut image = store.clone();
     negate(&mut image.tables.positions, axis);
     negate(&mut image.room.table, axis);
+    negate(&mut image.room.spares.positions, axis);
     image
 }
 

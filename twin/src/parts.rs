@@ -4,7 +4,7 @@ use std::time::Instant;
 
 use crate::bench::{Bench, Outcome};
 use crate::rng::Rng;
-use crate::{damage, examples, halves, handmade, histories, limits, malformed, surgery, unsound};
+use crate::{damage, examples, halves, handmade, histories, limits, lists, malformed, surgery, unsound};
 
 type Part = fn(&mut Bench, &mut Rng) -> Outcome;
 
@@ -28,6 +28,10 @@ const PARTS: &[(&str, Part)] = &[
     ("every entry damaged", damage::single_entries),
     ("damage that keeps order", |bench, rng| surgery::random_damage(bench, 8_000, rng)),
     ("limit positions", limits::run),
+    ("lists of all lengths", lists::lengths),
+    ("lists without room", lists::without_room),
+    ("spare tables of other sizes", lists::spare_sizes),
+    ("all short lists", lists::all_short),
     ("whole steps", histories::whole_steps),
     ("shells with boundary", |bench, rng| histories::shells(bench, 150, rng)),
     ("deep histories", |bench, rng| histories::deep(bench, 120, rng)),

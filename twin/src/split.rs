@@ -20,8 +20,12 @@ pub struct Work {
 impl Work {
     /// One split more, with its flips.
     fn add(&mut self, flips: u32) {
-        self.splits += 1;
-        self.flips += flips;
+        *self = self.and(Work { splits: 1, flips });
+    }
+
+    /// Both together.
+    pub fn and(self, other: Work) -> Work {
+        Work { splits: self.splits + other.splits, flips: self.flips + other.flips }
     }
 }
 

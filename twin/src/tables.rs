@@ -24,6 +24,28 @@ pub struct Tables {
     pub generations: Vec<u8>,
 }
 
+impl Tables {
+    /// Tables with so many entries each, which hold anything.
+    pub fn junk([positions, corners, links, generations]: [usize; 4], rng: &mut Rng) -> Tables {
+        Tables {
+            positions: (0..positions).map(|_| rng.word() as i32).collect(),
+            corners: (0..corners).map(|_| rng.word() >> rng.below(32)).collect(),
+            links: (0..links).map(|_| rng.word() >> rng.below(32)).collect(),
+            generations: (0..generations).map(|_| rng.word() as u8).collect(),
+        }
+    }
+
+    /// How many entries each table has.
+    pub fn lengths(&self) -> [usize; 4] {
+        [self.positions.len(), self.corners.len(), self.links.len(), self.generations.len()]
+    }
+
+    /// The slots of vertices and of triangles.
+    pub fn slots(&self) -> [usize; 2] {
+        [self.positions.len() / 3, self.generations.len()]
+    }
+}
+
 /// What calls are lent beside the mesh. A call takes what it needs of it and leaves the rest.
 #[derive(Clone, Debug, Default, PartialEq, Eq)]
 pub struct Room {
@@ -31,6 +53,8 @@ pub struct Room {
     pub ring: Vec<u32>,
     /// The table of a limit query.
     pub table: Vec<i32>,
+    /// The tables that a list is worked off in.
+    pub spares: Tables,
 }
 
 /// All that a caller lends: the mesh, which is tables and the counts that travel with them, and room beside it.
@@ -57,23 +81,19 @@ impl Store {
 
     /// A store whose slots hold anything, so that a write past the counts shows, with any rule.
     pub fn junk(vertex_slots: usize, triangle_slots: usize, rng: &mut Rng) -> Store {
-        let mut store = Store::fresh(vertex_slots, triangle_slots);
-        let tables = &mut store.tables;
-        tables.positions.fill_with(|| rng.word() as i32);
-        tables.corners.fill_with(|| rng.word() >> rng.below(32));
-        tables.links.fill_with(|| rng.word() >> rng.below(32));
-        tables.generations.fill_with(|| rng.word() as u8);
+        let lengths = [3 * vertex_slots, 3 * triangle_slots, 3 * triangle_slots, triangle_slots];
+        let tables = Tables::junk(lengths, rng);
         let no_rule = rng.pick(&NO_RULES);
-        store.counts.rule = rng.pick(&[HALF_UP, HALF_AWAY, no_rule]);
-        store
+        let rule = rng.pick(&[HALF_UP, HALF_AWAY, no_rule]);
+        Store { tables, counts: Counts { rule, ..Counts::default() }, ..Store::default() }
     }
 
     pub fn vertex_slots(&self) -> usize {
-        self.tables.positions.len() / 3
+        self.tables.slots()[0]
     }
 
     pub fn triangle_slots(&self) -> usize {
-        self.tables.generations.len()
+        self.tables.slots()[1]
     }
 
     /// The vertices in use, or all slots where the count lies beyond them.
@@ -96,6 +116,7 @@ pub enum Call {
     Ring { vertex: u32 },
     Position { vertex: u32 },
     Limit,
+    RefineList { list: Vec<u32> },
 }
 
 /// What a call answers, with zeros for what it does not speak of.
@@ -109,6 +130,9 @@ pub struct Answer {
     pub length: u32,
     pub point: [i32; 3],
     pub counts: Counts,
+    /// The entries of a list that were handled, and the counts of the mesh that is in the spare tables by it.
+    pub handled: usize,
+    pub spares: Counts,
 }
 
 /// Refuses with a number where its condition holds.

@@ -2,9 +2,11 @@
 
 use crate::fault::{Fault, Seeded};
 use crate::load::mesh_of_cage;
-use crate::mesh::{Mesh, Side};
+use crate::mesh::Mesh;
+use crate::refine::{Handled, handle};
 use crate::smooth::{LONGEST_RING, limit_points, whole_step};
 use crate::sound::{is_rule, is_sound};
+use crate::split::Work;
 use crate::tables::{
     Answer, Call, Counts, HALF_UP, LAST_GENERATION, MOST_TRIANGLE_SLOTS, MOST_VERTEX_SLOTS, Service, Store, Tables,
     refuse_unless,
@@ -33,6 +35,7 @@ impl Service for Twin {
             Call::Ring { vertex } => self.ring(tables, *counts, *vertex as usize, &mut room.ring),
             Call::Position { vertex } => self.position(tables, *counts, *vertex as usize),
             Call::Limit => self.limit(tables, *counts, &mut room.table),
+            Call::RefineList { list } => self.refine_list(tables, *counts, list, &mut room.spares),
         };
         let rule = self.fault.unless(Fault::RefusedWithoutRule, counts.rule, 0);
         let kept = Counts { rule, ..*counts };
@@ -51,8 +54,7 @@ impl Twin {
         refuse_unless(good_rule || !self.fault.has(Fault::RuleBeforeTables), 16)?;
         refuse_unless(self.tables_agree(tables), 1)?;
         refuse_unless(good_rule || self.fault.has(Fault::SizesBeforeRule), 16)?;
-        let slots = [tables.positions.len() / 3, tables.generations.len()];
-        let mesh = mesh_of_cage(cage, rule, slots, self.fault);
+        let mesh = mesh_of_cage(cage, rule, tables.slots(), self.fault);
         if self.fault.has(Fault::RefusedLoadWrites) && mesh == Err(6) {
             tables.positions[0] = 0;
         }
@@ -71,41 +73,75 @@ impl Twin {
         Ok(Answer { counts, ..Answer::default() })
     }
 
-    /// Refine: 1, 7, 8, 9, 11. Condition 10 is no more.
+    /// Refine: 1, 7, 8, 9, 11.
     fn refine(&self, tables: &mut Tables, counts: Counts, t: usize) -> Result<Answer, u32> {
         refuse_unless(self.tables_agree(tables), 1)?;
         if self.fault.has(Fault::UseBeforeSound) {
             refuse_unless(t < counts.triangles as usize, 8)?;
         }
         let mut mesh = self.sound_mesh(tables, counts)?;
-        refuse_unless(t < mesh.triangles.len(), 8)?;
-        let generation = mesh.triangles[t].generation;
-        refuse_unless(generation != LAST_GENERATION, 9)?;
-        let base_at_boundary = generation % 2 == 1 && mesh.across(Side::new(t, 0)).is_none();
-        let too_old = generation == LAST_GENERATION - 1 && base_at_boundary;
-        refuse_unless(!too_old || self.fault.has(Fault::NineteenAtBoundary), 9)?;
-        let chain = mesh.base_chain(t);
-        let at_boundary = chain.even_end.is_none();
-        let (vertices_needed, triangles_needed) = match chain.odd.len() {
-            0 => (1, 2),
-            odd if !at_boundary => (odd, 2 * odd),
-            1 => (2, 2),
-            odd => (odd, 2 * (odd - 1)),
-        };
-        let fewer = at_boundary && self.fault.has(Fault::RoomForOneVertex);
-        let vertices_needed = if fewer { vertices_needed - 1 } else { vertices_needed };
-        let triangles_needed = self.fault.unless(Fault::SlotsOffByOne, triangles_needed, triangles_needed + 1);
-        refuse_unless(has_slots(tables, &mesh, vertices_needed, triangles_needed), 11)?;
-        let mut work = mesh.refine(t);
-        if self.fault.has(Fault::SplitsFromGeneration) && generation % 2 == 1 {
-            work.splits = u32::from(generation).div_ceil(2);
-        }
-        if self.fault.has(Fault::SplitsAsOdd) && at_boundary {
-            work.splits = chain.odd.len() as u32;
-        }
+        let work = mesh.refine_in(tables.slots(), t)?;
         mesh.rule = self.fault.unless(Fault::RefinedByRuleOne, mesh.rule, HALF_UP);
         mesh.write(tables);
         Ok(Answer { splits: work.splits, flips: work.flips, counts: mesh.counts(), ..Answer::default() })
+    }
+
+    /// Refine list: 1, 17, 7, then what the first entry that fails fails with. The mesh is written if none does.
+    fn refine_list(
+        &self,
+        tables: &mut Tables,
+        counts: Counts,
+        list: &[u32],
+        spares: &mut Tables,
+    ) -> Result<Answer, u32> {
+        let done = self.work_in_spares(tables, counts, list, spares)?;
+        let failed = done.refusal != 0;
+        if !failed || self.fault.has(Fault::FailedListWrites) {
+            done.mesh.write(tables);
+        }
+        if !failed && self.fault.has(Fault::CopiedBackWhole) {
+            tables.clone_from(spares);
+        }
+        let Work { splits, flips } =
+            if failed && !self.fault.has(Fault::FailedListReports) { Work::default() } else { done.work };
+        let handled = done.entries + usize::from(failed && self.fault.has(Fault::FailingEntryCounted));
+        let counts = if failed { counts } else { done.mesh.counts() };
+        let spares = self.fault.unless(Fault::SparesCountedAsMesh, done.mesh.counts(), counts);
+        Ok(Answer { refusal: done.refusal, splits, flips, counts, handled, spares, ..Answer::default() })
+    }
+
+    /// Handles a list, after 1, 17 and 7. The slots in use of the spare tables then hold the mesh after the last entry
+    /// that succeeded, whether or not another failed, and their other slots keep their content.
+    fn work_in_spares(
+        &self,
+        tables: &Tables,
+        counts: Counts,
+        list: &[u32],
+        spares: &mut Tables,
+    ) -> Result<Handled, u32> {
+        let sizes_fit = self.sizes_fit(spares, tables);
+        refuse_unless(sizes_fit || !self.fault.has(Fault::SparesBeforeTables), 17)?;
+        refuse_unless(self.tables_agree(tables), 1)?;
+        refuse_unless(sizes_fit || self.fault.has(Fault::SoundBeforeSpares), 17)?;
+        let start = self.sound_mesh(tables, counts)?;
+        refuse_unless(sizes_fit, 17)?;
+        let done = handle(&start, list, tables.slots());
+        let left_alone = done.refusal != 0 && self.fault.has(Fault::FailedListKeepsSpares)
+            || list.is_empty() && self.fault.has(Fault::EmptyListKeepsSpares);
+        if self.fault.has(Fault::SparesFilledWhole) {
+            spares.clone_from(tables);
+        }
+        if !left_alone {
+            done.mesh.write(spares);
+        }
+        Ok(done)
+    }
+
+    /// The opposite of condition 17: each spare table is as long as the mesh's.
+    fn sizes_fit(&self, spares: &Tables, tables: &Tables) -> bool {
+        let ([p, c, l, g], lengths) = (spares.lengths(), tables.lengths());
+        let links = self.fault.unless(Fault::SpareLinksUntested, l, lengths[2]);
+        [p, c, links, g] == lengths
     }
 
     /// Whole step: 1, 7, 12, 9, 13, 11.
@@ -119,7 +155,7 @@ impl Twin {
         refuse_unless(mesh.triangles[0].generation != LAST_GENERATION, 9)?;
         refuse_unless(rings_have_weights(&mesh), 13)?;
         let splits = mesh.triangles.len();
-        refuse_unless(has_slots(tables, &mesh, splits, 2 * splits), 11)?;
+        refuse_unless(mesh.leaves_free(tables.slots(), splits, 2 * splits), 11)?;
         let work = whole_step(&mut mesh);
         mesh.write(tables);
         Ok(Answer { splits: work.splits, flips: work.flips, counts: mesh.counts(), ..Answer::default() })
@@ -201,10 +237,4 @@ fn is_closed_and_even(mesh: &Mesh) -> bool {
 /// The opposite of condition 13.
 fn rings_have_weights(mesh: &Mesh) -> bool {
     mesh.leaving_sides().iter().all(|leaving| mesh.ring(leaving).len() <= LONGEST_RING)
-}
-
-/// The opposite of condition 11: so many slots are free.
-fn has_slots(tables: &Tables, mesh: &Mesh, vertices_needed: usize, triangles_needed: usize) -> bool {
-    mesh.points.len() + vertices_needed <= tables.positions.len() / 3
-        && mesh.triangles.len() + triangles_needed <= tables.generations.len()
 }

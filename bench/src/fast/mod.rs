@@ -1,20 +1,21 @@
 //! The calls written for speed, without proofs: what the library is measured beside. The calls themselves have C
 //! names, so that callgrind can be told to count them alone.
 
+mod list;
 mod load;
 mod sound;
 mod split;
 mod step;
 
 use crate::tables::{
-    Answer, BOUNDARY, Call, Counts, HALF_AWAY, HALF_UP, Lent, LimitRead, MOST_TRIANGLE_SLOTS, MOST_VERTEX_SLOTS,
-    PositionRead, RingRead, Tables, Worked,
+    Answer, BOUNDARY, BatchWorked, Call, Counts, HALF_AWAY, HALF_UP, Lent, LimitRead, MOST_TRIANGLE_SLOTS,
+    MOST_VERTEX_SLOTS, PositionRead, RingRead, Tables, Worked,
 };
 
 const LAST_GENERATION: u8 = 20;
 
 pub fn answer(lent: &mut Lent, call: Call) -> Answer {
-    let Lent { tables, counts, cage, buffer, table } = lent;
+    let Lent { tables, counts, cage, buffer, table, list, spares } = lent;
     match call {
         Call::Load(rule) => Answer::Worked(fast_load(tables, *counts, rule, cage)),
         Call::Refine(triangle) => Answer::Worked(fast_refine(tables, *counts, triangle)),
@@ -22,6 +23,7 @@ pub fn answer(lent: &mut Lent, call: Call) -> Answer {
         Call::Ring(vertex) => Answer::Ring(fast_ring(tables, *counts, vertex, buffer)),
         Call::Position(vertex) => Answer::Position(fast_position(tables, *counts, vertex)),
         Call::Limit => Answer::Limit(fast_limit(tables, *counts, table)),
+        Call::RefineList => Answer::List(fast_refine_list(tables, *counts, list, spares)),
     }
 }
 
@@ -83,6 +85,16 @@ fn fast_position(tables: &Tables, counts: Counts, vertex: u32) -> PositionRead {
 fn fast_limit(tables: &Tables, counts: Counts, table: &mut [i32]) -> LimitRead {
     let refused = starts(tables, counts).and_then(|_| step::limit(tables, counts, table)).err();
     LimitRead { refusal: refused.unwrap_or(0), counts }
+}
+
+#[unsafe(no_mangle)]
+#[inline(never)]
+fn fast_refine_list(tables: &mut Tables, counts: Counts, list: &[u32], spares: &mut Tables) -> BatchWorked {
+    let good = if tables_agree(tables) && !list::sizes_fit(tables, spares) { Err(17) } else { starts(tables, counts) };
+    match good {
+        Ok(_) => list::refine_list(tables, counts, list, spares),
+        Err(refusal) => BatchWorked { refusal, counts, ..BatchWorked::default() },
+    }
 }
 
 fn is_rule(number: u32) -> bool {

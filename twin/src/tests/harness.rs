@@ -1,6 +1,7 @@
 //! The harness against itself: what it makes is what it says, and what is broken is caught.
 
 use crate::bench::Bench;
+use crate::calls::fitting_spares;
 use crate::case::Case;
 use crate::claims;
 use crate::damage;
@@ -73,6 +74,7 @@ fn cases_are_read_back_as_they_were_written() {
     let mut store = handmade::random(rng);
     store.room.ring = vec![9, 9, 4];
     store.room.table = vec![-1, -1, i32::MAX];
+    store.room.spares = fitting_spares(&store, rng);
     let calls = [
         Call::Load { rule: 1, cage: vec![1, 1, 1, 255, 0] },
         Call::Load { rule: u32::MAX, cage: vec![] },
@@ -81,6 +83,8 @@ fn cases_are_read_back_as_they_were_written() {
         Call::Ring { vertex: 9 },
         Call::Position { vertex: u32::MAX },
         Call::Limit,
+        Call::RefineList { list: vec![] },
+        Call::RefineList { list: vec![3, 3, 3, u32::MAX] },
     ];
     for call in calls {
         let case = Case { store: store.clone(), call };
@@ -107,9 +111,11 @@ fn claims_tell_broken_tables() {
 #[test]
 fn mirror_images_tell_what_spoils_them() {
     let rng = &mut Rng::new(15);
-    let store = handmade::random(rng);
+    let mut store = handmade::random(rng);
+    store.room.spares = fitting_spares(&store, rng);
     for axis in AXES {
-        assert_ne!(mirror::of_store(&store, axis), store);
+        assert_ne!(mirror::of_store(&store, axis).tables, store.tables);
+        assert_ne!(mirror::of_store(&store, axis).room.spares, store.room.spares);
         assert_eq!(mirror::of_store(&mirror::of_store(&store, axis), axis), store);
         let load = Call::Load { rule: 2, cage: malformed::random(rng) };
         assert_eq!(mirror::of_call(&mirror::of_call(&load, axis), axis), load);

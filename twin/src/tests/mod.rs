@@ -1,7 +1,36 @@
 //! Tests of the twin against the papers, and of the harness against itself.
 
 mod harness;
+mod lists;
 mod modules;
 mod plain_sound;
 mod rules;
 mod version;
+
+use crate::cages::Cage;
+use crate::rng::Rng;
+use crate::tables::{Answer, Call, HALF_UP, Service, Store};
+use crate::twin::Twin;
+
+/// Runs a call on the twin; the store's counts follow.
+fn run(store: &mut Store, call: &Call) -> Answer {
+    Twin::UNBROKEN.answer(store, call).expect("the twin stays inside")
+}
+
+fn loaded(cage: &Cage) -> Store {
+    loaded_by(HALF_UP, cage)
+}
+
+fn loaded_by(rule: u32, cage: &Cage) -> Store {
+    let mut store = Store::junk(60, 100, &mut Rng::new(5));
+    assert_eq!(run(&mut store, &Call::Load { rule, cage: cage.bytes() }).refusal, 0);
+    store
+}
+
+fn after_requests(cage: &Cage, requests: &[u32]) -> Store {
+    let mut store = loaded(cage);
+    for &triangle in requests {
+        run(&mut store, &Call::Refine { triangle });
+    }
+    store
+}

@@ -7,36 +7,13 @@ use crate::malformed::RawCage;
 use crate::mirror;
 use crate::program::{Files, model};
 use crate::rng::Rng;
-use crate::tables::{Answer, BOUNDARY, Call, Counts, FARTHEST, HALF_AWAY, HALF_UP, Service, Store};
-use crate::twin::Twin;
-
-/// Runs a call on the twin; the store's counts follow.
-fn run(store: &mut Store, call: &Call) -> Answer {
-    Twin::UNBROKEN.answer(store, call).expect("the twin stays inside")
-}
-
-fn loaded(cage: &Cage) -> Store {
-    loaded_by(HALF_UP, cage)
-}
-
-fn loaded_by(rule: u32, cage: &Cage) -> Store {
-    let mut store = Store::junk(60, 100, &mut Rng::new(5));
-    assert_eq!(run(&mut store, &Call::Load { rule, cage: cage.bytes() }).refusal, 0);
-    store
-}
+use crate::tables::{Answer, BOUNDARY, Call, Counts, FARTHEST, HALF_AWAY, HALF_UP, Store};
+use crate::tests::{after_requests, loaded, loaded_by, run};
 
 /// The program's lines for a cage and its requests.
 fn lines(cage: &Cage, requests: &[u32]) -> String {
     let requests = requests.iter().flat_map(|request| request.to_le_bytes()).collect();
     model(&Files { cage: Some(cage.bytes()), requests: Some(requests) })
-}
-
-fn after_requests(cage: &Cage, requests: &[u32]) -> Store {
-    let mut store = loaded(cage);
-    for &triangle in requests {
-        run(&mut store, &Call::Refine { triangle });
-    }
-    store
 }
 
 fn slot(store: &Store, triangle: usize) -> ([u32; 3], u8) {
@@ -148,7 +125,7 @@ fn links_are_no_function_of_the_corners() {
 fn refusals_are_those_of_the_table() {
     let rng = &mut Rng::new(3);
     let table = examples::refusals(rng);
-    assert!(table.iter().map(|example| example.refusal).eq((1..=16).filter(|&number| number != 10)));
+    assert!(table.iter().map(|example| example.refusal).eq((1..=17).filter(|&number| number != 10)));
     for Example { refusal, store, call } in table.into_iter().chain(examples::orders(rng)) {
         let mut after = store.clone();
         let answer = run(&mut after, &call);

@@ -1,0 +1,68 @@
+/* Loads an octahedron and refines triangles of it together: a list that is carried out, and one that is not. */
+#include "rawplinth.h"
+
+#include <stdio.h>
+
+enum { VERTEX_SLOTS = 12, TRIANGLE_SLOTS = 20 };
+
+/* Four tables for the mesh, and four of the same sizes to work in. */
+typedef struct {
+    int32_t positions[3 * VERTEX_SLOTS];
+    uint32_t corners[3 * TRIANGLE_SLOTS];
+    uint32_t links[3 * TRIANGLE_SLOTS];
+    uint8_t generations[TRIANGLE_SLOTS];
+} tables;
+
+static tables mesh, spares;
+
+/* The tables with their lengths, as every call takes them. */
+#define LENT(t) \
+    (t).positions, 3 * VERTEX_SLOTS, (t).corners, 3 * TRIANGLE_SLOTS, (t).links, 3 * TRIANGLE_SLOTS, (t).generations, \
+        TRIANGLE_SLOTS
+
+/* The sizes, the coordinates and the corners. */
+static const int32_t cage[] = {
+    6, 8,
+    9216, 0, 0,  0, 9216, 0,  -9216, 0, 0,  0, -9216, 0,  0, 0, 9216,  0, 0, -9216,
+    0, 1, 4,  1, 2, 4,  2, 3, 4,  3, 0, 4,  1, 0, 5,  2, 1, 5,  3, 2, 5,  0, 3, 5,
+};
+
+/* Refines the triangles of a list and tells what comes of it. */
+static rawplinth_counts lasso(rawplinth_counts counts, const uint32_t *list, size_t length)
+{
+    rawplinth_batch_worked done = rawplinth_refine_list(LENT(mesh), counts, list, length, LENT(spares));
+    switch (done.refusal) {
+    case RAWPLINTH_OK:
+        printf("%zu entries: %u splits, %u flips\n", done.handled, done.splits, done.flips);
+        break;
+    case RAWPLINTH_NOT_IN_USE:
+    case RAWPLINTH_GENERATION:
+    case RAWPLINTH_NO_SLOTS:
+        printf("entry %zu, triangle %u: refused with %u\n", done.handled, list[done.handled], done.refusal);
+        break;
+    default: /* by no entry */
+        printf("refused with %u\n", done.refusal);
+    }
+    printf("the mesh: %u vertices, %u triangles; ", done.counts.vertices, done.counts.triangles);
+    printf("the spares: %u vertices, %u triangles\n", done.spares.vertices, done.spares.triangles);
+    return done.counts;
+}
+
+int main(void)
+{
+    rawplinth_counts counts = {0, 0, RAWPLINTH_HALF_UP};
+    uint8_t bytes[sizeof cage];
+    for (size_t i = 0; i < sizeof bytes; i++)
+        bytes[i] = (uint32_t)cage[i / 4] >> 8 * (i % 4) & 255;
+    rawplinth_worked done = rawplinth_load(LENT(mesh), counts, RAWPLINTH_HALF_UP, bytes, sizeof bytes);
+    if (done.refusal != RAWPLINTH_OK)
+        return 1;
+
+    /* Three neighbours. The first is listed twice, which does no harm. */
+    counts = lasso(done.counts, (const uint32_t[]){0, 1, 2, 0}, 4);
+    /* There are slots for three splits, but not for a fourth: the mesh stands. */
+    lasso(counts, (const uint32_t[]){3, 4, 5, 6}, 4);
+    /* Triangle 14 comes into use by the first entry, but was not when the call began. */
+    lasso(counts, (const uint32_t[]){3, 14}, 2);
+    return 0;
+}
