@@ -3,19 +3,19 @@ use borrow.Author.Tests.{not-true, not-false, eq-eqb, ne-eqb}
 use mathlib.Core.Bool.{Bool, true, false, not}
 use mathlib.Core.List.{List, [], _∷_}
 use mathlib.Core.Logic.{_≢_}
-use mathlib.Core.Path.{_≡_, refl, sym, _∙_}
+use mathlib.Core.Path.{_≡_, refl, sym, ap, _∙_}
 use Prim.Native.Nat.{ℕ}
 use lib.Dec.{eqb}
 use lib.ListN.{length}
 use Rattle.rules.proofs.Calls.FirstThatHolds.{refuses, carries}
 use Rattle.rules.proofs.Lists.ListCall.{spares-sound}
 use Rattle.rules.specs.Calls.{firstOf, _if_, spareRoom, refusedWith}
-use Rattle.rules.specs.Lists.{refineEach, sparesRefusal, allOrNothing, listCall}
+use Rattle.rules.specs.Lists.{sparesRefusal, listCall, previewCall}
 use Rattle.rules.specs.Sound.{isSound}
 use Rattle.rules.specs.Spares.{Spares, sameSizes}
 use Rattle.rules.specs.Tables.{Mesh, tablesAgree}
 use Rattle.refining.proofs.Refusing.{sound-standing}
-use Rattle.refining.specs.Batches.{MayWork, listDone}
+use Rattle.refining.specs.Batches.{MayWork, listDone, onlyRead}
 
 -- ---- lengths
 
@@ -79,3 +79,12 @@ module _ (s : Spares) (m : Mesh) where
     pub list-carried : (list : List ℕ) → r ≡ 0 → listDone list m s ≡ listCall list s m
     unfolding listCall
     list-carried list = carries m (spareRoom s) (listDone list m s) (sparesRefusal s m) r e
+
+    -- And of a preview.
+    pub preview-refused : (list : List ℕ) → r ≢ 0 → refusedWith r m (spareRoom s) ≡ previewCall list s m
+    unfolding previewCall
+    preview-refused list n = ap (onlyRead m) (list-refused list n)
+
+    pub preview-carried : (list : List ℕ) → r ≡ 0 → onlyRead m (listDone list m s) ≡ previewCall list s m
+    unfolding previewCall
+    preview-carried list z = ap (onlyRead m) (list-carried list z)

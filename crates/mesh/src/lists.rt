@@ -1,11 +1,12 @@
-// The call that refines a list of triangles.
+// The calls that refine a list of triangles and that foresee it.
+use refining::lists::BatchForeseen;
 use refining::lists::BatchWorked;
 use tables::Counts;
 ghost use mathlib.Core.Path.{_≡_};
-ghost use Rattle.rules.specs.Lists.{sparesRefusal, listCall};
+ghost use Rattle.rules.specs.Lists.{sparesRefusal, listCall, previewCall};
 ghost use Rattle.rules.specs.Spares.{sameSizes};
 ghost use Rattle.tables.specs.Lent.{meshNow, sparesNow};
-ghost use Rattle.refining.specs.Batches.{batchOutcome};
+ghost use Rattle.refining.specs.Batches.{batchOutcome, foreseenOutcome};
 
 // Whether the spare tables are as long as those of the mesh.
 fn same_sizes(
@@ -133,6 +134,66 @@ pub fn refine_list(
         };
     }
     refining::lists::refine_list(
+        positions,
+        corners,
+        links,
+        generations,
+        counts,
+        list,
+        spare_positions,
+        spare_corners,
+        spare_links,
+        spare_generations,
+    )
+}
+
+// Foresees what refine_list would answer and leave in the spare tables. The mesh is only read.
+pub fn preview(
+    positions: &[i32],
+    corners: &[u32],
+    links: &[u32],
+    generations: &[u8],
+    counts: Counts,
+    list: &[u32],
+    spare_positions: &mut [i32],
+    spare_corners: &mut [u32],
+    spare_links: &mut [u32],
+    spare_generations: &mut [u8],
+) -> BatchForeseen
+    ensures { λ r. ⌜ (let m = meshNow counts (now (positions .entry)) (now (corners .entry)) (now (links .entry))
+        (now (generations .entry)) in
+        foreseenOutcome r m (sparesNow (now («spare_positions» .exit)) (now («spare_corners» .exit))
+        (now («spare_links» .exit)) (now («spare_generations» .exit)))
+        ≡ previewCall (now (list .entry)) (sparesNow (now («spare_positions» .entry)) (now («spare_corners» .entry))
+        (now («spare_links» .entry)) (now («spare_generations» .entry))) m) ⌝ }
+{
+    let refusal = spares_refusal(
+        positions,
+        corners,
+        links,
+        generations,
+        counts,
+        spare_positions,
+        spare_corners,
+        spare_links,
+        spare_generations,
+    );
+    if refusal != 0 {
+        return BatchForeseen {
+            refusal,
+            splits: 0,
+            flips: 0,
+            foreseen_vertices: counts.vertices,
+            foreseen_triangles: counts.triangles,
+            handled: 0,
+            spares: Counts {
+                vertices: 0,
+                triangles: 0,
+                rule: 0,
+            },
+        };
+    }
+    refining::lists::preview(
         positions,
         corners,
         links,

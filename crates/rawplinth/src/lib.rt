@@ -3,15 +3,16 @@
 use mesh::LimitRead;
 use mesh::PositionRead;
 use mesh::RingRead;
+use refining::lists::BatchForeseen;
 use refining::lists::BatchWorked;
 use tables::Counts;
 use tables::Worked;
 ghost use mathlib.Core.Path.{_≡_};
 ghost use Rattle.rules.specs.Calls.{loadCall, refineCall, wholeStepCall, limitCall, ringCall, positionCall};
-ghost use Rattle.rules.specs.Lists.{listCall};
+ghost use Rattle.rules.specs.Lists.{listCall, previewCall};
 ghost use Rattle.tables.specs.Answers.{workedOutcome};
 ghost use Rattle.tables.specs.Lent.{meshNow, sparesNow};
-ghost use Rattle.refining.specs.Batches.{batchOutcome};
+ghost use Rattle.refining.specs.Batches.{batchOutcome, foreseenOutcome};
 ghost use Rattle.mesh.specs.Answers.{limitOutcome, ringOutcome, positionOutcome};
 
 // Loads a cage, to be rounded by a rule.
@@ -92,6 +93,41 @@ pub extern "C" fn rawplinth_refine_list(
         (now (generations .entry))) ⌝ }
 {
     mesh::lists::refine_list(
+        positions,
+        corners,
+        links,
+        generations,
+        counts,
+        list,
+        spare_positions,
+        spare_corners,
+        spare_links,
+        spare_generations,
+    )
+}
+
+// Foresees a list of triangles in spare tables; the mesh is only read.
+#[no_mangle]
+pub extern "C" fn rawplinth_preview(
+    positions: &[i32],
+    corners: &[u32],
+    links: &[u32],
+    generations: &[u8],
+    counts: Counts,
+    list: &[u32],
+    spare_positions: &mut [i32],
+    spare_corners: &mut [u32],
+    spare_links: &mut [u32],
+    spare_generations: &mut [u8],
+) -> BatchForeseen
+    ensures { λ r. ⌜ (let m = meshNow counts (now (positions .entry)) (now (corners .entry)) (now (links .entry))
+        (now (generations .entry)) in
+        foreseenOutcome r m (sparesNow (now («spare_positions» .exit)) (now («spare_corners» .exit))
+        (now («spare_links» .exit)) (now («spare_generations» .exit)))
+        ≡ previewCall (now (list .entry)) (sparesNow (now («spare_positions» .entry)) (now («spare_corners» .entry))
+        (now («spare_links» .entry)) (now («spare_generations» .entry))) m) ⌝ }
+{
+    mesh::lists::preview(
         positions,
         corners,
         links,

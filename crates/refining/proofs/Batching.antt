@@ -2,26 +2,29 @@
 use borrow.Author.Tests.{le-leb, lt-leb, lt-ltb, le-ltb}
 use mathlib.Core.Bool.{Bool, true, false}
 use mathlib.Core.List.{List}
+use mathlib.Core.Logic.{_≢_}
 use mathlib.Core.Path.{_≡_, refl, sym, ap, ap₂, _∙_}
 use Prim.Native.Nat.{ℕ, _≤_, _<_}
 use native.Mathlib.Omega.{arith}
 use lib.Dec.{leb}
 use lib.IntN.{ℤ}
 use lib.ListN.{length, getD}
-use Rattle.rules.proofs.Lists.InSpares.{entryOutcome, Doing, doing-begins, Done, going-sizes}
+use Rattle.rules.proofs.Lists.InSpares.{entryOutcome, Doing, doing-begins, Done, going-sizes, failed-is}
+use Rattle.rules.proofs.Lists.InSpares.{copied-is}
 use Rattle.rules.proofs.Lists.ListCall.{folded}
 use Rattle.rules.proofs.Numbers.Fill.{length-fill}
 use Rattle.rules.proofs.Soundness.Relaxed.{SameSlots}
+use Rattle.rules.proofs.Spares.CopiedBack.{tablesOf}
 use Rattle.rules.proofs.Spares.OverSpares.{over, over-sound}
-use Rattle.rules.specs.Calls.{noRoom, refusedWith, worked, unless, refineRefusal, refineCall}
-use Rattle.rules.specs.Lists.{risen, entryRefusal, entryWork, refineEach}
+use Rattle.rules.specs.Calls.{outcomeOf, spareRoom, noRoom, refusedWith, worked, unless, refineRefusal, refineCall}
+use Rattle.rules.specs.Lists.{risen, entryRefusal, entryWork, refineEach, sparesAnswer}
 use Rattle.rules.specs.Sound.{Sound}
 use Rattle.rules.specs.Spares.{Spares, copied, meshIn, SameSizes}
 use Rattle.rules.specs.Split.{Work, atFirst, refine}
-use Rattle.rules.specs.Tables.{Mesh, generation}
+use Rattle.rules.specs.Tables.{Mesh, meshOf, withTopology, generation}
 use Rattle.tables.specs.declared.Counts.{Counts}
 use Rattle.tables.specs.Lent.{meshNow, HasSlots}
-use Rattle.refining.specs.Batches.{StartsWith, Begins, MayWork}
+use Rattle.refining.specs.Batches.{StartsWith, Begins, MayWork, listDone, onlyRead}
 use Rattle.refining.proofs.Refusing.{standing-sound}
 
 module _ (m x : Mesh) (f t : ℕ) (g : List ℕ) (W : StartsWith f g m) where
@@ -145,3 +148,23 @@ module _ (n : Counts) {p : List ℤ} {c l g : List ℕ} {s : Spares} (W : MayWor
             (sym (L .corners) ∙ Z .corners ∙ sym (R .corners)) (sym (L .links) ∙ Z .links ∙ sym (R .links))
             (sym (L .generations) ∙ Z .generations ∙ sym (R .generations)),
       )
+
+-- ---- what is foreseen
+
+module _ (list : List ℕ) {m : Mesh} {s : Spares} {n at k f : ℕ} {x : Mesh} (D : Done (refineEach list m) s n at k f x) where
+  pub foreseen-failed : n ≢ 0
+      → outcomeOf (sparesAnswer n 0 0 m at x) m (spareRoom (tablesOf x)) ≡ onlyRead m (listDone list m s)
+  foreseen-failed z = ap (onlyRead m) (failed-is m D z)
+
+  pub foreseen-done : MayWork m s → n ≡ 0
+      → outcomeOf (sparesAnswer 0 k f (withTopology (x .topology) m) at x) m (spareRoom (tablesOf x))
+      ≡ onlyRead m (listDone list m s)
+  foreseen-done W z =
+      let S = may-sound W in
+      let r : x .rule ≡ m .rule =
+      ap (λ (y : Mesh). y .rule) (D .tables) ∙ folded list s m S .going .places .rule in
+      let e = copied-is list {y = copied x (tablesOf m)} (W .sizes) S (rw z at D) refl in
+      ap (λ (q : ℕ).
+      outcomeOf (sparesAnswer 0 k f (meshOf (x .topology) (m .positions) q) at x) m (spareRoom (tablesOf x)))
+      (sym r)
+      ∙ ap (onlyRead m) e

@@ -9,10 +9,11 @@ use Rattle.rules.specs.Calls.{Outcome, outcomeOf, spareRoom}
 use Rattle.rules.specs.Lists.{refineEach, sparesAnswer, allOrNothing}
 use Rattle.rules.specs.Sound.{Sound}
 use Rattle.rules.specs.Spares.{Spares, SameSizes}
-use Rattle.rules.specs.Tables.{Mesh}
+use Rattle.rules.specs.Tables.{Mesh, topologyOf, withTopology}
 use Rattle.tables.specs.Lent.{meshNow}
 use Rattle.refining.specs.Standing.{standing}
 use Rattle.refining.specs.declared.lists.Batch.{Batch}
+use Rattle.refining.specs.declared.lists.BatchForeseen.{BatchForeseen}
 use Rattle.refining.specs.declared.lists.BatchWorked.{BatchWorked}
 
 -- The mesh at the call's start has so many triangles and these generations.
@@ -45,3 +46,14 @@ abbrev pub batchOutcome : BatchWorked → List ℤ → List ℕ → List ℕ →
 batchOutcome a positions corners links generations s =
     let m = meshNow (a .counts) positions corners links generations in
     outcomeOf (sparesAnswer (a .refusal) (a .splits) (a .flips) m (a .handled) (meshNow (a .spares) [] [] [] [])) m (spareRoom s)
+
+-- An outcome of which the mesh m is only read.
+abbrev pub onlyRead : Mesh → Outcome → Outcome
+onlyRead m o = outcomeOf (o .answer) m (o .room)
+
+-- The outcome of a preview of m.
+abbrev pub foreseenOutcome : BatchForeseen → Mesh → Spares → Outcome
+foreseenOutcome a m s =
+    let n = topologyOf (a .«foreseen_vertices») (a .«foreseen_triangles») [] [] [] in
+    outcomeOf (sparesAnswer (a .refusal) (a .splits) (a .flips) (withTopology n m) (a .handled)
+    (meshNow (a .spares) [] [] [] [])) m (spareRoom s)

@@ -8,6 +8,7 @@ ghost use Rattle.rules.specs.Tables.{Mesh};
 ghost use Rattle.tables.specs.Answers.{workedOutcome};
 ghost use Rattle.tables.specs.Lent.{meshNow, sparesNow};
 ghost use Rattle.refining.specs.Batches.{StartsWith, Begins, Handles, MayWork, listDone, batchOutcome};
+ghost use Rattle.refining.specs.Batches.{onlyRead, foreseenOutcome};
 ghost use Rattle.refining.specs.Standing.{standing};
 
 // How far a list was handled, with what its entries made: the number that the next one failed with, 0 for none, and the
@@ -233,6 +234,76 @@ pub fn refine_list(
         flips: made.flips,
         counts: reached,
         handled: made.handled,
+        spares: reached,
+    }
+}
+
+// The answer of a preview: V and F are those that the list would answer, and no counts of the mesh, which stands. On a
+// refusal they are the mesh's own.
+#[repr(C)]
+pub struct BatchForeseen {
+    pub refusal: u32,
+    pub splits: u32,
+    pub flips: u32,
+    pub foreseen_vertices: u32,
+    pub foreseen_triangles: u32,
+    pub handled: usize,
+    pub spares: Counts,
+}
+
+// Foresees a list of triangles: what refine_list answers and leaves in the spare tables, with the mesh only read.
+pub fn preview(
+    positions: &[i32],
+    corners: &[u32],
+    links: &[u32],
+    generations: &[u8],
+    counts: Counts,
+    list: &[u32],
+    spare_positions: &mut [i32],
+    spare_corners: &mut [u32],
+    spare_links: &mut [u32],
+    spare_generations: &mut [u8],
+) -> BatchForeseen
+    requires { ⌜ MayWork (meshNow counts (now positions) (now corners) (now links) (now generations))
+        (sparesNow (now «spare_positions») (now «spare_corners») (now «spare_links») (now «spare_generations»)) ⌝ }
+    ensures { λ r. ⌜ (let m = meshNow counts (now (positions .entry)) (now (corners .entry)) (now (links .entry))
+        (now (generations .entry)) in
+        foreseenOutcome r m (sparesNow (now («spare_positions» .exit)) (now («spare_corners» .exit))
+        (now («spare_links» .exit)) (now («spare_generations» .exit)))
+        ≡ onlyRead m (listDone (now (list .entry)) m (sparesNow (now («spare_positions» .entry))
+        (now («spare_corners» .entry)) (now («spare_links» .entry)) (now («spare_generations» .entry))))) ⌝ }
+{
+    let foreseen = work_in_spares(
+        positions,
+        corners,
+        links,
+        generations,
+        counts,
+        list,
+        spare_positions,
+        spare_corners,
+        spare_links,
+        spare_generations,
+    );
+    let reached = foreseen.counts;
+    if foreseen.refusal != 0 {
+        return BatchForeseen {
+            refusal: foreseen.refusal,
+            splits: 0,
+            flips: 0,
+            foreseen_vertices: counts.vertices,
+            foreseen_triangles: counts.triangles,
+            handled: foreseen.handled,
+            spares: reached,
+        };
+    }
+    BatchForeseen {
+        refusal: 0,
+        splits: foreseen.splits,
+        flips: foreseen.flips,
+        foreseen_vertices: reached.vertices,
+        foreseen_triangles: reached.triangles,
+        handled: foreseen.handled,
         spares: reached,
     }
 }

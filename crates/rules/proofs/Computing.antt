@@ -10,6 +10,7 @@ use Rattle.rules.specs.Calls.{positionRefusal, limitRefusal, loadCall, r
 use Rattle.rules.specs.Calls.{positionCall, limitCall}
 use Rattle.rules.specs.History.{Change, changes, after, outcomes, lastLoad, edges, cageEdges}
 use Rattle.rules.specs.Lists.{entryRefusal, entryWork, handle, handleAll, sparesRefusal, listCall}
+use Rattle.rules.specs.Lists.{previewCall}
 use Rattle.rules.specs.Numbers.{numberAt, signed, floorDiv, nearestThird, halfUp, rounded, weights, weight, moved}
 use Rattle.rules.specs.Numbers.{limit}
 use Rattle.rules.specs.Ring.{firstSide, fanFrom, fan, neighbours, ring}
@@ -30,7 +31,7 @@ unfolding all any lowest total fill cageOf partner loaded sizesFit cornersFit co
     faceCut flip limit limitCoordinate limitPositions limitRefusal limitCall centre firstThird secondThird facePlaced
     rimCut rimPlaced settle faceSplit rimSplit chainEndWithin chainOddWithin raise refine sumOver movedCoordinate
     moveVertices refineFirst wholeStep tablesAgree copied sameSizes entryRefusal entryWork handle handleAll sparesRefusal
-    listCall
+    listCall previewCall
 computing = tt
 
 -- The mesh after these changes, and the outcome of each.

@@ -4,3 +4,4 @@ pub mod Entries
 pub mod ListCall
 pub mod EveryList
 pub mod InSpares
+pub mod Preview

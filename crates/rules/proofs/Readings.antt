@@ -8,7 +8,7 @@ use Rattle.rules.proofs.Computing.{computing, made, madeEach, fresh, se
 use Rattle.rules.proofs.Examples.{lineOf, triangleOf, pointOf}
 use Rattle.rules.proofs.Refusals.{refusalAfter, cageAtOrigin, triangle}
 use Rattle.rules.specs.History.{Change, loads, refines, steps, refinesEach, ringOf, positionOf, limitsOf, asked}
-use Rattle.rules.specs.History.{changes, outcome, nothing, cage, lastLoad, edges}
+use Rattle.rules.specs.History.{changes, asks, previewOf, outcome, outcomes, nothing, cage, lastLoad, edges}
 use Rattle.rules.specs.Mirror.{mirror, mirrorTable}
 use Rattle.rules.specs.Numbers.{nearestThird, rounded}
 use Rattle.rules.specs.Tables.{Mesh, topologyOf, meshOf, link, generation, coordinate}
@@ -195,6 +195,10 @@ pub record Table : Type 0 where
   pub emptyList : map lineOf (madeEach (lassoed []) store)
       ≡ (0 ∷ 0 ∷ 0 ∷ 4 ∷ 4 ∷ []) ∷ (0 ∷ 0 ∷ 0 ∷ 4 ∷ 4 ∷ []) ∷ []
   pub heldByNone : heldBy [] ≡ 0 ∷ 4 ∷ 4 ∷ 0 ∷ 0 ∷ 7 ∷ 7 ∷ []
+  -- A preview answers the list's V and F, and the mesh keeps its own. (Request f)
+  pub foreseen : map lineOf (outcomes (map changes (loads 1 tetrahedron ∷ [])
+      ++ (asks (previewOf (0 ∷ 1 ∷ []) (sevens 12 20)) ∷ changes (refines 0) ∷ [])) store)
+      ≡ (0 ∷ 0 ∷ 0 ∷ 4 ∷ 4 ∷ []) ∷ (0 ∷ 2 ∷ 1 ∷ 6 ∷ 8 ∷ []) ∷ (0 ∷ 1 ∷ 0 ∷ 5 ∷ 6 ∷ []) ∷ []
 
 pub readings : Table
 unfolding computing mirrorTable fresh sevens lassoed heldBy tetrahedron triangle store sideOne octahedron pulled spike longChain hinge
@@ -243,4 +247,5 @@ readings = record {
   heldInSpares = refl;
   emptyList = refl;
   heldByNone = refl;
+  foreseen = refl;
 }

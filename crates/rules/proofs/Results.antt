@@ -17,13 +17,14 @@ use Rattle.rules.proofs.Chains.Refine.{chain-counts, chain-takes}
 use Rattle.rules.proofs.Lists.Entries.{handled-then}
 use Rattle.rules.proofs.Lists.ListCall.{list-refusal, list-makes, list-stops, one-entry}
 use Rattle.rules.proofs.Lists.EveryList.{refused-first, empty-list, held-in-spares, one-failure, listed-twice}
+use Rattle.rules.proofs.Lists.Preview.{preview-refusal, preview-is, preview-same, preview-shows, preview-again}
 use Rattle.rules.proofs.Mirrors.MirrorCalls.{call-mirror, history-mirror}
 use Rattle.rules.proofs.Rings.RingTheory.{ring-makes}
 use Rattle.rules.proofs.Numbers.Rounding.{nearest-third, nearest-third-only, rounded-nearest, nearest-only}
 use Rattle.rules.proofs.Soundness.SoundTest.{sound-is}
 use Rattle.rules.proofs.Spares.Adds.{refine-adds}
 use Rattle.rules.specs.Cage.{Cage, cageOf, loaded}
-use Rattle.rules.specs.Calls.{worked, loadCall, refineCall, wholeStepCall, ringRead, ringCall}
+use Rattle.rules.specs.Calls.{outcomeOf, worked, loadCall, refineCall, wholeStepCall, ringRead, ringCall}
 use Rattle.rules.specs.Calls.{positionRead, positionCall, limitRead, limitCall, splitsOf}
 use Rattle.rules.specs.Calls.{rimSplitsOf, verticesOf, trianglesOf, spareRoom, refusedWith}
 use Rattle.rules.specs.Conditions.{SidesDiffer, EndsAtBoundary, OddInChain, First, loadConditions}
@@ -31,11 +32,11 @@ use Rattle.rules.specs.Conditions.{refineConditions, wholeStepConditions
 use Rattle.rules.specs.Conditions.{positionConditions, listConditions, Takes, FailsAfter}
 use Rattle.rules.specs.History.{Call, outcome, after, lastLoad, nothing, cage, EveryHistory}
 use Rattle.rules.specs.Lists.{Progress, begun, handleAll, refineEach, sparesRefusal, allOrNothing}
-use Rattle.rules.specs.Lists.{listCall}
+use Rattle.rules.specs.Lists.{listCall, previewCall}
 use Rattle.rules.specs.Mirror.{mirror, mirrorOutcome, Mirrors, Rounds, MirrorsEach}
 use Rattle.rules.specs.Numbers.{nearestThird, rounded}
 use Rattle.rules.specs.Promises.{Nearest, Matches, Loaded, ChainFalls, RefineMakes, added, StepMakes, LimitMakes}
-use Rattle.rules.specs.Promises.{RefusalLeaves, RingMakes, kobbelt, ListMakes, SameWork}
+use Rattle.rules.specs.Promises.{RefusalLeaves, AgreeInUse, RingMakes, kobbelt, ListMakes, SameWork}
 use Rattle.rules.specs.Sound.{Sound, isSound}
 use Rattle.rules.specs.Spares.{Spares, copied, meshIn, SameSizes}
 use Rattle.rules.specs.Split.{Work, atFirst, chainOdd, refine}
@@ -221,6 +222,31 @@ list-twice = listed-twice
 pub list-of-one : (t : ℕ) (spares : Spares) (m : Mesh) → SameSizes spares m
     → SameWork (listCall (t ∷ []) spares m) (refineCall t m)
 list-of-one = one-entry
+
+-- ---- a list foreseen (Request f)
+
+-- A preview returns the number that the list would return.
+pub preview-returns : (list : List ℕ) (spares : Spares) (m : Mesh)
+    → First (listConditions list spares m) (previewCall list spares m .answer .refusal)
+preview-returns = preview-refusal
+
+-- It answers and leaves in the spare tables what the list would, on every content, and the mesh stands.
+pub preview-is-list : (list : List ℕ) (spares : Spares) (m : Mesh)
+    → previewCall list spares m ≡ outcomeOf (listCall list spares m .answer) m (listCall list spares m .room)
+preview-is-list = preview-is
+
+-- The list that follows, in the same spare tables or in others of these sizes, answers the same; where it is carried
+-- out, it leaves in the mesh, in every entry in use, what the preview left in the spare tables.
+pub preview-then-list : (list : List ℕ) {s t : Spares} {m : Mesh} → SameSizes s m → SameSizes t m
+    → (previewCall list s m .answer ≡ listCall list t m .answer)
+    × (listCall list t m .answer .refusal ≡ 0
+    → AgreeInUse (previewCall list s m .room .spares) (listCall list t m .mesh))
+preview-then-list list a b = (preview-same list a b, preview-shows list a b)
+
+-- A preview repeated, in what it left of the spare tables, gives the same outcome.
+pub preview-repeats : (list : List ℕ) (spares : Spares) (m : Mesh)
+    → previewCall list (previewCall list spares m .room .spares) m ≡ previewCall list spares m
+preview-repeats = preview-again
 
 -- ---- whole step (Whole step)
 

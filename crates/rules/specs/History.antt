@@ -11,7 +11,7 @@ use Rattle.rules.specs.Cage.{Cage, cageOf}
 use Rattle.rules.specs.Calls.{Room, noRoom, ringRoom, tableRoom, spareRoom, Outcome, loadCall}
 use Rattle.rules.specs.Calls.{refineCall, wholeStepCall, ringCall, positionCall, limitCall}
 use Rattle.rules.specs.Conditions.{OddInChain, EndsAtBoundary}
-use Rattle.rules.specs.Lists.{listCall}
+use Rattle.rules.specs.Lists.{listCall, previewCall}
 use Rattle.rules.specs.Spares.{Spares}
 use Rattle.rules.specs.Tables.{Topology, Mesh, sides, link, boundary, generation, next}
 
@@ -23,11 +23,13 @@ pub data Change : Type 0 where
   steps : Change
   refinesEach : List ℕ → Spares → Change
 
--- A call that reads the mesh: a vertex and a ring buffer, a vertex, a table for limit positions.
+-- A call that reads the mesh: a vertex and a ring buffer, a vertex, a table for limit positions, a list of triangles and
+-- spare tables. A preview answers the counts that the list would leave; those of the mesh stand.
 pub data Question : Type 0 where
   ringOf : ℕ → List ℕ → Question
   positionOf : ℕ → Question
   limitsOf : List ℤ → Question
+  previewOf : List ℕ → Spares → Question
 
 -- A call of either kind.
 pub data Call : Type 0 where
@@ -45,6 +47,7 @@ abbrev pub asked : Question → Mesh → Outcome
 asked (ringOf v buffer) m = ringCall v buffer m
 asked (positionOf v) m = positionCall v m
 asked (limitsOf table) m = limitCall table m
+asked (previewOf list spares) m = previewCall list spares m
 
 abbrev pub outcome : Call → Mesh → Outcome
 outcome (changes c) m = changed c m
@@ -59,6 +62,7 @@ lent (changes (refinesEach list spares)) = spareRoom spares
 lent (asks (ringOf v buffer)) = ringRoom buffer
 lent (asks (positionOf v)) = noRoom
 lent (asks (limitsOf table)) = tableRoom table
+lent (asks (previewOf list spares)) = spareRoom spares
 
 -- The mesh after a list of calls, each getting it as the one before left it.
 unfoldable pub after : List Call → Mesh → Mesh

@@ -1,4 +1,4 @@
--- A list of triangles refined one after the other, with spare tables to work in. (Request e)
+-- A list of triangles refined one after the other, with spare tables to work in. (Requests e, f)
 use Prim.Native.Nat.{ℕ, zero, suc}
 use mathlib.Core.Bool.{Bool, true, false, not}
 use mathlib.Core.List.{List, [], _∷_}
@@ -97,3 +97,8 @@ unfoldable pub listCall : List ℕ → Spares → Mesh → Outcome
 listCall list spares m =
     let p = refineEach list m in
     unless (sparesRefusal spares m) m (spareRoom spares) (allOrNothing (p .refusal) p spares m)
+
+-- The same foreseen: the answer is what the list would answer, V and F included, and the spare tables hold what it would
+-- make, while the mesh is only read. (Request f)
+unfoldable pub previewCall : List ℕ → Spares → Mesh → Outcome
+previewCall list spares m = let o = listCall list spares m in outcomeOf (o .answer) m (o .room)

@@ -10,7 +10,7 @@ use Rattle.rules.specs.Below.{fill}
 use Rattle.rules.specs.Cage.{cageOf}
 use Rattle.rules.specs.Calls.{Answer, Room, Outcome, outcomeOf}
 use Rattle.rules.specs.History.{Call, changes, asks, loads, refines, steps, refinesEach, ringOf, positionOf}
-use Rattle.rules.specs.History.{limitsOf, outcome}
+use Rattle.rules.specs.History.{limitsOf, previewOf, outcome}
 use Rattle.rules.specs.Spares.{Spares}
 use Rattle.rules.specs.Tables.{Mesh, withPositions}
 
@@ -84,6 +84,8 @@ pub data Mirrors (k : ℕ) : Call → Call → Type 0 where
   ring : {v : ℕ} {buffer : List ℕ} → Mirrors k (asks (ringOf v buffer)) (asks (ringOf v buffer))
   position : {v : ℕ} → Mirrors k (asks (positionOf v)) (asks (positionOf v))
   limit : {table : List ℤ} → Mirrors k (asks (limitsOf table)) (asks (limitsOf (mirrorTable k table)))
+  preview : {entries : List ℕ} {spares : Spares}
+      → Mirrors k (asks (previewOf entries spares)) (asks (previewOf entries (mirrorSpares k spares)))
 
 -- The calls that round by the rule.
 pub data Rounds : Call → Type 0 where

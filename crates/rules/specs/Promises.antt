@@ -9,16 +9,17 @@ use lib.IntN.{ℤ, pos, natAbs, _+ℤ_, _-ℤ_, _*ℤ_}
 use lib.ListN.{length, getD, drop}
 use lib.Signed.{_≤ℤ_, _<ℤ_}
 use Rattle.rules.specs.Below.{count, total}
-use Rattle.rules.specs.Calls.{Room, Outcome, noRoom, spareRoom, zeroPoint, splitsOf, rimSplitsOf, worked}
+use Rattle.rules.specs.Calls.{Room, Outcome, noRoom, ringRoom, tableRoom, spareRoom, zeroPoint, splitsOf, rimSplitsOf}
+use Rattle.rules.specs.Calls.{worked}
 use Rattle.rules.specs.Cage.{Cage}
 use Rattle.rules.specs.Conditions.{Risen, Handled}
-use Rattle.rules.specs.History.{Call, changes, asks, loads, refines, steps, refinesEach, lent, ReportsSplits}
-use Rattle.rules.specs.History.{edges, cageEdges}
+use Rattle.rules.specs.History.{Call, changes, asks, loads, refines, steps, refinesEach, ringOf, positionOf}
+use Rattle.rules.specs.History.{limitsOf, previewOf, ReportsSplits, edges, cageEdges}
 use Rattle.rules.specs.Lists.{refineEach, sparesRefusal}
 use Rattle.rules.specs.Numbers.{InRange, weight}
 use Rattle.rules.specs.Ring.{firstSide, fan, ring}
 use Rattle.rules.specs.Sound.{Sound}
-use Rattle.rules.specs.Spares.{copied}
+use Rattle.rules.specs.Spares.{Spares, copied}
 use Rattle.rules.specs.Split.{Work, atFirst, centre, faceSplit, rimSplit}
 use Rattle.rules.specs.Step.{sumOver, movedCoordinate}
 use Rattle.rules.specs.Tables.{Topology, Mesh, sides, next, previous, origin, target, boundary, link, rotate}
@@ -53,13 +54,19 @@ pub record SamePast (m n : Mesh) : Type 0 where
 
 -- What a refused call leaves in its room: what it was lent. But spare tables that were worked in, where neither 1, 17
 -- nor 7 refuses, hold the mesh after the last entry that succeeded, in the slots that this has in use. (Request e)
+abbrev pub sparesLeft : List ℕ → Spares → Mesh → Spares
+sparesLeft list spares m =
+    elim (sparesRefusal spares m) [ zero ↦ copied (refineEach list m .work .mesh) spares | suc n ↦ spares ]
+
 abbrev pub left : Call → Mesh → Room
-left (changes (refinesEach list spares)) m = spareRoom (
-    elim (sparesRefusal spares m) [ zero ↦ copied (refineEach list m .work .mesh) spares | suc n ↦ spares ])
 left (changes (loads rule bytes)) m = noRoom
 left (changes (refines t)) m = noRoom
 left (changes steps) m = noRoom
-left (asks q) m = lent (asks q)
+left (changes (refinesEach list spares)) m = spareRoom (sparesLeft list spares m)
+left (asks (ringOf v buffer)) m = ringRoom buffer
+left (asks (positionOf v)) m = noRoom
+left (asks (limitsOf table)) m = tableRoom table
+left (asks (previewOf list spares)) m = spareRoom (sparesLeft list spares m)
 
 -- A refused call answers zeros and the counts as they stand, and leaves the mesh. (Refused inputs, below the table)
 pub record RefusalLeaves (c : Call) (m : Mesh) (o : Outcome) : Type 0 where
@@ -191,6 +198,14 @@ pub record ListMakes (list : List ℕ) (m : Mesh) (w : Work) : Type 0 where
       → getD (w .mesh .positions) i (pos 0) ≡ getD (m .positions) i (pos 0)
   pub rule : w .mesh .rule ≡ m .rule
   pub past : SamePast m (w .mesh)
+
+-- The tables have what m has in every entry in use. (Request f)
+pub record AgreeInUse (s : Spares) (m : Mesh) : Type 0 where
+  pub positions : (i : ℕ) → i < 3 * m .topology .vertices
+      → getD (s .positions) i (pos 0) ≡ getD (m .positions) i (pos 0)
+  pub corners : (h : ℕ) → h < sides (m .topology) → getD (s .corners) h 0 ≡ origin (m .topology) h
+  pub links : (h : ℕ) → h < sides (m .topology) → getD (s .links) h 0 ≡ link (m .topology) h
+  pub generations : (t : ℕ) → t < m .topology .triangles → getD (s .generations) t 0 ≡ generation (m .topology) t
 
 -- One call does to the mesh, and answers of it, what the other does.
 pub record SameWork (o o′ : Outcome) : Type 0 where

@@ -7,9 +7,10 @@ use Rattle.rules.proofs.Calls.CallRefusals.{position-judged, limit-judg
 use Rattle.rules.proofs.Calls.CallRefusals.{whole-step-refusal, ring-refusal, position-refusal, limit-refusal}
 use Rattle.rules.proofs.Calls.FirstThatHolds.{Judged, carried, refused, judged-refused, first-not}
 use Rattle.rules.proofs.Lists.ListCall.{list-refusal, list-leaves}
+use Rattle.rules.proofs.Lists.Preview.{preview-refusal, preview-leaves, preview-stands}
 use Rattle.rules.specs.Calls.{Room, Outcome, refusedWith}
-use Rattle.rules.specs.History.{loads, refines, steps, refinesEach, Question, ringOf, positionOf, limitsOf, asked}
-use Rattle.rules.specs.History.{Call, changes, asks, outcome}
+use Rattle.rules.specs.History.{loads, refines, steps, refinesEach, Question, ringOf, positionOf, limitsOf}
+use Rattle.rules.specs.History.{previewOf, asked, Call, changes, asks, outcome}
 use Rattle.rules.specs.Promises.{left, RefusalLeaves}
 use Rattle.rules.specs.Tables.{Mesh}
 
@@ -31,6 +32,7 @@ refused-leaves (changes (refinesEach list spares)) m n = list-leaves list spares
 refused-leaves (asks (ringOf v buffer)) m n = leaves-of _ (judged-refused refl (ring-judged v buffer m) n)
 refused-leaves (asks (positionOf v)) m n = leaves-of _ (judged-refused refl (position-judged v m) n)
 refused-leaves (asks (limitsOf table)) m n = leaves-of _ (judged-refused refl (limit-judged table m) n)
+refused-leaves (asks (previewOf list spares)) m n = preview-leaves list spares m n
 
 -- A question leaves the mesh.
 judged-stands : {n : ℕ} {m : Mesh} {room : Room} {success o : Outcome} → success .mesh ≡ m
@@ -42,6 +44,7 @@ pub question-stands : (q : Question) (m : Mesh) → asked q m .mesh ≡ m
 question-stands (ringOf v buffer) m = judged-stands refl (ring-judged v buffer m)
 question-stands (positionOf v) m = judged-stands refl (position-judged v m)
 question-stands (limitsOf table) m = judged-stands refl (limit-judged table m)
+question-stands (previewOf list spares) m = preview-stands list spares m
 
 -- No call returns 10, on any mesh.
 pub no-ten : (c : Call) (m : Mesh) → outcome c m .answer .refusal ≢ 10
@@ -52,3 +55,4 @@ no-ten (changes (refinesEach list spares)) m = first-not 10 (list-refusal list s
 no-ten (asks (ringOf v buffer)) m = first-not 10 (ring-refusal v buffer m) tt
 no-ten (asks (positionOf v)) m = first-not 10 (position-refusal v m) tt
 no-ten (asks (limitsOf table)) m = first-not 10 (limit-refusal table m) tt
+no-ten (asks (previewOf list spares)) m = first-not 10 (preview-refusal list spares m) tt

@@ -169,7 +169,7 @@ module _ (list : List ℕ) (spares : Spares) (m : Mesh) where
           (subst (First (entryConditions list m)) (sym (done-refusal (progress .refusal))) E)))
 
   -- Where it is carried out, neither the mesh nor an entry is refused.
-  both-zero : listCall list spares m .answer .refusal ≡ 0 → (sparesRefusal spares m ≡ 0) × (progress .refusal ≡ 0)
+  pub both-zero : listCall list spares m .answer .refusal ≡ 0 → (sparesRefusal spares m ≡ 0) × (progress .refusal ≡ 0)
   unfolding listCall
   both-zero = go (sparesRefusal spares m) (progress .refusal)
     where

@@ -14,10 +14,10 @@ use Rattle.rules.specs.Below.{fill}
 use Rattle.rules.specs.Calls.{Room, Outcome, ringRoom, tableRoom, spareRoom, zeroPoint, worked, unless, loadCall}
 use Rattle.rules.specs.Calls.{refineCall, wholeStepCall, limitCall, ringCall, positionCall}
 use Rattle.rules.specs.History.{Call, outcome, after}
-use Rattle.rules.specs.Lists.{Progress, begun, refineEach, allOrNothing, listCall}
+use Rattle.rules.specs.Lists.{Progress, begun, refineEach, allOrNothing, listCall, previewCall}
 use Rattle.rules.specs.Mirror.{mirrorPoint, mirrorTable, mirror, mirrorSpares, mirrorRoom, mirrorOutcome}
-use Rattle.rules.specs.Mirror.{Mirrors, Rounds, load, refine, step, list, ring, position, limit, MirrorsEach}
-use Rattle.rules.specs.Mirror.{none, next}
+use Rattle.rules.specs.Mirror.{Mirrors, Rounds, load, refine, step, list, ring, position, limit, preview}
+use Rattle.rules.specs.Mirror.{MirrorsEach, none, next}
 use Rattle.rules.specs.Spares.{Spares}
 use Rattle.rules.specs.Split.{Work, atFirst}
 use Rattle.rules.specs.Tables.{Mesh, withRule}
@@ -59,9 +59,17 @@ module _ (k : ℕ) (m : Mesh) where
   done-mirror zero p spares = rw (no-point, copied-mirror)
   done-mirror (suc n) p spares = rw (no-point, copied-mirror)
 
+  list-mirror : (entries : List ℕ) (spares : Spares)
+      → listCall entries (mirrorSpares k spares) (mirror k m) ≡ mirrorOutcome k (listCall entries spares m)
+  unfolding listCall
+  list-mirror entries spares =
+      unless-mirror _ _ (spares-refused k m spares) (spare-room spares)
+      (rw (handle-all-mirror k m entries (begun m))
+      (done-mirror (refineEach entries m .refusal) (refineEach entries m) spares))
+
   pub call-mirror : {c c′ : Call} → Mirrors k c c′ → (Rounds c → m .rule ≡ 2)
       → outcome c′ (mirror k m) ≡ mirrorOutcome k (outcome c m)
-  unfolding loadCall refineCall wholeStepCall listCall limitCall ringCall positionCall
+  unfolding loadCall refineCall wholeStepCall limitCall ringCall positionCall previewCall
   call-mirror (load {rule} C) two =
       unless-mirror _ _ (load-refused k m C rule) (ring-room [])
       (worked-mirror _ (ap (λ n. atFirst (withRule rule n)) (loaded-mirror k m C)))
@@ -69,9 +77,7 @@ module _ (k : ℕ) (m : Mesh) where
       unless-mirror _ _ (refine-refused k m t) (ring-room []) (worked-mirror _ (refine-mirror k t (atFirst m)))
   call-mirror step two =
       unless-mirror _ _ (step-refused k m) (ring-room []) (worked-mirror _ (step-mirror k m (two step)))
-  call-mirror (list {entries} {spares}) two =
-      unless-mirror _ _ (spares-refused k m spares) (spare-room spares)
-      (rw (handle-all-mirror k m entries (begun m)) (done-mirror (refineEach entries m .refusal) (refineEach entries m) spares))
+  call-mirror (list {entries} {spares}) two = list-mirror entries spares
   call-mirror (ring {v} {buffer}) two =
       unless-mirror _ _ (ring-refused k m v buffer) (ring-room buffer) (rw (no-point, ring-room))
   call-mirror (position {v}) two =
@@ -81,6 +87,7 @@ module _ (k : ℕ) (m : Mesh) where
   call-mirror (limit {table}) two =
       unless-mirror _ _ (limit-refused k m table) (table-room table)
       (rw (limits-mirror k m (two limit) table, no-point, table-room))
+  call-mirror (preview {entries} {spares}) two = rw (list-mirror entries spares) refl
 
 pub history-mirror : (k : ℕ) {cs cs′ : List Call} (m : Mesh) → MirrorsEach k cs cs′ m
     → after cs′ (mirror k m) ≡ mirror k (after cs m)

@@ -6,7 +6,7 @@ use native.Mathlib.Numerals.{add-one}
 use native.Mathlib.Omega.{arith}
 use native.Mathlib.Decide.{ℕ-discrete}
 use lib.ListN.{length, getD, set, drop, length-set}
-use lib.Seq.{getD-set-same, getD-set-other, drop-set-lt}
+use lib.Seq.{getD-set-same, getD-set-other, drop-set-lt, set-set, set-comm}
 use Rattle.rules.specs.Below.{fill}
 use Rattle.rules.specs.Tables.{putThree}
 
@@ -42,6 +42,19 @@ module _ {A : Type 0} where
   unfolding fill
   fill-same zero f g l e = refl
   fill-same (suc n) f g l e = rw (fill-same n f g l (λ h i. e h (omega arith)), e n (omega arith))
+
+  -- Written twice is written once.
+  fill-past : (n i : ℕ) (f : ℕ → A) (l : List A) (x : A) → n ≤ i → fill n f (set l i x) ≡ set (fill n f l) i x
+  unfolding fill
+  fill-past zero i f l x b = refl
+  fill-past (suc n) i f l x b =
+      rw (fill-past n i f l x (omega arith)) (set-comm (fill n f l) i n x (f n) (omega arith))
+
+  pub fill-again : (n : ℕ) (f : ℕ → A) (l : List A) → fill n f (fill n f l) ≡ fill n f l
+  unfolding fill
+  fill-again zero f l = refl
+  fill-again (suc n) f l =
+      rw (fill-past n n f (fill n f l) (f n) (omega arith), fill-again n f l) (set-set (fill n f l) n (f n) (f n))
 
   -- Three entries more.
   pub fill-three : (v : ℕ) (f : ℕ → A) (l : List A)
