@@ -1,4 +1,4 @@
-/* Loads an octahedron and refines triangles of it together: a list that is carried out, and one that is not. */
+/* Loads an octahedron, and previews lists of its triangles: one that is then carried out, and two that would fail. */
 #include "rawplinth.h"
 
 #include <stdio.h>
@@ -27,24 +27,27 @@ static const int32_t cage[] = {
     0, 1, 4,  1, 2, 4,  2, 3, 4,  3, 0, 4,  1, 0, 5,  2, 1, 5,  3, 2, 5,  0, 3, 5,
 };
 
-/* Refines the triangles of a list and tells what comes of it. */
+/* Looks what would come of a list, and refines its triangles if it is not refused. */
 static rawplinth_counts lasso(rawplinth_counts counts, const uint32_t *list, size_t length)
 {
-    rawplinth_batch_worked done = rawplinth_refine_list(LENT(mesh), counts, list, length, LENT(spares));
-    switch (done.refusal) {
+    rawplinth_batch_foreseen look = rawplinth_preview(LENT(mesh), counts, list, length, LENT(spares));
+    printf("foreseen: %u vertices, %u triangles; ", look.foreseen_vertices, look.foreseen_triangles);
+    printf("the spares: %u vertices, %u triangles\n", look.spares.vertices, look.spares.triangles);
+    switch (look.refusal) {
     case RAWPLINTH_OK:
-        printf("%zu entries: %u splits, %u flips\n", done.handled, done.splits, done.flips);
         break;
     case RAWPLINTH_NOT_IN_USE:
     case RAWPLINTH_GENERATION:
     case RAWPLINTH_NO_SLOTS:
-        printf("entry %zu, triangle %u: refused with %u\n", done.handled, list[done.handled], done.refusal);
-        break;
+        printf("entry %zu, triangle %u: refused with %u\n", look.handled, list[look.handled], look.refusal);
+        return counts;
     default: /* by no entry */
-        printf("refused with %u\n", done.refusal);
+        printf("refused with %u\n", look.refusal);
+        return counts;
     }
-    printf("the mesh: %u vertices, %u triangles; ", done.counts.vertices, done.counts.triangles);
-    printf("the spares: %u vertices, %u triangles\n", done.spares.vertices, done.spares.triangles);
+    rawplinth_batch_worked done = rawplinth_refine_list(LENT(mesh), counts, list, length, LENT(spares));
+    printf("%zu entries: %u splits, %u flips; ", done.handled, done.splits, done.flips);
+    printf("the mesh: %u vertices, %u triangles\n", done.counts.vertices, done.counts.triangles);
     return done.counts;
 }
 

@@ -14,7 +14,7 @@ extern "C" {
 
 /* Raised by every new call and every change of a signature, a struct or an answer; docs/changes/README.md has a line
    for each. */
-#define RAWPLINTH_VERSION 5
+#define RAWPLINTH_VERSION 6
 
 /* What a side without a partner links to. */
 #define RAWPLINTH_BOUNDARY UINT32_C(4294967295)
@@ -32,8 +32,9 @@ enum {
 };
 
 /* How many vertices and triangles are in use, and the rule that the mesh was loaded by. In a fresh store none are in
-   use, and the rule may be any number. Every call takes the counts, and its answer has those for the next call. Counts
-   that were saved before version 4 have no rule: their mesh goes on with RAWPLINTH_HALF_UP. */
+   use, and the rule may be any number. Every call takes the counts, and its answer has those for the next call; after a
+   preview they are the same as before. Counts that were saved before version 4 have no rule: their mesh goes on with
+   RAWPLINTH_HALF_UP. */
 typedef struct {
     uint32_t vertices;
     uint32_t triangles;
@@ -41,8 +42,8 @@ typedef struct {
 } rawplinth_counts;
 
 /* The refusals. A refused call answers with the number, the counts that it was given and zeros, and writes nothing.
-   There is one exception: refine_list, where an entry fails, leaves the work that it has done in the spare tables, and
-   answers how many entries it handled and the counts of what they hold. */
+   There is one exception: refine_list and preview, where an entry fails, leave the work that they have done in the
+   spare tables, and answer how many entries they handled and the counts of what the spare tables hold. */
 enum {
     RAWPLINTH_OK = 0,
     RAWPLINTH_TABLES_DISAGREE = 1, /* lengths that do not fit each other, or more slots than allowed */
@@ -82,6 +83,18 @@ typedef struct {
                                 0 where 1, 17 or 7 refuses */
     rawplinth_counts spares; /* of the mesh in the spare tables; zeros where 1, 17 or 7 refuses */
 } rawplinth_batch_worked;
+
+/* The answer of preview: what refine_list would answer. It has no counts, as those of the mesh stand and go on to the
+   next call; what is foreseen must not be given to one. */
+typedef struct {
+    uint32_t refusal;
+    uint32_t splits;
+    uint32_t flips;
+    uint32_t foreseen_vertices; /* in use after the list; where it would be refused, those of the mesh */
+    uint32_t foreseen_triangles;
+    size_t handled;
+    rawplinth_counts spares;
+} rawplinth_batch_foreseen;
 
 /* The answer of ring. */
 typedef struct {
@@ -163,6 +176,23 @@ rawplinth_batch_worked rawplinth_refine_list(
     uint32_t *corners, size_t corners_length,
     uint32_t *links, size_t links_length,
     uint8_t *generations, size_t generations_length,
+    rawplinth_counts counts,
+    const uint32_t *list, size_t list_length,
+    int32_t *spare_positions, size_t spare_positions_length,
+    uint32_t *spare_corners, size_t spare_corners_length,
+    uint32_t *spare_links, size_t spare_links_length,
+    uint8_t *spare_generations, size_t spare_generations_length);
+
+/* Does with the spare tables what refine_list would do with the same mesh and list, and answers what it would; but the
+   mesh is only read, and keeps its counts. Where no entry fails, the spare tables are left with the mesh that
+   refine_list would make, of which `spares` are the counts: it may be read there by ring, position and limit. What they
+   held before is not used, so that a preview again gives the same, and refine_list after it does what was foreseen.
+   Refuses as refine_list does. Writes the spare tables, and nothing else. Needs 0.14 MB of stack. */
+rawplinth_batch_foreseen rawplinth_preview(
+    const int32_t *positions, size_t positions_length,
+    const uint32_t *corners, size_t corners_length,
+    const uint32_t *links, size_t links_length,
+    const uint8_t *generations, size_t generations_length,
     rawplinth_counts counts,
     const uint32_t *list, size_t list_length,
     int32_t *spare_positions, size_t spare_positions_length,

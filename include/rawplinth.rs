@@ -3,7 +3,7 @@
 
 /// Raised with that of the header. A program may go without it.
 #[allow(dead_code)]
-pub const RAWPLINTH_VERSION: u32 = 5;
+pub const RAWPLINTH_VERSION: u32 = 6;
 
 /// The rules by which a mesh rounds halves: up, or away from zero.
 pub const RAWPLINTH_HALF_UP: u32 = 1;
@@ -66,6 +66,20 @@ pub struct BatchWorked {
     pub splits: u32,
     pub flips: u32,
     pub counts: Counts,
+    pub handled: usize,
+    pub spares: Counts,
+}
+
+/// The answer of a preview: what the list would be answered. The mesh's counts stand and are not in it: the vertices
+/// and triangles foreseen would be in use after the list; where it would be refused, they are the mesh's.
+#[repr(C)]
+#[derive(Clone, Copy, Debug, Default, PartialEq, Eq)]
+pub struct BatchForeseen {
+    pub refusal: u32,
+    pub splits: u32,
+    pub flips: u32,
+    pub foreseen_vertices: u32,
+    pub foreseen_triangles: u32,
     pub handled: usize,
     pub spares: Counts,
 }
@@ -174,4 +188,26 @@ unsafe extern "C" {
         spare_generations: *mut u8,
         spare_generations_length: usize,
     ) -> BatchWorked;
+
+    pub fn rawplinth_preview(
+        positions: *const i32,
+        positions_length: usize,
+        corners: *const u32,
+        corners_length: usize,
+        links: *const u32,
+        links_length: usize,
+        generations: *const u8,
+        generations_length: usize,
+        counts: Counts,
+        list: *const u32,
+        list_length: usize,
+        spare_positions: *mut i32,
+        spare_positions_length: usize,
+        spare_corners: *mut u32,
+        spare_corners_length: usize,
+        spare_links: *mut u32,
+        spare_links_length: usize,
+        spare_generations: *mut u8,
+        spare_generations_length: usize,
+    ) -> BatchForeseen;
 }

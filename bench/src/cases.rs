@@ -15,8 +15,10 @@ pub const LIMITS: [&str; 2] = ["limit", "limit, rule 2"];
 /// Lists: of triangles in a row, each refined by one split, and of one triangle again and again, which is passed over
 /// but for its first time.
 pub const LISTS: [&str; 4] = ["list of 1", "list of 100", "list of 10,000", "list of 10,000 times one"];
+/// The same lists previewed.
+pub const PREVIEWS: [&str; 4] = ["preview of 1", "preview of 100", "preview of 10,000", "preview of 10,000 times one"];
 
-const NAMES: [&str; 17] = [
+const NAMES: [&str; 21] = [
     "load",
     "soundness",
     "refine even",
@@ -34,6 +36,10 @@ const NAMES: [&str; 17] = [
     LISTS[1],
     LISTS[2],
     LISTS[3],
+    PREVIEWS[0],
+    PREVIEWS[1],
+    PREVIEWS[2],
+    PREVIEWS[3],
 ];
 
 pub struct Case {
@@ -66,7 +72,7 @@ pub fn all() -> Vec<Case> {
     let mut list = Vec::new();
     for name in NAMES {
         let (small, large) = match name {
-            name if LISTS.contains(&name) => (&[] as &[Cage], &list_sphere),
+            name if is_listed(name) => (&[] as &[Cage], &list_sphere),
             name if STEPS.contains(&name) => (&small[..], &step_sphere),
             _ => (&small[..], &sphere),
         };
@@ -106,7 +112,7 @@ fn case(name: &'static str, cage: &Cage, shuffled: bool) -> Case {
     if name == LONGEST || name == LONGEST_AT_BOUNDARY {
         triangle = end_of_long_chain(&mut lent, triangle);
     }
-    if LISTS.contains(&name) {
+    if is_listed(name) {
         lent.list = listed(name, lent.counts.triangles);
         lent.spares = Tables::with_slots(lent.tables.positions.len() / 3, lent.tables.generations.len());
     }
@@ -118,20 +124,27 @@ fn case(name: &'static str, cage: &Cage, shuffled: bool) -> Case {
         name if STEPS.contains(&name) => Call::WholeStep,
         name if LIMITS.contains(&name) => Call::Limit,
         name if LISTS.contains(&name) => Call::RefineList,
+        name if PREVIEWS.contains(&name) => Call::Preview,
         _ => Call::Refine(triangle),
     };
     Case { name, triangles: cage.triangles(), shuffled, lent, call }
 }
 
+/// Whether a case has a list, made or previewed.
+pub fn is_listed(name: &str) -> bool {
+    LISTS.contains(&name) || PREVIEWS.contains(&name)
+}
+
 /// The entries of a list, about the middle of so many triangles.
 fn listed(name: &str, triangles: u32) -> Vec<u32> {
-    let entries = match name {
-        "list of 1" => 1,
-        "list of 100" => 100,
+    let kind = LISTS.iter().zip(PREVIEWS).position(|(list, preview)| name == *list || name == preview);
+    let entries = match kind {
+        Some(0) => 1,
+        Some(1) => 100,
         _ => 10_000,
     };
     let first = (triangles - entries) / 2;
-    if name == LISTS[3] { vec![triangles / 2; entries as usize] } else { (first..first + entries).collect() }
+    if kind == Some(3) { vec![triangles / 2; entries as usize] } else { (first..first + entries).collect() }
 }
 
 /// A triangle of generation 1 whose base is on the boundary: a child of the first triangle there.

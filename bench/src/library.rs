@@ -49,5 +49,8 @@ pub fn answer(lent: &mut Lent, call: Call) -> Answer {
         Call::RefineList => {
             Answer::List(call!(rawplinth_refine_list, lent, lent.list.as_ptr(), lent.list.len(); lent.spares))
         }
+        Call::Preview => {
+            Answer::Preview(call!(rawplinth_preview, lent, lent.list.as_ptr(), lent.list.len(); lent.spares))
+        }
     }
 }

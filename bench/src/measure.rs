@@ -7,7 +7,7 @@ use std::path::Path;
 use std::process::Command;
 use std::time::Instant;
 
-use crate::cases::{AT_BOUNDARY, Case, LISTS, LONGEST, LONGEST_AT_BOUNDARY, STEPS};
+use crate::cases::{AT_BOUNDARY, Case, LONGEST, LONGEST_AT_BOUNDARY, STEPS, is_listed};
 use crate::tables::{Answer, Lent, scan_tables};
 use crate::{fast, library};
 
@@ -54,6 +54,7 @@ pub fn compare(case: &Case) {
         Answer::Position(read) => (read.refusal, 0),
         Answer::Limit(read) => (read.refusal, 0),
         Answer::List(worked) => (worked.refusal, worked.splits as usize),
+        Answer::Preview(foreseen) => (foreseen.refusal, foreseen.splits as usize),
     };
     let expected = match case.name {
         "soundness" => (8, 0),
@@ -61,7 +62,7 @@ pub fn compare(case: &Case) {
         LONGEST => (0, 10),
         LONGEST_AT_BOUNDARY => (0, 9),
         name if STEPS.contains(&name) => (0, case.triangles),
-        name if LISTS.contains(&name) => (0, case.listed_once()),
+        name if is_listed(name) => (0, case.listed_once()),
         _ => (0, 0),
     };
     assert!((refusal, splits) == expected, "{}, {} triangles: {answer:?}", case.name, case.triangles);

@@ -1,6 +1,6 @@
 //! The table.
 
-use crate::cases::{Case, LIMITS, LISTS};
+use crate::cases::{Case, LIMITS, LISTS, PREVIEWS, is_listed};
 use crate::measure::{Counted, Timed};
 
 /// Instructions of a C program without proofs, written by an expert, for closed meshes in order.
@@ -53,23 +53,24 @@ pub fn print(cases: &[Case], counts: Option<&[Counted]>, times: &[Timed]) {
     }
     println!("\nA figure above its bound is bold.");
     if let Some(counts) = counts {
-        println!("\n{}", list_shares(cases, counts));
+        println!("\n{}", shares("Lists", LISTS, cases, counts));
+        println!("{}", shares("Previews", PREVIEWS, cases, counts));
     }
 }
 
 /// What lists take beyond soundness, by triangle in use, by split and by entry that is passed over: the differences of
 /// the list of one triangle, that of as many as there are entries, and that of one triangle as often, in order.
-fn list_shares(cases: &[Case], counts: &[Counted]) -> String {
+fn shares(title: &str, names: [&str; 4], cases: &[Case], counts: &[Counted]) -> String {
     let beyond = |name: &str| {
         let place = cases.iter().position(|case| case.name == name && !case.shuffled).expect("each list is a case");
         let [library, soundness, ..] = counts[place];
         (library as f64 - soundness as f64, &cases[place])
     };
-    let [(one, case), (many, long), (again, _)] = [LISTS[0], LISTS[2], LISTS[3]].map(beyond);
+    let [(one, case), (many, long), (again, _)] = [names[0], names[2], names[3]].map(beyond);
     let more = long.lent.list.len() as f64 - 1.0;
     let (entry, split) = ((again - one) / more, (many - again) / more);
     let copies = (one - split - entry) / case.triangles as f64;
-    format!("Lists: {copies:.1} for each triangle in use, {split:.1} for each split, {entry:.1} for each entry.")
+    format!("{title}: {copies:.1} for each triangle in use, {split:.1} for each split, {entry:.1} for each entry.")
 }
 
 fn count_columns(case: &Case, [library, soundness, fast, scan]: Counted) -> [String; 7] {
@@ -100,7 +101,7 @@ fn most_beyond(case: &Case, soundness: u64) -> Option<u64> {
             4 => Some(MOST_OF_SMALL.saturating_sub(soundness)),
             triangles => Some(MOST_FOR_EACH * triangles as u64),
         },
-        name if LISTS.contains(&name) => {
+        name if is_listed(name) => {
             let [splits, entries] = [case.listed_once(), case.lent.list.len()].map(|count| count as u64);
             Some(MOST_TO_COPY * case.triangles as u64 + MOST_TO_SPLIT * splits + MOST_TO_HANDLE * entries)
         }

@@ -1,6 +1,6 @@
 //! What a call is lent and what it answers.
 
-pub use crate::rawplinth::{BatchWorked, Counts, LimitRead, PositionRead, RingRead, Worked};
+pub use crate::rawplinth::{BatchForeseen, BatchWorked, Counts, LimitRead, PositionRead, RingRead, Worked};
 pub use crate::rawplinth::{RAWPLINTH_HALF_AWAY as HALF_AWAY, RAWPLINTH_HALF_UP as HALF_UP};
 
 /// The link of a boundary side.
@@ -43,6 +43,7 @@ pub enum Call {
     Position(u32),
     Limit,
     RefineList,
+    Preview,
 }
 
 #[derive(Clone, Copy, Debug, PartialEq)]
@@ -52,6 +53,7 @@ pub enum Answer {
     Position(PositionRead),
     Limit(LimitRead),
     List(BatchWorked),
+    Preview(BatchForeseen),
 }
 
 impl Tables {

@@ -6,7 +6,7 @@ use std::fs;
 use std::path::PathBuf;
 
 use crate::case::Case;
-use crate::claims::{violated_by_list, violated_by_refine};
+use crate::claims::{violated_by_list, violated_by_preview, violated_by_refine};
 use crate::coverage::Coverage;
 use crate::mirror;
 use crate::tables::{Answer, Call, Counts, HALF_AWAY, HALF_UP, Service, Store, Tables};
@@ -37,8 +37,40 @@ impl<'a> Bench<'a> {
         Bench { twin, other, watch: None, coverage: Coverage::default(), comparisons: 0, mirrored: 0 }
     }
 
-    /// Runs one call on both services and leaves the store as the call leaves it.
+    /// Runs one call on both services and leaves the store as the call leaves it. A list is previewed first.
     pub fn compare(&mut self, store: &mut Store, call: &Call) -> Outcome<Answer> {
+        match call {
+            Call::RefineList { list } => self.compare_previewed(store, list),
+            _ => self.compare_once(store, call),
+        }
+    }
+
+    /// Previews a list, and previews it again, which has to give the same again. Then carries it out, with the spare
+    /// tables as the previews left them, and as they are lent.
+    fn compare_previewed(&mut self, store: &mut Store, list: &[u32]) -> Outcome<Answer> {
+        let preview = Call::Preview { list: list.to_vec() };
+        let mut previewed = store.clone();
+        let foreseen = self.compare_once(&mut previewed, &preview)?;
+        let mut again = previewed.clone();
+        if (self.compare_once(&mut again, &preview)?, &again) != (foreseen, &previewed) {
+            return Err(difference("a preview again is another".to_string(), previewed, &preview));
+        }
+        self.compare_foreseen(&mut again, list, (&foreseen, &previewed))?;
+        self.compare_foreseen(store, list, (&foreseen, &previewed))
+    }
+
+    /// Carries a list out, and compares what comes of it with what was foreseen, too.
+    fn compare_foreseen(&mut self, store: &mut Store, list: &[u32], previewed: (&Answer, &Store)) -> Outcome<Answer> {
+        let (before, call) = (store.clone(), Call::RefineList { list: list.to_vec() });
+        let answer = self.compare_once(store, &call)?;
+        match violated_by_preview(previewed, (&answer, store)) {
+            Some(what) => Err(difference(what, before, &call)),
+            None => Ok(answer),
+        }
+    }
+
+    /// Runs one call on both services and leaves the store as the call leaves it.
+    fn compare_once(&mut self, store: &mut Store, call: &Call) -> Outcome<Answer> {
         let before = store.clone();
         if let Some(path) = &self.watch {
             let case = Case { store: before.clone(), call: call.clone() };

@@ -15,7 +15,8 @@ pub fn random_call(store: &mut Store, rng: &mut Rng) -> Call {
         0..46 => Call::Refine { triangle: some_triangle(store, rng) },
         46..56 => {
             store.room.spares = some_spares(store, rng);
-            some_list(store, rng)
+            let list = some_list(store, rng);
+            if rng.percent(80) { Call::RefineList { list } } else { Call::Preview { list } }
         }
         56..64 => Call::WholeStep,
         64..72 => limit(store, rng),
@@ -33,7 +34,7 @@ pub fn one_of_each(store: &mut Store, rng: &mut Rng) -> [Call; 6] {
         limit(store, rng),
         ring(store, rng),
         Call::Position { vertex: some_number(store.counts.vertices, rng) },
-        some_list(store, rng),
+        Call::RefineList { list: some_list(store, rng) },
     ]
 }
 
@@ -107,7 +108,7 @@ pub fn other_lengths(wanted: usize) -> [usize; 4] {
 
 /// A list of any length up to the longest: triangles in use, anywhere or close together, so that some are listed again;
 /// in many lists one entry that may fail.
-fn some_list(store: &Store, rng: &mut Rng) -> Call {
+fn some_list(store: &Store, rng: &mut Rng) -> Vec<u32> {
     let length = rng.below(LONGEST_LIST + 1);
     let mut list = entries_in_use(store, length, rng);
     if length > 0 && rng.percent(40) {
@@ -118,7 +119,7 @@ fn some_list(store: &Store, rng: &mut Rng) -> Call {
             _ => some_number(store.counts.triangles, rng),
         };
     }
-    Call::RefineList { list }
+    list
 }
 
 /// So many triangles in use, anywhere or close together.

@@ -29,6 +29,7 @@ impl Display for Case {
             Call::Position { vertex } => writeln!(out, "position {vertex}"),
             Call::Limit => writeln!(out, "limit"),
             Call::RefineList { list } => writeln!(out, "refine-list{}", numbers(list)),
+            Call::Preview { list } => writeln!(out, "preview{}", numbers(list)),
         }
     }
 }
@@ -114,6 +115,7 @@ fn parsed_call(words: &[&str]) -> Result<Call, String> {
         "position" => Ok(Call::Position { vertex: number()? }),
         "limit" => Ok(Call::Limit),
         "refine-list" => Ok(Call::RefineList { list: parsed(&words[1..])? }),
+        "preview" => Ok(Call::Preview { list: parsed(&words[1..])? }),
         other => Err(format!("no call `{other}`")),
     }
 }

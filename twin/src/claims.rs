@@ -1,6 +1,6 @@
 //! The four claims of demand 3, read from the tables themselves.
 
-use crate::tables::{Answer, BOUNDARY, Store, Tables};
+use crate::tables::{Answer, BOUNDARY, Counts, Store, Tables};
 
 /// What the tables say of a triangle's base chain.
 pub struct ChainReading {
@@ -104,6 +104,22 @@ pub fn violated_by_refine(before: &Store, triangle: usize, answer: &Answer, afte
 pub fn violated_by_list(before: &Store, answer: &Answer, after: &Store) -> Option<String> {
     let vertices = i64::from(after.counts.vertices) - i64::from(before.counts.vertices);
     wrongly_added(before, answer, after, vertices - i64::from(answer.splits))
+}
+
+/// What is wrong with a preview beside the list carried out from the same: the list is answered what was foreseen, and
+/// leaves what the preview did in the spare tables, and where it is not refused in the mesh.
+pub fn violated_by_preview(previewed: (&Answer, &Store), made: (&Answer, &Store)) -> Option<String> {
+    let ((foreseen, before), (answer, after)) = (previewed, made);
+    let Counts { vertices, triangles, .. } = answer.counts;
+    if *foreseen != (Answer { counts: before.counts, foreseen: [vertices, triangles], ..*answer }) {
+        return Some(format!("previewed as {foreseen:?}, made as {answer:?}"));
+    }
+    let mut expected = before.clone();
+    if answer.refusal == 0 {
+        expected.tables.take_over(&before.room.spares, answer.counts);
+        expected.counts = answer.counts;
+    }
+    (*after != expected).then(|| "a preview and its list leave different meshes".to_string())
 }
 
 /// With s splits, q of them rim splits: V + s + q, F + 2s and E + 3s + q, and flips by the odd triangles, of which a face

@@ -22,6 +22,7 @@ const CALLS: &[(&str, &[u32])] = &[
     ("position", &[0, 1, 7, 8]),
     ("limit", &[0, 1, 7, 12, 13, 15]),
     ("refine list", &[0, 1, 7, 8, 9, 11, 17]),
+    ("preview", &[0, 1, 7, 8, 9, 11, 17]),
 ];
 
 /// The longest of the lists that have to be met in every length.
@@ -84,6 +85,7 @@ fn row(call: &Call) -> usize {
         Call::Position { .. } => 4,
         Call::Limit => 5,
         Call::RefineList { .. } => 6,
+        Call::Preview { .. } => 7,
     }
 }
 

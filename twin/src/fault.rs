@@ -84,6 +84,12 @@ faults! {
     SparesBeforeTables: "a list tests 17 before 1",
     SoundBeforeSpares: "a list tests 7 before 17",
     SpareLinksUntested: "a list lets spare links of another length pass",
+    PreviewFillsNewAlone: "preview leaves spare slots that the mesh has in use",
+    PreviewOfOldCounts: "preview answers the V and F of before",
+    PreviewOfLastEntry: "preview reports the work of the last entry alone",
+    FailedPreviewKeepsSpares: "preview leaves the spare tables alone where it fails",
+    PreviewWrites: "preview writes the mesh",
+    PreviewCountsTaken: "preview leaves the mesh with the counts that it foresees",
 }
 
 impl Fault {

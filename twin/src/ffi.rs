@@ -137,6 +137,15 @@ impl From<BatchWorked> for Answer {
     }
 }
 
+/// Without the counts, which a preview does not answer.
+impl From<BatchForeseen> for Answer {
+    fn from(foreseen: BatchForeseen) -> Answer {
+        let BatchForeseen { refusal, splits, flips, foreseen_vertices, foreseen_triangles, handled, spares } = foreseen;
+        let foreseen = [foreseen_vertices, foreseen_triangles];
+        Answer { refusal, splits, flips, foreseen, handled, spares, ..Answer::default() }
+    }
+}
+
 /// The library under test. Its calls get copies of what is lent, with guard entries around them.
 pub struct Library;
 
@@ -170,12 +179,18 @@ impl Service for Library {
                 table.give_back(&mut room.table)?;
                 read.into()
             }
-            Call::RefineList { list } => {
+            Call::RefineList { list } | Call::Preview { list } => {
                 let (mut entries, mut spares) = (Lent::new("list", list, !0), LentTables::new(SPARES, &room.spares));
-                let worked = call!(rawplinth_refine_list, lent, *counts, entries.pointer(), entries.length; spares);
+                let (pointer, length) = (entries.pointer(), entries.length);
+                let answer = if matches!(call, Call::RefineList { .. }) {
+                    call!(rawplinth_refine_list, lent, *counts, pointer, length; spares).into()
+                } else {
+                    let foreseen = call!(rawplinth_preview, lent, *counts, pointer, length; spares);
+                    Answer { counts: *counts, ..foreseen.into() }
+                };
                 entries.unwritten(list)?;
                 spares.give_back(&mut room.spares)?;
-                worked.into()
+                answer
             }
         };
         lent.give_back(tables)?;

@@ -40,6 +40,15 @@ impl Tables {
         [self.positions.len(), self.corners.len(), self.links.len(), self.generations.len()]
     }
 
+    /// Takes over what other tables have in the slots that are in use by these counts.
+    pub fn take_over(&mut self, others: &Tables, counts: Counts) {
+        let (vertices, triangles) = (counts.vertices as usize, counts.triangles as usize);
+        self.positions[..3 * vertices].copy_from_slice(&others.positions[..3 * vertices]);
+        self.corners[..3 * triangles].copy_from_slice(&others.corners[..3 * triangles]);
+        self.links[..3 * triangles].copy_from_slice(&others.links[..3 * triangles]);
+        self.generations[..triangles].copy_from_slice(&others.generations[..triangles]);
+    }
+
     /// The slots of vertices and of triangles.
     pub fn slots(&self) -> [usize; 2] {
         [self.positions.len() / 3, self.generations.len()]
@@ -117,6 +126,7 @@ pub enum Call {
     Position { vertex: u32 },
     Limit,
     RefineList { list: Vec<u32> },
+    Preview { list: Vec<u32> },
 }
 
 /// What a call answers, with zeros for what it does not speak of.
@@ -133,6 +143,8 @@ pub struct Answer {
     /// The entries of a list that were handled, and the counts of the mesh that is in the spare tables by it.
     pub handled: usize,
     pub spares: Counts,
+    /// The vertices and triangles that a preview foresees, while the counts stand.
+    pub foreseen: [u32; 2],
 }
 
 /// Refuses with a number where its condition holds.

@@ -36,6 +36,7 @@ impl Service for Twin {
             Call::Position { vertex } => self.position(tables, *counts, *vertex as usize),
             Call::Limit => self.limit(tables, *counts, &mut room.table),
             Call::RefineList { list } => self.refine_list(tables, *counts, list, &mut room.spares),
+            Call::Preview { list } => Ok(self.preview(tables, *counts, list, &mut room.spares)),
         };
         let rule = self.fault.unless(Fault::RefusedWithoutRule, counts.rule, 0);
         let kept = Counts { rule, ..*counts };
@@ -108,6 +109,34 @@ impl Twin {
         let counts = if failed { counts } else { done.mesh.counts() };
         let spares = self.fault.unless(Fault::SparesCountedAsMesh, done.mesh.counts(), counts);
         Ok(Answer { refusal: done.refusal, splits, flips, counts, handled, spares, ..Answer::default() })
+    }
+
+    /// Preview: what refine list would answer, with its V and F as foreseen, and the spare tables as it would leave them.
+    /// The mesh stands, and its counts.
+    fn preview(&self, tables: &mut Tables, counts: Counts, list: &[u32], spares: &mut Tables) -> Answer {
+        let (mut meanwhile, lent) = (tables.clone(), spares.clone());
+        let made = self.in_preview().refine_list(&mut meanwhile, counts, list, spares);
+        let worked = made.is_ok();
+        let made = made.unwrap_or_else(|refusal| Answer { refusal, counts, ..Answer::default() });
+        if self.fault.has(Fault::PreviewWrites) {
+            *tables = meanwhile;
+        }
+        if self.fault.has(Fault::PreviewFillsNewAlone) && worked {
+            spares.take_over(&lent, counts);
+        }
+        let Counts { vertices, triangles, .. } = self.fault.unless(Fault::PreviewOfOldCounts, made.counts, counts);
+        let counts = self.fault.unless(Fault::PreviewCountsTaken, counts, made.counts);
+        Answer { foreseen: [vertices, triangles], counts, ..made }
+    }
+
+    /// The twin that lists are previewed with: the same, but for faults of previews alone.
+    fn in_preview(&self) -> Twin {
+        let fault = match self.fault.0 {
+            Some(Fault::PreviewOfLastEntry) => Some(Fault::LastEntryReported),
+            Some(Fault::FailedPreviewKeepsSpares) => Some(Fault::FailedListKeepsSpares),
+            fault => fault,
+        };
+        Twin { fault: Seeded(fault) }
     }
 
     /// Handles a list, after 1, 17 and 7. The slots in use of the spare tables then hold the mesh after the last entry

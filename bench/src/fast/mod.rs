@@ -8,8 +8,8 @@ mod split;
 mod step;
 
 use crate::tables::{
-    Answer, BOUNDARY, BatchWorked, Call, Counts, HALF_AWAY, HALF_UP, Lent, LimitRead, MOST_TRIANGLE_SLOTS,
-    MOST_VERTEX_SLOTS, PositionRead, RingRead, Tables, Worked,
+    Answer, BOUNDARY, BatchForeseen, BatchWorked, Call, Counts, HALF_AWAY, HALF_UP, Lent, LimitRead,
+    MOST_TRIANGLE_SLOTS, MOST_VERTEX_SLOTS, PositionRead, RingRead, Tables, Worked,
 };
 
 const LAST_GENERATION: u8 = 20;
@@ -24,6 +24,7 @@ pub fn answer(lent: &mut Lent, call: Call) -> Answer {
         Call::Position(vertex) => Answer::Position(fast_position(tables, *counts, vertex)),
         Call::Limit => Answer::Limit(fast_limit(tables, *counts, table)),
         Call::RefineList => Answer::List(fast_refine_list(tables, *counts, list, spares)),
+        Call::Preview => Answer::Preview(fast_preview(tables, *counts, list, spares)),
     }
 }
 
@@ -90,11 +91,27 @@ fn fast_limit(tables: &Tables, counts: Counts, table: &mut [i32]) -> LimitRead {
 #[unsafe(no_mangle)]
 #[inline(never)]
 fn fast_refine_list(tables: &mut Tables, counts: Counts, list: &[u32], spares: &mut Tables) -> BatchWorked {
-    let good = if tables_agree(tables) && !list::sizes_fit(tables, spares) { Err(17) } else { starts(tables, counts) };
-    match good {
-        Ok(_) => list::refine_list(tables, counts, list, spares),
-        Err(refusal) => BatchWorked { refusal, counts, ..BatchWorked::default() },
+    match work_refusal(tables, counts, spares) {
+        None => list::refine_list(tables, counts, list, spares),
+        Some(refusal) => BatchWorked { refusal, counts, ..BatchWorked::default() },
     }
+}
+
+#[unsafe(no_mangle)]
+#[inline(never)]
+fn fast_preview(tables: &Tables, counts: Counts, list: &[u32], spares: &mut Tables) -> BatchForeseen {
+    match work_refusal(tables, counts, spares) {
+        None => list::preview(tables, counts, list, spares),
+        Some(refusal) => BatchForeseen { refusal, ..list::standing(counts) },
+    }
+}
+
+/// What refuses work in spare tables before it begins: 1, 17 or 7.
+fn work_refusal(tables: &Tables, counts: Counts, spares: &Tables) -> Option<u32> {
+    if tables_agree(tables) && !list::sizes_fit(tables, spares) {
+        return Some(17);
+    }
+    starts(tables, counts).err()
 }
 
 fn is_rule(number: u32) -> bool {

@@ -85,6 +85,8 @@ fn cases_are_read_back_as_they_were_written() {
         Call::Limit,
         Call::RefineList { list: vec![] },
         Call::RefineList { list: vec![3, 3, 3, u32::MAX] },
+        Call::Preview { list: vec![] },
+        Call::Preview { list: vec![1, 0] },
     ];
     for call in calls {
         let case = Case { store: store.clone(), call };

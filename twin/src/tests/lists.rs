@@ -1,4 +1,4 @@
-//! Lists of triangles against the words of their request.
+//! Lists of triangles and previews against the words of their requests.
 
 use crate::cages;
 use crate::calls::fitting_spares;
@@ -16,12 +16,8 @@ fn refine_list(store: &mut Store, entries: &[u32]) -> (Answer, Tables) {
 
 /// Tables with what a mesh has in use in the first of them, and all the rest of the second.
 fn put_over(mesh: &Tables, counts: Counts, tables: &Tables) -> Tables {
-    let (vertices, triangles) = (counts.vertices as usize, counts.triangles as usize);
     let mut over = tables.clone();
-    over.positions[..3 * vertices].copy_from_slice(&mesh.positions[..3 * vertices]);
-    over.corners[..3 * triangles].copy_from_slice(&mesh.corners[..3 * triangles]);
-    over.links[..3 * triangles].copy_from_slice(&mesh.links[..3 * triangles]);
-    over.generations[..triangles].copy_from_slice(&mesh.generations[..triangles]);
+    over.take_over(mesh, counts);
     over
 }
 
@@ -102,4 +98,35 @@ fn a_list_that_fails_leaves_the_mesh_and_what_it_made_in_the_spares() {
     let expected = Answer { refusal: 8, counts: before.counts, handled: 3, spares: done.counts, ..Answer::default() };
     assert_eq!(refused, expected);
     assert_eq!(standing, Store { room: store.room, ..before });
+}
+
+#[test]
+fn a_preview_foresees_the_list_and_leaves_the_mesh() {
+    let rng = &mut Rng::new(24);
+    for Example { store, call, .. } in examples::lists(rng).into_iter().chain(examples::orders(rng)) {
+        let Call::RefineList { list } = &call else {
+            continue;
+        };
+        let (mut made, mut previewed) = (store.clone(), store.clone());
+        let answer = run(&mut made, &call);
+        let preview = Call::Preview { list: list.clone() };
+        let foreseen = run(&mut previewed, &preview);
+        let [vertices, triangles] = foreseen.foreseen;
+        assert_eq!((vertices, triangles), (answer.counts.vertices, answer.counts.triangles), "{call:?}");
+        assert_eq!(foreseen, Answer { counts: store.counts, foreseen: foreseen.foreseen, ..answer }, "{call:?}");
+        assert_eq!(previewed, Store { room: made.room, ..store }, "{call:?}");
+        let before = previewed.clone();
+        assert_eq!(run(&mut previewed, &preview), foreseen, "{call:?}");
+        assert_eq!(previewed, before, "{call:?}");
+    }
+}
+
+#[test]
+fn a_preview_answers_the_counts_of_the_mesh_where_the_list_is_refused() {
+    let mut store = loaded(&cages::tetrahedron());
+    for (list, refusal) in [(vec![0, 1, 9], 17), (vec![0, 1, 9], 8)] {
+        let answer = run(&mut store, &Call::Preview { list });
+        assert_eq!((answer.refusal, answer.foreseen), (refusal, [4, 4]));
+        store.room.spares = fitting_spares(&store, &mut Rng::new(25));
+    }
 }
