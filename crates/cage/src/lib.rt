@@ -52,7 +52,7 @@ fn refusal_of(
     if !pairing::pair(origins, f, v, heads, nexts, slots, partners) {
         return 5;
     }
-    if !fans::fit(origins, partners, triangles, vertices, heads) {
+    if !fans::fit(origins, partners, triangles, vertices, heads, nexts) {
         return 6;
     }
     0

@@ -5,6 +5,7 @@ use lib.IntN.{pos}
 use lib.ListN.{replicate}
 use Rattle.rules.specs.Below.{all, any, lowest, total, fill}
 use Rattle.rules.specs.Cage.{cageOf, partner, loaded, sizesFit, cornersFit, coordinatesFit, sidesDiffer, fansFit}
+use Rattle.rules.specs.Cage.{someInnerOfTwo}
 use Rattle.rules.specs.Calls.{Outcome, closedEven, loadRefusal, refineRefusal, wholeStepRefusal, ringRefusal}
 use Rattle.rules.specs.Calls.{positionRefusal, limitRefusal, loadCall, refineCall, wholeStepCall, ringCall}
 use Rattle.rules.specs.Calls.{positionCall, limitCall}
@@ -25,7 +26,7 @@ use Rattle.rules.specs.Tables.{Mesh, topologyOf, meshOf, tablesAgree}
 -- A declaration that says `unfolding computing` computes with every definition of the rules.
 unfoldable pub computing : Unit {0}
 unfolding all any lowest total fill cageOf partner loaded sizesFit cornersFit coordinatesFit sidesDiffer fansFit
-    closedEven loadRefusal refineRefusal wholeStepRefusal ringRefusal positionRefusal loadCall refineCall
+    someInnerOfTwo closedEven loadRefusal refineRefusal wholeStepRefusal ringRefusal positionRefusal loadCall refineCall
     wholeStepCall ringCall positionCall after outcomes lastLoad edges cageEdges numberAt signed floorDiv nearestThird
     halfUp rounded weights weight moved firstSide fanFrom fan neighbours ring isLinked soundSide hasOneFan isSound
     faceCut flip limit limitCoordinate limitPositions limitRefusal limitCall centre firstThird secondThird facePlaced

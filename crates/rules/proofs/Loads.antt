@@ -4,3 +4,4 @@ pub mod Load
 pub mod LoadTests
 pub mod Alike
 pub mod CageEdges
+pub mod InnerOfTwo

@@ -1,16 +1,18 @@
 -- Places where a plausible other reading of the paper would give another result, computed from the rules.
 use Prim.Native.Nat.{ℕ}
+use mathlib.Core.Bool.{true}
 use mathlib.Core.List.{List, [], _∷_, _++_, map}
 use mathlib.Core.Path.{_≡_, refl}
 use lib.IntN.{ℤ, pos, negsuc}
 use lib.ListN.{replicate, drop, getD}
 use Rattle.rules.proofs.Computing.{computing, made, madeEach, fresh, sevens, bytes, tetrahedron}
 use Rattle.rules.proofs.Examples.{lineOf, triangleOf, pointOf}
-use Rattle.rules.proofs.Refusals.{refusalAfter, cageAtOrigin, triangle}
+use Rattle.rules.proofs.Refusals.{refusalAfter, cageAtOrigin, triangle, hinge}
 use Rattle.rules.specs.History.{Change, loads, refines, steps, refinesEach, ringOf, positionOf, limitsOf, asked}
 use Rattle.rules.specs.History.{changes, asks, previewOf, outcome, outcomes, nothing, cage, lastLoad, edges}
 use Rattle.rules.specs.Mirror.{mirror, mirrorTable}
 use Rattle.rules.specs.Numbers.{nearestThird, rounded}
+use Rattle.rules.specs.Sound.{isSound}
 use Rattle.rules.specs.Tables.{Mesh, topologyOf, meshOf, link, generation, coordinate}
 
 unfoldable pub store : Mesh
@@ -73,11 +75,6 @@ unfolding tetrahedron
 longChain =
     loads 1 tetrahedron ∷ refines 0 ∷ refines 0 ∷ refines 0 ∷ refines 7 ∷ refines 8 ∷ refines 8 ∷ []
 
--- Two triangles that share one side.
-unfoldable pub hinge : List ℕ
-unfolding cageAtOrigin
-hinge = cageAtOrigin 4 2 (0 ∷ 1 ∷ 2 ∷ 1 ∷ 0 ∷ 3 ∷ [])
-
 -- A triangle whose first coordinate has these four bytes.
 unfoldable pub withFirst : List ℕ → List ℕ
 unfolding bytes
@@ -92,10 +89,13 @@ signedBytes =
     ++ replicate 24 0
     ++ bytes (0 ∷ 1 ∷ 2 ∷ [])
 
--- Two triangles that share all three sides.
-unfoldable pub foil : List Change
-unfolding cageAtOrigin
-foil = loads 1 (cageAtOrigin 3 2 (0 ∷ 1 ∷ 2 ∷ 0 ∷ 2 ∷ 1 ∷ [])) ∷ refines 0 ∷ refines 1 ∷ []
+-- Stored tables of two triangles that share all three sides, with vertex 0 at x = 900,000 and the others at the origin.
+unfoldable pub foil : Mesh
+foil =
+    meshOf (topologyOf 3 2
+    (0 ∷ 1 ∷ 2 ∷ 0 ∷ 2 ∷ 1 ∷ replicate 12 0)
+    (5 ∷ 4 ∷ 3 ∷ 2 ∷ 1 ∷ 0 ∷ replicate 12 0)
+    (replicate 6 0)) (pos 900000 ∷ replicate 14 (pos 0)) 1
 
 -- The same two at generation 18, in 6 triangle slots.
 unfoldable pub atEighteen : Mesh
@@ -123,7 +123,18 @@ pub record Table : Type 0 where
   -- An even triangle rises by two where its own slot is flipped.
   pub ownSlotFlipped : triangleOf (made octahedron store) 4 ≡ 1 ∷ 6 ∷ 7 ∷ 2 ∷ []
   -- Links are no function of the corners: the nine edges here join only seven pairs of vertices.
-  pub foilEdges : edges (made foil store .topology) ≡ 9
+  pub foilEdges : edges (made (refines 0 ∷ refines 1 ∷ []) foil .topology) ≡ 9
+  -- Load turns such a cage away (Refusals.n6ByFoil), but stored it is sound, is refined, makes a whole step with rings of
+  -- two entries, and has its rings and limit positions. (Request g)
+  pub foilSound : isSound foil ≡ true
+  pub foilRefined : map lineOf (madeEach (refines 0 ∷ refines 1 ∷ []) foil)
+      ≡ (0 ∷ 1 ∷ 0 ∷ 4 ∷ 4 ∷ []) ∷ (0 ∷ 1 ∷ 3 ∷ 5 ∷ 6 ∷ []) ∷ []
+  pub foilStepped : map lineOf (madeEach (steps ∷ []) foil) ≡ (0 ∷ 2 ∷ 3 ∷ 5 ∷ 6 ∷ []) ∷ []
+  pub foilMoved : map (λ v. coordinate (made (steps ∷ []) foil) v 0) (0 ∷ 1 ∷ 2 ∷ [])
+      ≡ pos 299995 ∷ pos 300002 ∷ pos 300002 ∷ []
+  pub foilLimits : asked (limitsOf (replicate 9 (pos 77))) foil .room .table
+      ≡ pos 299998 ∷ pos 0 ∷ pos 0 ∷ pos 300001 ∷ pos 0 ∷ pos 0 ∷ pos 300001 ∷ pos 0 ∷ pos 0 ∷ []
+  pub foilRing : asked (ringOf 1 (replicate 3 77)) foil .room .buffer ≡ 2 ∷ 0 ∷ 77 ∷ []
   -- Generation 19 with an even triangle across its base is refined to 20.
   pub toTwenty : generation (made (refines 0 ∷ refines 0 ∷ []) atEighteen .topology) 0 ≡ 20
   -- The room that the first refine of the tetrahedron takes, and one slot less of either kind.
@@ -212,6 +223,12 @@ readings = record {
   chainOfThree₈ = refl;
   ownSlotFlipped = refl;
   foilEdges = refl;
+  foilSound = refl;
+  foilRefined = refl;
+  foilStepped = refl;
+  foilMoved = refl;
+  foilLimits = refl;
+  foilRing = refl;
   toTwenty = refl;
   enoughRoom = refl;
   fewTriangleSlots = refl;

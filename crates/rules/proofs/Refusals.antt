@@ -30,7 +30,25 @@ unfoldable pub triangle : List ℕ
 unfolding cageAtOrigin
 triangle = cageAtOrigin 3 1 (0 ∷ 1 ∷ 2 ∷ [])
 
--- The same with a first coordinate of 16,777,217.
+-- Two triangles that share one side.
+unfoldable pub hinge : List ℕ
+unfolding cageAtOrigin
+hinge = cageAtOrigin 4 2 (0 ∷ 1 ∷ 2 ∷ 1 ∷ 0 ∷ 3 ∷ [])
+
+-- Two triangles that share all three sides: a foil leaf. The same after a tetrahedron, and before one.
+unfoldable pub foilCage : List ℕ
+unfolding cageAtOrigin
+foilCage = cageAtOrigin 3 2 (0 ∷ 1 ∷ 2 ∷ 0 ∷ 2 ∷ 1 ∷ [])
+
+unfoldable pub foilLast : List ℕ
+unfolding cageAtOrigin
+foilLast = cageAtOrigin 7 6 (0 ∷ 1 ∷ 2 ∷ 0 ∷ 3 ∷ 1 ∷ 1 ∷ 3 ∷ 2 ∷ 2 ∷ 3 ∷ 0 ∷ 4 ∷ 5 ∷ 6 ∷ 4 ∷ 6 ∷ 5 ∷ [])
+
+unfoldable pub foilFirst : List ℕ
+unfolding cageAtOrigin
+foilFirst = cageAtOrigin 7 6 (0 ∷ 1 ∷ 2 ∷ 0 ∷ 2 ∷ 1 ∷ 3 ∷ 4 ∷ 5 ∷ 3 ∷ 6 ∷ 4 ∷ 4 ∷ 6 ∷ 5 ∷ 5 ∷ 6 ∷ 3 ∷ [])
+
+-- One triangle with a first coordinate of 16,777,217.
 unfoldable pub tooFar : List ℕ
 unfolding bytes
 tooFar = bytes (3 ∷ 1 ∷ []) ++ (1 ∷ 0 ∷ 0 ∷ 1 ∷ []) ++ replicate 32 0 ++ bytes (0 ∷ 1 ∷ 2 ∷ [])
@@ -64,6 +82,13 @@ pub record Table : Type 0 where
   pub n4 : refusalAfter [] (changes (loads 1 tooFar)) small ≡ 4
   pub n5 : refusalAfter [] (changes (loads 1 (cageAtOrigin 4 2 (0 ∷ 1 ∷ 2 ∷ 0 ∷ 1 ∷ 3 ∷ [])))) small ≡ 5
   pub n6 : refusalAfter [] (changes (loads 1 (cageAtOrigin 4 1 (0 ∷ 1 ∷ 2 ∷ [])))) small ≡ 6
+  -- A foil leaf, alone and beside a good component. Vertices of two triangles on the boundary are allowed, and so is one
+  -- triangle alone. (Request g)
+  pub n6ByFoil : refusalAfter [] (changes (loads 1 foilCage)) small ≡ 6
+  pub n6ByLast : refusalAfter [] (changes (loads 1 foilLast)) (fresh 7 6) ≡ 6
+  pub n6ByFirst : refusalAfter [] (changes (loads 1 foilFirst)) (fresh 7 6) ≡ 6
+  pub hingeIsAllowed : refusalAfter [] (changes (loads 1 hinge)) small ≡ 0
+  pub triangleIsAllowed : refusalAfter [] (changes (loads 1 triangle)) small ≡ 0
   pub n7 : refusalAfter [] (changes (refines 0)) small ≡ 7
   -- A rule that is neither 1 nor 2, stored with the counts.
   pub n7ByRule : refusalAfter [] (changes (refines 0)) (withRule 3 (made (loads 1 tetrahedron ∷ []) small)) ≡ 7
@@ -93,7 +118,8 @@ pub record Table : Type 0 where
   pub sparesBeforeSound : refusalAfter [] (changes (refinesEach [] (sevens 5 9))) small ≡ 17
 
 pub refusals : Table
-unfolding computing fresh sevens small uneven tetrahedron cageAtOrigin triangle tooFar grown shell doublePyramid
+unfolding computing fresh sevens small uneven tetrahedron cageAtOrigin triangle hinge foilCage foilLast foilFirst tooFar
+    grown shell doublePyramid
 refusals = record {
   n1 = refl;
   n2 = refl;
@@ -101,6 +127,11 @@ refusals = record {
   n4 = refl;
   n5 = refl;
   n6 = refl;
+  n6ByFoil = refl;
+  n6ByLast = refl;
+  n6ByFirst = refl;
+  hingeIsAllowed = refl;
+  triangleIsAllowed = refl;
   n7 = refl;
   n7ByRule = refl;
   n8 = refl;

@@ -9,7 +9,8 @@ use lib.ListN.{length}
 use Rattle.rules.proofs.Calls.CallRefusals.{load-refusal, refine-refusal, whole-step-refusal, ring-refusal}
 use Rattle.rules.proofs.Calls.CallRefusals.{position-refusal, limit-refusal, taken-at-boundary}
 use Rattle.rules.proofs.Calls.EveryCall.{refused-leaves, no-ten}
-use Rattle.rules.proofs.Calls.Histories.{every-history, history-sound}
+use Rattle.rules.proofs.Calls.Histories.{every-history, history-sound, history-thick}
+use Rattle.rules.proofs.Loads.InnerOfTwo.{some-inner-of-two-is, back-to-back}
 use Rattle.rules.proofs.Loads.Load.{links-are}
 use Rattle.rules.proofs.Calls.Outcomes.{load-makes, refine-makes, chain-falls, refine-is-split}
 use Rattle.rules.proofs.Calls.Outcomes.{whole-step-makes, limit-makes, ring-reads, position-reads}
@@ -23,20 +24,21 @@ use Rattle.rules.proofs.Rings.RingTheory.{ring-makes}
 use Rattle.rules.proofs.Numbers.Rounding.{nearest-third, nearest-third-only, rounded-nearest, nearest-only}
 use Rattle.rules.proofs.Soundness.SoundTest.{sound-is}
 use Rattle.rules.proofs.Spares.Adds.{refine-adds}
-use Rattle.rules.specs.Cage.{Cage, cageOf, loaded}
+use Rattle.rules.specs.Cage.{Cage, cageOf, loaded, someInnerOfTwo}
 use Rattle.rules.specs.Calls.{outcomeOf, worked, loadCall, refineCall, wholeStepCall, ringRead, ringCall}
 use Rattle.rules.specs.Calls.{positionRead, positionCall, limitRead, limitCall, splitsOf}
 use Rattle.rules.specs.Calls.{rimSplitsOf, verticesOf, trianglesOf, spareRoom, refusedWith}
 use Rattle.rules.specs.Conditions.{SidesDiffer, EndsAtBoundary, OddInChain, First, loadConditions}
 use Rattle.rules.specs.Conditions.{refineConditions, wholeStepConditions, limitConditions, ringConditions}
-use Rattle.rules.specs.Conditions.{positionConditions, listConditions, Takes, FailsAfter}
+use Rattle.rules.specs.Conditions.{positionConditions, listConditions, Takes, FailsAfter, SizesFit, CornersFit, FansFit}
+use Rattle.rules.specs.Conditions.{InnerOfTwo, SomeInnerOfTwo}
 use Rattle.rules.specs.History.{Call, outcome, after, lastLoad, nothing, cage, EveryHistory}
 use Rattle.rules.specs.Lists.{Progress, begun, handleAll, refineEach, sparesRefusal, allOrNothing}
 use Rattle.rules.specs.Lists.{listCall, previewCall}
 use Rattle.rules.specs.Mirror.{mirror, mirrorOutcome, Mirrors, Rounds, MirrorsEach}
 use Rattle.rules.specs.Numbers.{nearestThird, rounded}
 use Rattle.rules.specs.Promises.{Nearest, Matches, Loaded, ChainFalls, RefineMakes, added, StepMakes, LimitMakes}
-use Rattle.rules.specs.Promises.{RefusalLeaves, AgreeInUse, RingMakes, kobbelt, ListMakes, SameWork}
+use Rattle.rules.specs.Promises.{RefusalLeaves, AgreeInUse, RingMakes, kobbelt, ListMakes, SameWork, BackToBack}
 use Rattle.rules.specs.Sound.{Sound, isSound}
 use Rattle.rules.specs.Spares.{Spares, copied, meshIn, SameSizes}
 use Rattle.rules.specs.Split.{Work, atFirst, chainOdd, refine}
@@ -117,6 +119,20 @@ pub load-carried : (rule : ℕ) (bytes : List ℕ) (m : Mesh) → loadCall rule 
     → let n = withRule rule (loaded (cageOf bytes) m) in
     (loadCall rule bytes m ≡ worked (atFirst n)) × Loaded rule (cageOf bytes) m n
 load-carried = load-makes
+
+-- The test on sides says yes exactly where some vertex off the boundary has exactly two triangles, in a cage that passes
+-- 3 and 5 and whose fans fit. (Request g)
+pub two-test : (c : Cage) (m : Mesh) → TablesAgree m → c .vertices ≤ vertexSlots m → c .triangles ≤ triangleSlots m
+    → CornersFit c → SidesDiffer c → FansFit c m → T (someInnerOfTwo c m) ↔ SomeInnerOfTwo c m
+two-test c m A v f K D F =
+    let d = some-inner-of-two-is c m A v f K D F in
+    (d .holds, d .passes)
+
+-- Such a vertex has two triangles back to back, which are a component of their own, whether the fans fit or not.
+pub two-back-to-back : (c : Cage) (m : Mesh) → TablesAgree m
+    → c .vertices ≤ vertexSlots m → c .triangles ≤ triangleSlots m → CornersFit c → SidesDiffer c
+    → (v : ℕ) → InnerOfTwo (loaded c m .topology) v → (t : ℕ) × (u : ℕ) × BackToBack (loaded c m .topology) v t u
+two-back-to-back = back-to-back
 
 -- In the tables that condition 6 is judged in, the links are the matching opposite sides.
 pub links-match : (c : Cage) (m : Mesh) → TablesAgree m → c .vertices ≤ vertexSlots m → c .triangles ≤ triangleSlots m
@@ -293,6 +309,12 @@ third-demand = every-history
 pub sound-after : (calls : List Call) (m : Mesh) (bytes : List ℕ) → lastLoad calls m nothing ≡ cage bytes
     → Sound (after calls m)
 sound-after = history-sound
+
+-- The cage of an accepted load has no vertex off the boundary of exactly two triangles, whichever tables it is loaded
+-- into. (Request g)
+pub thick-after : (calls : List Call) (m : Mesh) (bytes : List ℕ) → lastLoad calls m nothing ≡ cage bytes
+    → (n : Mesh) → TablesAgree n → SizesFit bytes n → ¬ SomeInnerOfTwo (cageOf bytes) n
+thick-after = history-thick
 
 -- ---- mirror images (Request c)
 

@@ -5,10 +5,11 @@ use mathlib.Core.List.{List}
 use lib.Dec.{eqb, ltb, leb}
 use lib.IntN.{ℤ}
 use lib.ListN.{length}
-use Rattle.rules.specs.Below.{all, lowest, fill}
+use Rattle.rules.specs.Below.{all, any, lowest, fill}
 use Rattle.rules.specs.Numbers.{numberAt, signed, inRange}
 use Rattle.rules.specs.Sound.{hasOneFan}
-use Rattle.rules.specs.Tables.{Mesh, topologyOf, meshOf, next, boundary, vertexSlots, triangleSlots}
+use Rattle.rules.specs.Tables.{Topology, Mesh, topologyOf, meshOf, sides, next, boundary, rotate, vertexSlots}
+use Rattle.rules.specs.Tables.{triangleSlots}
 
 -- `coordinate (3 * v + k)` is coordinate k of vertex v, and `corner h` the origin of side h.
 pub record Cage : Type 0 where
@@ -82,3 +83,13 @@ sidesDiffer c = all (3 * c .triangles) (λ h. all h (λ k. not (parallel c h k))
 -- Each vertex has one fan, in the tables that the cage would be loaded as.
 unfoldable pub fansFit : Cage → Mesh → Bool
 fansFit c m = all (c .vertices) (hasOneFan (loaded c m .topology))
+
+-- A turn from side h leads to a side in use, and a second one back to h. That the first is in use has to be asked: past
+-- the tables, as the boundary is, a turn reads as side 0.
+abbrev pub turnsBack : Topology → ℕ → Bool
+turnsBack m h = ltb (rotate m h) (sides m) && eqb (rotate m (rotate m h)) h
+
+-- Some side turns back, in the same tables: where each vertex has one fan, its origin is off the boundary and has two
+-- triangles. (Request g)
+unfoldable pub someInnerOfTwo : Cage → Mesh → Bool
+someInnerOfTwo c m = any (3 * c .triangles) (turnsBack (loaded c m .topology))

@@ -7,6 +7,7 @@ use lib.IntN.{ℤ, pos}
 use lib.ListN.{length, getD}
 use Rattle.rules.specs.Below.{all, any, fill}
 use Rattle.rules.specs.Cage.{cageOf, loaded, sizesFit, cornersFit, coordinatesFit, sidesDiffer, fansFit}
+use Rattle.rules.specs.Cage.{someInnerOfTwo}
 use Rattle.rules.specs.Numbers.{knownRule}
 use Rattle.rules.specs.Ring.{ring}
 use Rattle.rules.specs.Sound.{isSound}
@@ -152,7 +153,7 @@ loadRefusal rule bytes m =
     ∷ 3 if not (cornersFit c)
     ∷ 4 if not (coordinatesFit c)
     ∷ 5 if not (sidesDiffer c)
-    ∷ 6 if not (fansFit c m)
+    ∷ 6 if (not (fansFit c m) || someInnerOfTwo c m)
     ∷ []
     )
 

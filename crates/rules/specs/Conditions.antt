@@ -7,7 +7,7 @@ use lib.IntN.{ℤ}
 use lib.ListN.{length}
 use Rattle.rules.specs.Cage.{Cage, cageOf, loaded}
 use Rattle.rules.specs.Numbers.{InRange, KnownRule}
-use Rattle.rules.specs.Ring.{ring}
+use Rattle.rules.specs.Ring.{OnBoundary, triangleCount, ring}
 use Rattle.rules.specs.Sound.{OneFan, Sound}
 use Rattle.rules.specs.Spares.{Spares, SameSizes}
 use Rattle.rules.specs.Split.{Work, atFirst, refine}
@@ -44,6 +44,14 @@ SidesDiffer c =
 -- one.
 abbrev pub FansFit : Cage → Mesh → Type 0
 FansFit c m = (v : ℕ) → v < c .vertices → OneFan (loaded c m .topology) v
+
+-- v is off the boundary and has exactly two triangles: a closed fan of two, the customer's foil leaf. (Request g)
+abbrev pub InnerOfTwo : Topology → ℕ → Type 0
+InnerOfTwo m v = (¬ OnBoundary m v) × (triangleCount m v ≡ 2)
+
+-- 6 as well: some vertex is such, in the same tables.
+abbrev pub SomeInnerOfTwo : Cage → Mesh → Type 0
+SomeInnerOfTwo c m = (v : ℕ) × (v < c .vertices) × InnerOfTwo (loaded c m .topology) v
 
 -- ---- a mesh
 
@@ -152,7 +160,7 @@ loadConditions rule bytes m =
     ∷ 3 when (¬ CornersFit c)
     ∷ 4 when (¬ CoordinatesFit c)
     ∷ 5 when (¬ SidesDiffer c)
-    ∷ 6 when (¬ FansFit c m)
+    ∷ 6 when ((¬ FansFit c m) ⊎ SomeInnerOfTwo c m)
     ∷ []
 
 abbrev pub refineConditions : ℕ → Mesh → List Condition

@@ -8,16 +8,16 @@ use lib.Dec.{eqb, ltb}
 use lib.IntN.{ℤ, pos, natAbs, _+ℤ_, _-ℤ_, _*ℤ_}
 use lib.ListN.{length, getD, drop}
 use lib.Signed.{_≤ℤ_, _<ℤ_}
-use Rattle.rules.specs.Below.{count, total}
+use Rattle.rules.specs.Below.{total}
 use Rattle.rules.specs.Calls.{Room, Outcome, noRoom, ringRoom, tableRoom, spareRoom, zeroPoint, splitsOf, rimSplitsOf}
 use Rattle.rules.specs.Calls.{worked}
 use Rattle.rules.specs.Cage.{Cage}
-use Rattle.rules.specs.Conditions.{Risen, Handled}
+use Rattle.rules.specs.Conditions.{InnerOfTwo, Risen, Handled}
 use Rattle.rules.specs.History.{Call, changes, asks, loads, refines, steps, refinesEach, ringOf, positionOf}
 use Rattle.rules.specs.History.{limitsOf, previewOf, ReportsSplits, edges, cageEdges}
 use Rattle.rules.specs.Lists.{refineEach, sparesRefusal}
 use Rattle.rules.specs.Numbers.{InRange, weight}
-use Rattle.rules.specs.Ring.{firstSide, fan, ring}
+use Rattle.rules.specs.Ring.{OnBoundary, triangleCount, firstSide, fan, ring}
 use Rattle.rules.specs.Sound.{Sound}
 use Rattle.rules.specs.Spares.{Spares, copied}
 use Rattle.rules.specs.Split.{Work, atFirst, centre, faceSplit, rimSplit}
@@ -101,7 +101,18 @@ pub record Loaded (r : ℕ) (c : Cage) (m n : Mesh) : Type 0 where
   pub generations : (t : ℕ) → t < n .topology .triangles → generation (n .topology) t ≡ 0
   pub links : (h : ℕ) → h < sides (n .topology) → Matches c h (link (n .topology) h)
   pub edges : edges (n .topology) ≡ cageEdges c
+  -- No vertex off the boundary has exactly two triangles. (Request g)
+  pub thick : (v : ℕ) → v < n .topology .vertices → ¬ InnerOfTwo (n .topology) v
   pub past : SamePast m n
+
+-- Triangles t and u have v for a corner and lie back to back: each side of the one is linked to a side of the other, so
+-- that they are a component of their own. (Request g)
+pub record BackToBack (m : Topology) (v t u : ℕ) : Type 0 where
+  pub inUse : (t < m .triangles) × (u < m .triangles)
+  pub apart : t ≢ u
+  pub corner : ((h : ℕ) × (h / 3 ≡ t) × (origin m h ≡ v)) × ((h : ℕ) × (h / 3 ≡ u) × (origin m h ≡ v))
+  pub there : (h : ℕ) → h / 3 ≡ t → link m h / 3 ≡ u
+  pub back : (h : ℕ) → h / 3 ≡ u → link m h / 3 ≡ t
 
 -- ---- refine (Refine one triangle)
 
@@ -276,14 +287,6 @@ pub record LimitMakes (m : Mesh) (table : List ℤ) : Type 0 where
       (getD table (3 * v + k) (pos 0))
 
 -- ---- rings (Rings and positions)
-
--- A side out of v is on the boundary.
-abbrev pub OnBoundary : Topology → ℕ → Type 0
-OnBoundary m v = (h : ℕ) × (h < sides m) × (origin m h ≡ v) × (link m h ≡ boundary)
-
--- The number of triangles that v has: each has one side out of it.
-abbrev pub triangleCount : Topology → ℕ → ℕ
-triangleCount m v = count (sides m) (λ h. eqb (origin m h) v)
 
 -- Side number i of the walk round v.
 abbrev pub walkAt : Topology → ℕ → ℕ → ℕ

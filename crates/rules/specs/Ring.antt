@@ -1,10 +1,19 @@
 -- The triangles round a vertex and the ring of its neighbours. (Rings and positions)
-use Prim.Native.Nat.{ℕ, zero, suc}
+use Prim.Native.Nat.{ℕ, zero, suc, _<_}
 use mathlib.Core.Bool.{true, false, not, _&&_}
 use mathlib.Core.List.{List, [], _∷_}
+use mathlib.Core.Path.{_≡_}
 use lib.Dec.{eqb, ltb}
-use Rattle.rules.specs.Below.{lowest}
+use Rattle.rules.specs.Below.{lowest, count}
 use Rattle.rules.specs.Tables.{Topology, sides, origin, target, previous, link, rotate, boundary}
+
+-- A side out of v is on the boundary.
+abbrev pub OnBoundary : Topology → ℕ → Type 0
+OnBoundary m v = (h : ℕ) × (h < sides m) × (origin m h ≡ v) × (link m h ≡ boundary)
+
+-- The number of triangles that v has: each has one side out of it.
+abbrev pub triangleCount : Topology → ℕ → ℕ
+triangleCount m v = count (sides m) (λ h. eqb (origin m h) v)
 
 -- The side out of v where its ring starts: the one on the boundary, or else the one in the lowest slot that holds v;
 -- `sides m` where v has no triangle.

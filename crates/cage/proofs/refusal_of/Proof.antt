@@ -3,7 +3,7 @@ use borrow.Author.Tests.{not-true, not-false}
 use native.Mathlib.Omega.{arith}
 use mathlib.Core.Path.{sym, _∙_}
 use Rattle.cage.proofs.refusal_of.Proof.Refusals.{Fits, decode-read, refuses-3, refuses-4, readable, refuses-5}
-use Rattle.cage.proofs.refusal_of.Proof.Refusals.{threads-begin, holds, refuses-6, refuses-none}
+use Rattle.cage.proofs.refusal_of.Proof.Refusals.{holds, refuses-6, refuses-none}
 use Rattle.cage.specs.Decoded.{decoded}
 use Rattle.cage.specs.Pairing.{Matched}
 use borrow.Author.Needs.{needs}
@@ -118,10 +118,10 @@ returns-3 c =
 
 fit-requires : tie.Need-fit-requires
 fit-requires c κs =
-    let at-else3 = c .before .before .before in
+    let at-else3 = c .before .before .before .before in
     let at-pair = at-else3 .before .before .before .before .before .before .before .before .before in
     let F = fit (at-pair .before .before .before .before .before .before) in
-    ((readable F, F .read .sized .fewVertices), (matched at-else3 .room, threads-begin (at-pair .pair .ensures .1)))
+    ((readable F, F .read .sized .fewVertices), (matched at-else3 .room, at-pair .pair .ensures .1))
 
 same-length-8 : tie.Need-same-length-8
 same-length-8 c = search needs
@@ -141,7 +141,7 @@ same-length-12 c = search needs
 returns-4 : tie.Need-returns-4
 returns-4 c =
     let at-fit = c .before .before .before in
-    let at-else3 = at-fit .before .before .before .before in
+    let at-else3 = at-fit .before .before .before .before .before in
     let at-else2 = at-else3 .before .before .before .before .before .before .before .before .before .before .before
     .before .before .before .before in (
       refuses-6 (fit at-else2) (matched at-else3)
@@ -167,7 +167,7 @@ same-length-17 c = search needs
 returns-5 : tie.Need-returns-5
 returns-5 c =
     let at-fit = c .before .before .before in
-    let at-else3 = at-fit .before .before .before .before in
+    let at-else3 = at-fit .before .before .before .before .before in
     let at-else2 = at-else3 .before .before .before .before .before .before .before .before .before .before .before
     .before .before .before .before in (
       refuses-none (fit at-else2) (matched at-else3)

@@ -14,7 +14,7 @@ use Rattle.rules.proofs.Numbers.Decide.{is-all}
 use Rattle.rules.proofs.Numbers.Decide.{is-any, is-or}
 use Rattle.rules.proofs.Calls.FirstThatHolds.{Judged, carried, refused, first-if, first-unless, judged}
 use Rattle.rules.proofs.Calls.FirstThatHolds.{judged-refusal, judged-refused, first-not}
-use Rattle.rules.proofs.Loads.Load.{fans-fit-is}
+use Rattle.rules.proofs.Loads.InnerOfTwo.{six-is}
 use Rattle.rules.proofs.Chains.Refine.{chain-takes}
 use Rattle.rules.proofs.Soundness.SoundTest.{tables-agree-is, sound-is, known-rule-is}
 use Rattle.rules.specs.Below.{any}
@@ -123,7 +123,7 @@ load-refusal-first rule bytes m =
     first-unless 3 (corners-fit-is c) (λ K.
     first-unless 4 (coordinates-fit-is c) (λ _.
     first-unless 5 (sides-differ-is c) (λ D.
-    first-unless 6 (fans-fit-is c m A (S .vertexRoom) (S .triangleRoom) K D) (λ _. none)))))))
+    first-if 6 (six-is c m A (S .vertexRoom) (S .triangleRoom) K D) (λ _. none)))))))
 
 pub refine-refusal-first : (t : ℕ) (m : Mesh) → First (refineConditions t m) (refineRefusal t m)
 unfolding refineRefusal

@@ -1,6 +1,6 @@
 -- What a call that is carried out has found, and what it makes of the mesh.
 use mathlib.Core.Path.{_≡_, _∙_}
-use mathlib.Core.Logic.{_≢_, inl}
+use mathlib.Core.Logic.{_≢_, inl, inr}
 use mathlib.Core.List.{List}
 use Prim.Native.Nat.{ℕ, _*_, _<_}
 use native.Mathlib.Omega.{arith}
@@ -18,7 +18,7 @@ use Rattle.rules.specs.Cage.{Cage, cageOf}
 use Rattle.rules.specs.Calls.{splitsOf, loadRefusal, refineRefusal, wholeStepRefusal, rimSplitsOf, verticesOf}
 use Rattle.rules.specs.Calls.{trianglesOf}
 use Rattle.rules.specs.Conditions.{SizesFit, CornersFit, RoomFor, ClosedEven, CoordinatesFit, SidesDiffer}
-use Rattle.rules.specs.Conditions.{FansFit, TooOld}
+use Rattle.rules.specs.Conditions.{FansFit, SomeInnerOfTwo, TooOld}
 use Rattle.rules.specs.Numbers.{KnownRule}
 use Rattle.rules.specs.Promises.{StepMakes}
 use Rattle.rules.specs.Sound.{Sound}
@@ -36,6 +36,7 @@ pub record LoadFound (rule : ℕ) (bytes : List ℕ) (m : Mesh) : Type 0 where
   pub coordinates : CoordinatesFit (cageOf bytes)
   pub differ : SidesDiffer (cageOf bytes)
   pub fans : FansFit (cageOf bytes) m
+  pub thick : ¬ SomeInnerOfTwo (cageOf bytes) m
 
 pub load-found : (rule : ℕ) (bytes : List ℕ) (m : Mesh) → loadRefusal rule bytes m ≡ 0 → LoadFound rule bytes m
 load-found rule bytes m z =
@@ -52,7 +53,8 @@ load-found rule bytes m z =
       corners = K;
       coordinates = stable (coordinates-fit-is c) r;
       differ = D;
-      fans = stable (fans-fit-is c m A (S .vertexRoom) (S .triangleRoom) K D) f;
+      fans = stable (fans-fit-is c m A (S .vertexRoom) (S .triangleRoom) K D) (λ n. f (inl n));
+      thick = λ x. f (inr x);
     }
 
 -- ---- refine

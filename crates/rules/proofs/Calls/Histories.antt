@@ -19,6 +19,7 @@ use Rattle.rules.proofs.Calls.Carried.{step-found}
 use Rattle.rules.proofs.Calls.Carried.{found-step}
 use Rattle.rules.proofs.Numbers.Differences.{nat, add, sub, equal}
 use Rattle.rules.proofs.Calls.FirstThatHolds.{Judged, carried, refused, judged-carried}
+use Rattle.rules.proofs.Loads.InnerOfTwo.{same-two}
 use Rattle.rules.proofs.Loads.Load.{load-sound}
 use Rattle.rules.proofs.Links.Manifold.{partnered}
 use Rattle.rules.proofs.Chains.Refine.{Refined, chain-bound, chain-takes}
@@ -27,7 +28,7 @@ use Rattle.rules.proofs.Splits.Parts.{mutual-links}
 use Rattle.rules.specs.Cage.{cageOf, loaded}
 use Rattle.rules.specs.Calls.{Room, noRoom, Outcome, worked, loadRefusal, refineCall, rimSplitsOf}
 use Rattle.rules.specs.Conditions.{OddInChain, atEven, atBoundary, onward, EndsAtBoundary, Takes, evenEnd}
-use Rattle.rules.specs.Conditions.{boundaryEnd}
+use Rattle.rules.specs.Conditions.{boundaryEnd, SizesFit, SomeInnerOfTwo}
 use Rattle.rules.specs.History.{Near, ReportsSplits, Kept, loads, refines, steps, refinesEach, Call, changes}
 use Rattle.rules.specs.History.{asks}
 use Rattle.rules.specs.History.{LastLoad, nothing, cage, outcome, after, opens, lastLoad, edges, characteristic}
@@ -35,12 +36,17 @@ use Rattle.rules.specs.History.{cageCharacteristic, EveryHistory}
 use Rattle.rules.specs.Promises.{StepMakes}
 use Rattle.rules.specs.Sound.{Sound}
 use Rattle.rules.specs.Split.{Work, atFirst, refine}
-use Rattle.rules.specs.Tables.{Topology, Mesh, withRule, link, generation}
+use Rattle.rules.specs.Tables.{Topology, Mesh, TablesAgree, withRule, link, generation}
 
--- What is kept from an accepted load on: the tables are sound, and the characteristic is the cage's.
+-- In no tables has the cage a vertex off the boundary of exactly two triangles.
+abbrev Thick : List ℕ → Type 0
+Thick bytes = (n : Mesh) → TablesAgree n → SizesFit bytes n → ¬ SomeInnerOfTwo (cageOf bytes) n
+
+-- What is kept from an accepted load on: the tables are sound, the characteristic is the cage's, and the cage is thick.
 pub record Good (bytes : List ℕ) (m : Mesh) : Type 0 where
   pub sound : Sound m
   pub euler : characteristic (m .topology) ≡ cageCharacteristic (cageOf bytes)
+  pub thick : Thick bytes
 
 abbrev pub Holds : LastLoad → Mesh → Type 0
 Holds nothing m = Unit {0}
@@ -72,7 +78,7 @@ step-stays {m = m} {w = w} P =
 
 holds-on : {m n : Mesh} (o : LastLoad) → Stays m n → Holds o m → Holds o n
 holds-on nothing S h = tt
-holds-on (cage bytes) S h = record { sound = S .sound; euler = S .euler ∙ h .euler }
+holds-on (cage bytes) S h = record { sound = S .sound; euler = S .euler ∙ h .euler; thick = h .thick }
 
 -- A call that is refused leaves the mesh, and one that is carried out makes one that stays.
 judged-keeps : {n : ℕ} {m : Mesh} {room : Room} {success o : Outcome} (a : LastLoad) → Judged n m room success o
@@ -89,6 +95,9 @@ loaded-good rule bytes m L = record {
   euler =
       load-characteristic (cageOf bytes) m (L .agree) (L .sizes .vertexRoom) (L .sizes .triangleRoom) (L .corners)
       (L .differ);
+  thick = λ n A S x.
+      L .thick (same-two (cageOf bytes) m n (L .agree) A (L .sizes .vertexRoom) (L .sizes .triangleRoom)
+      (S .vertexRoom) (S .triangleRoom) x);
 }
 
 load-holds : (rule : ℕ) (bytes : List ℕ) (m : Mesh) (a : LastLoad) {o : Outcome}
@@ -194,6 +203,9 @@ module _ (calls : List Call) (m : Mesh) (bytes : List ℕ) (e : lastLoad calls m
 
   pub history-sound : Sound (after calls m)
   history-sound = good-after .sound
+
+  pub history-thick : (n : Mesh) → TablesAgree n → SizesFit bytes n → ¬ SomeInnerOfTwo (cageOf bytes) n
+  history-thick = good-after .thick
 
 pub every-history : EveryHistory
 every-history calls m bytes e = good-kept bytes (after calls m) (good-after calls m bytes e)

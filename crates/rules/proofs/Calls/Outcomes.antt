@@ -55,6 +55,7 @@ load-makes rule bytes m z =
         generations = R .generations;
         links = links-are c m A v f (L .differ);
         edges = load-edges c m A v f (L .corners) (L .differ);
+        thick = λ v l x. L .thick (v, l, x);
         past = record {
           cornerSlots = R .cornerRoom;
           linkSlots = R .linkRoom;

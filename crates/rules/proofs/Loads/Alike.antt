@@ -1,5 +1,5 @@
 -- What agrees on the numbers in use has the same tests, searches and fans.
-use mathlib.Core.Path.{_≡_, refl, ap, ap₂, _∙_}
+use mathlib.Core.Path.{_≡_, refl, sym, ap, ap₂, _∙_}
 use mathlib.Core.Bool.{Bool, true, false, not, _&&_}
 use mathlib.Core.List.{List, [], _∷_}
 use Prim.Native.Nat.{ℕ, zero, suc, _*_, _<_}
@@ -9,9 +9,10 @@ use lib.ListN.{length}
 use Rattle.rules.proofs.Numbers.Decide.{is-self, is-lt, is-and}
 use Rattle.rules.proofs.Links.Sides.{next-lt, previous-lt}
 use Rattle.rules.proofs.Numbers.Sums.{total-same}
-use Rattle.rules.specs.Below.{all, lowest, bit, count}
-use Rattle.rules.specs.Cage.{Cage, opposite, parallel, partner, cornersFit, sidesDiffer}
-use Rattle.rules.specs.Ring.{firstSide, fanFrom, fan}
+use Rattle.rules.specs.Below.{all, any, lowest, bit, count}
+use Rattle.rules.specs.Cage.{Cage, opposite, parallel, partner, cornersFit, sidesDiffer, turnsBack}
+use Rattle.rules.specs.Conditions.{InnerOfTwo}
+use Rattle.rules.specs.Ring.{triangleCount, firstSide, fanFrom, fan}
 use Rattle.rules.specs.Sound.{hasOneFan}
 use Rattle.rules.specs.Tables.{Topology, sides, next, previous, origin, link, rotate, boundary}
 
@@ -28,6 +29,10 @@ lowest-same zero p q e = refl
 lowest-same (suc n) p q e =
     ap₂ (λ (k : ℕ) (b : Bool). elim (ltb k n) [ true ↦ k | false ↦ elim b [ true ↦ n | false ↦ suc n ] ])
     (lowest-same n p q (λ h l. e h (omega arith))) (e n (omega arith))
+
+any-same : (n : ℕ) (p q : ℕ → Bool) → ((h : ℕ) → h < n → p h ≡ q h) → any n p ≡ any n q
+unfolding any
+any-same n p q e = ap (λ (k : ℕ). ltb k n) (lowest-same n p q e)
 
 -- ---- cages with the same corners
 
@@ -75,6 +80,10 @@ only-if : (b : Bool) (x y : List ℕ) → (T b → x ≡ y)
 only-if true x y e = e tt
 only-if false x y e = refl
 
+both-if : (b p q : Bool) → (T b → p ≡ q) → b && p ≡ b && q
+both-if true p q e = e tt
+both-if false p q e = refl
+
 -- The lowest side out of v on the boundary.
 abbrev onBoundary : Topology → ℕ → ℕ
 onBoundary m v = lowest (sides m) (λ k. eqb (origin m k) v && eqb (link m k) boundary)
@@ -118,11 +127,32 @@ module _ {m n : Topology} (S : SameSides m n) where
       (λ t. walk-same (m .triangles) s s (ltb→lt s (sides m) t))
       ∙ ap₂ (λ (s f : ℕ). elim (ltb s (3 * f)) [ true ↦ fanFrom f n s s | false ↦ [] ]) (first-same v) (S .triangles)
 
+  count-same : (v : ℕ) → triangleCount m v ≡ triangleCount n v
+  count-same v =
+      total-same (sides m) (λ h. bit (eqb (origin m h) v)) (λ h. bit (eqb (origin n h) v)) (λ h l. rw (S .corner h l))
+      ∙ ap (λ (f : ℕ). count (3 * f) (λ h. eqb (origin n h) v)) (S .triangles)
+
   pub one-fan-same : (v : ℕ) → hasOneFan m v ≡ hasOneFan n v
   unfolding hasOneFan
   one-fan-same v =
-      let a =
-      total-same (sides m) (λ h. bit (eqb (origin m h) v)) (λ h. bit (eqb (origin n h) v))
-      (λ h l. rw (S .corner h l)) in
-      ap₂ (λ (l : List ℕ) (k : ℕ). ltb 0 (length l) && eqb (length l) k) (fan-same v)
-      (a ∙ ap (λ (f : ℕ). count (3 * f) (λ h. eqb (origin n h) v)) (S .triangles))
+      ap₂ (λ (l : List ℕ) (k : ℕ). ltb 0 (length l) && eqb (length l) k) (fan-same v) (count-same v)
+
+  -- ---- vertices off the boundary that have two triangles
+
+  turns-back-same : (h : ℕ) → h < sides m → turnsBack m h ≡ turnsBack n h
+  turns-back-same h l =
+      let x : ℕ = rotate m h in
+      both-if (ltb x (sides m)) (eqb (rotate m x) h) (eqb (rotate n x) h)
+      (λ t. ap (λ (y : ℕ). eqb y h) (turn-same x (ltb→lt x (sides m) t)))
+      ∙ ap₂ (λ (x f : ℕ). ltb x (3 * f) && eqb (rotate n x) h) (turn-same h l) (S .triangles)
+
+  pub some-turns-back-same : any (sides m) (turnsBack m) ≡ any (sides n) (turnsBack n)
+  some-turns-back-same =
+      any-same (sides m) (turnsBack m) (turnsBack n) turns-back-same
+      ∙ ap (λ (f : ℕ). any (3 * f) (turnsBack n)) (S .triangles)
+
+  pub inner-of-two-same : (v : ℕ) → InnerOfTwo n v → InnerOfTwo m v
+  inner-of-two-same v (inner, two) = (
+    λ (h, l, o, b). inner (h, rw (S .triangles) at l, sym (S .corner h l) ∙ o, sym (S .link h l) ∙ b),
+    count-same v ∙ two,
+  )

@@ -182,16 +182,22 @@ load-sound rule bytes m A known S K R D fits =
     (λ i l. rw (L .positions i l) (R i l))
     known
 
+pub load-glued : (c : Cage) (m : Mesh) → TablesAgree m → c .vertices ≤ vertexSlots m → c .triangles ≤ triangleSlots m
+    → CornersFit c → SidesDiffer c → Glued (loaded c m .topology)
+unfolding loaded
+load-glued c m A v f K D = record {
+  few = omega (arith, A .fewTriangles);
+  distinct = load-distinct c m A v f K;
+  joined = load-joined c m A v f D;
+}
+
 -- The test of all vertices decides whether each has one fan.
 pub fans-fit-is : (c : Cage) (m : Mesh) → TablesAgree m → c .vertices ≤ vertexSlots m → c .triangles ≤ triangleSlots m
     → CornersFit c → SidesDiffer c → Decides (fansFit c m) (FansFit c m)
-unfolding fansFit loaded
+unfolding fansFit
 fans-fit-is c m A v f K D =
     let t : Topology = loaded c m .topology in
-    let G : Glued t =
-    record
-    { few = omega (arith, A .fewTriangles); distinct = load-distinct c m A v f K; joined = load-joined c m A v f D } in
-    is-all (c .vertices) (hasOneFan t) (OneFan t) (λ x l. one-fan-is t G x)
+    is-all (c .vertices) (hasOneFan t) (OneFan t) (λ x l. one-fan-is t (load-glued c m A v f K D) x)
 
 -- ---- what is left
 

@@ -8,7 +8,7 @@ use Rattle.rules.proofs.Loads.Alike.{all-same, SameCorners, corners-fit
 use Rattle.rules.proofs.Mirrors.MirrorTables.{length-mirror, getD-mirror, fill-mirror}
 use Rattle.rules.proofs.Mirrors.Opposites.{mirror-range}
 use Rattle.rules.proofs.Numbers.Fill.{fill-same}
-use Rattle.rules.specs.Cage.{cageOf, partner, loaded, sizesFit, coordinatesFit, fansFit}
+use Rattle.rules.specs.Cage.{cageOf, partner, loaded, sizesFit, coordinatesFit, fansFit, someInnerOfTwo}
 use Rattle.rules.specs.Calls.{loadRefusal, refineRefusal, wholeStepRefusal, limitRefusal, ringRefusal}
 use Rattle.rules.specs.Calls.{positionRefusal}
 use Rattle.rules.specs.Lists.{sparesRefusal}
@@ -86,9 +86,13 @@ module _ (k : ℕ) (m : Mesh) where
     unfolding fansFit
     fans-mirror = rw (loaded-mirror, C .vertices)
 
+    two-mirror : someInnerOfTwo (cageOf these) (mirror k m) ≡ someInnerOfTwo (cageOf those) m
+    unfolding someInnerOfTwo
+    two-mirror = rw (loaded-mirror, C .triangles)
+
     pub load-refused : (rule : ℕ) → loadRefusal rule these (mirror k m) ≡ loadRefusal rule those m
     unfolding loadRefusal
     load-refused rule =
         let corners = corners-fit-same same-corners in
         let sides = sides-differ-same same-corners in
-        rw (tables-mirror, sizes-mirror, corners, coordinates-mirror, sides, fans-mirror)
+        rw (tables-mirror, sizes-mirror, corners, coordinates-mirror, sides, fans-mirror, two-mirror)

@@ -75,12 +75,18 @@ is-then {a = false} d e = record { holds = λ x. absurd x; passes = λ p. d .pas
 pub is-and : {a b : Bool} {P Q : Type 0} → Decides a P → Decides b Q → Decides (a && b) (P × Q)
 is-and d e = is-then d (λ p. e)
 
+-- A second test that says what it should only where the first fails.
+pub is-else : {a b : Bool} {P Q : Type 0} → Decides a P → (¬ P → Decides b Q) → Decides (a || b) (P ⊎ Q)
+is-else {a = true} d e = record { holds = λ x. inl (d .holds tt); passes = λ p. tt }
+is-else {a = false} d e =
+    let f = e (d .passes) in
+    record {
+      holds = λ x. inr (f .holds x);
+      passes = λ p. elim p [ inl q ↦ absurd (d .passes q) | inr q ↦ f .passes q ];
+    }
+
 pub is-or : {a b : Bool} {P Q : Type 0} → Decides a P → Decides b Q → Decides (a || b) (P ⊎ Q)
-is-or {a = true} d e = record { holds = λ x. inl (d .holds tt); passes = λ p. tt }
-is-or {a = false} d e = record {
-  holds = λ x. inr (e .holds x);
-  passes = λ p. elim p [ inl q ↦ absurd (d .passes q) | inr q ↦ e .passes q ];
-}
+is-or d e = is-else d (λ n. e)
 
 -- ---- odd and even generations
 

@@ -13,8 +13,7 @@ use Rattle.rules.proofs.Rings.Fans.{first-in-use, fan-walked, fan-some}
 use Rattle.rules.proofs.Numbers.Pigeonhole.{no-more, each-reached, as-many}
 use Rattle.rules.proofs.Links.Renaming.{turns-trans}
 use Rattle.rules.proofs.Rings.Turning.{Glued, rotate-inner, before}
-use Rattle.rules.specs.Promises.{triangleCount}
-use Rattle.rules.specs.Ring.{firstSide, fanFrom, fan}
+use Rattle.rules.specs.Ring.{triangleCount, firstSide, fanFrom, fan}
 use Rattle.rules.specs.Sound.{OneFan, Turns, here, turn, hasOneFan}
 use Rattle.rules.specs.Tables.{Topology, sides, origin, boundary, link, rotate}
 

@@ -10,8 +10,7 @@ use Rattle.rules.proofs.Numbers.Pigeonhole.{counted-by-value}
 use Rattle.rules.proofs.Numbers.Sums.{total-same, total-tight}
 use Rattle.rules.proofs.Rings.Turning.{Glued}
 use Rattle.rules.specs.Below.{total}
-use Rattle.rules.specs.Promises.{triangleCount}
-use Rattle.rules.specs.Ring.{fanFrom}
+use Rattle.rules.specs.Ring.{triangleCount, fanFrom}
 use Rattle.rules.specs.Sound.{OneFan}
 use Rattle.rules.specs.Tables.{Topology, sides, origin}
 

@@ -23,8 +23,8 @@ use Rattle.rules.proofs.Numbers.Sums.{total-same, total-zero, total-swa
 use Rattle.rules.proofs.Rings.Turning.{Glued, manifold-glued}
 use Rattle.rules.specs.Below.{total, bit, count}
 use Rattle.rules.specs.Numbers.{InRange, maxCoordinate}
-use Rattle.rules.specs.Promises.{RingMakes, triangleCount}
-use Rattle.rules.specs.Ring.{firstSide, fan, ring}
+use Rattle.rules.specs.Promises.{RingMakes}
+use Rattle.rules.specs.Ring.{triangleCount, firstSide, fan, ring}
 use Rattle.rules.specs.Sound.{Sound}
 use Rattle.rules.specs.Step.{sumOver}
 use Rattle.rules.specs.Tables.{Topology, Mesh, sides, next, origin, target, link, boundary, coordinate}

@@ -14,8 +14,8 @@ use Rattle.rules.proofs.Rings.Fans.{Walked, Inside, Begins, Starts, sid
 use Rattle.rules.proofs.Soundness.Relaxed.{sound-manifold}
 use Rattle.rules.proofs.Rings.Turning.{Glued, manifold-glued, rotate-inner, before}
 use Rattle.rules.specs.Below.{bit}
-use Rattle.rules.specs.Promises.{RingMakes, OnBoundary, triangleCount}
-use Rattle.rules.specs.Ring.{firstSide, fan, neighbours, ring}
+use Rattle.rules.specs.Promises.{RingMakes}
+use Rattle.rules.specs.Ring.{OnBoundary, triangleCount, firstSide, fan, neighbours, ring}
 use Rattle.rules.specs.Sound.{OneFan, Sound}
 use Rattle.rules.specs.Tables.{Topology, Mesh, sides, previous, origin, target, boundary, link, rotate}
 

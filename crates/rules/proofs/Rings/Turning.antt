@@ -29,7 +29,10 @@ module _ (m : Topology) (G : Glued m) where
   pub rotate-origin : (h : ℕ) → h < sides m → rotate m h < sides m → origin m (rotate m h) ≡ origin m h
   rotate-origin h l i = crossed h l i .from ∙ ap (λ (k : ℕ). origin m k) (next-previous h)
 
-  rotate-back : (h : ℕ) → h < sides m → rotate m h < sides m → link m (rotate m h) ≡ previous h
+  pub rotate-target : (h : ℕ) → h < sides m → rotate m h < sides m → target m (rotate m h) ≡ origin m (previous h)
+  rotate-target h l i = crossed h l i .onto
+
+  pub rotate-back : (h : ℕ) → h < sides m → rotate m h < sides m → link m (rotate m h) ≡ previous h
   rotate-back h l i = crossed h l i .back
 
   -- Turning leads to no side on the boundary.

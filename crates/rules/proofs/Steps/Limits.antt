@@ -20,9 +20,8 @@ use Rattle.rules.proofs.Steps.StepPositions.{limit-coordinate-in-range}
 use Rattle.rules.specs.Below.{all, total}
 use Rattle.rules.specs.Conditions.{LongRing}
 use Rattle.rules.specs.Numbers.{weights, weight, limit}
-use Rattle.rules.specs.Promises.{RingMakes, OnBoundary, IsLimit, LimitMakes, cornersOver, moveNumerator}
-use Rattle.rules.specs.Promises.{limitNumerator}
-use Rattle.rules.specs.Ring.{fan, ring}
+use Rattle.rules.specs.Promises.{RingMakes, IsLimit, LimitMakes, cornersOver, moveNumerator, limitNumerator}
+use Rattle.rules.specs.Ring.{OnBoundary, fan, ring}
 use Rattle.rules.specs.Sound.{Sound}
 use Rattle.rules.specs.Step.{sumOver, limitCoordinate, limitPositions}
 use Rattle.rules.specs.Tables.{Topology, Mesh, sides, next, previous, origin, target, boundary, link, rotate}

@@ -1,14 +1,13 @@
 -- The refusals of a cage whose corners are decoded, by the tests of the code.
-use mathlib.Core.Path.{_≡_, refl, sym, ap, _∙_}
+use mathlib.Core.Path.{_≡_, refl, sym, ap, ap₂, _∙_}
 use mathlib.Core.Logic.{inl, inr}
-use mathlib.Core.Bool.{Bool, true, false}
+use mathlib.Core.Bool.{Bool, true, false, not, _&&_, _||_}
 use mathlib.Core.List.{List, []}
-use Prim.Native.Nat.{ℕ, _+_, _*_, _-_, _≤_, _<_}
+use Prim.Native.Nat.{ℕ, _+_, _*_, _≤_, _<_}
 use native.Mathlib.Omega.{arith}
 use lib.ListN.{length, getD}
 use Rattle.rules.proofs.Loads.Alike.{SameCorners, SameSides, all-same, corners-fit-same, sides-differ-same}
-use Rattle.rules.proofs.Loads.Alike.{partner-same}
-use Rattle.rules.proofs.Loads.Alike.{one-fan-same}
+use Rattle.rules.proofs.Loads.Alike.{partner-same, one-fan-same, some-turns-back-same}
 use Rattle.rules.proofs.Loads.CageTests.{sizes-fit-is, corners-fit-is, sides-differ-is}
 use Rattle.rules.proofs.Numbers.Decide.{Decides, is-true, is-false, is-same, when-true}
 use Rattle.rules.proofs.Numbers.Fill.{length-fill, getD-fill}
@@ -18,16 +17,17 @@ use Rattle.rules.specs.Promises.{Matches, only, alone}
 use Rattle.rules.proofs.Links.Manifold.{Joined, pair}
 use Rattle.rules.proofs.Soundness.SoundTest.{tables-agree-is, known-rule-is}
 use Rattle.rules.proofs.Rings.Turning.{Glued}
-use Rattle.rules.specs.Below.{all, fill}
+use Rattle.rules.specs.Below.{all, any, fill}
 use Rattle.rules.specs.Cage.{Cage, cageOf, partner, loaded, sizesFit, cornersFit, coordinatesFit, sidesDiffer, fansFit}
+use Rattle.rules.specs.Cage.{turnsBack, someInnerOfTwo}
 use Rattle.rules.specs.Conditions.{SizesFit, SidesDiffer}
 use Rattle.rules.specs.Numbers.{numberAt, signed, inRange, KnownRule, knownRule}
 use Rattle.rules.specs.Sound.{hasOneFan}
-use Rattle.rules.specs.Tables.{Mesh, TablesAgree, tablesAgree, topologyOf}
-use Rattle.soundness.specs.Walks.{AllBegun, TellsFans}
+use Rattle.rules.specs.Tables.{Topology, Mesh, TablesAgree, tablesAgree, topologyOf}
 use Rattle.cage.specs.Answers.{Refuses}
 use Rattle.cage.specs.Decoded.{decoded, Readable, Sized, Holds}
-use Rattle.cage.specs.Pairing.{Threads, Matched}
+use Rattle.cage.specs.Fans.{TellsFit}
+use Rattle.cage.specs.Pairing.{Matched}
 
 -- ---- matching links
 
@@ -59,23 +59,12 @@ module _ (v f : ℕ) (origins partners : List ℕ) (M : Matched (decoded v f ori
     joined = joined;
   }
 
--- The threads' heads are sides to walk from, before the boundary is looked at.
-pub threads-begin : {v f : ℕ} {origins partners heads nexts : List ℕ}
-    → Threads (decoded v f origins) (3 * f) heads nexts → AllBegun v origins partners (3 * f) 0 heads
-threads-begin {heads} T = record {
-  size = T .headRoom;
-  each = λ x l.
-      let L = T .head x l in
-      let p : ℕ = getD heads x 0 in
-      record {
-        none = λ e h i. L .none h (omega arith) i;
-        inUse = L .most;
-        out = λ k. L .from (p - 1) (omega arith);
-        best = λ k. inr (λ h i. absurd (omega arith));
-      };
-}
-
 -- ---- the tests
+
+not-both : (a b : Bool) → not a || b ≡ not (a && not b)
+not-both true true = refl
+not-both true false = refl
+not-both false b = refl
 
 -- Coordinate i of the bytes is in range.
 abbrev coordinateFits : List ℕ → ℕ → Bool
@@ -169,15 +158,16 @@ module _ {bytes : List ℕ} {v f : ℕ} {origins : List ℕ} (F : Fits bytes v f
               partner-is v f origins partners M h i ∙ partner-same (F .read .same) h i;
         }
 
-    -- The fans by the decoded lists are those of the tables that the cage is written to.
-    fans : {b : Bool} → TellsFans v f origins partners b → (m : Mesh) → TablesAgree m → SizesFit bytes m
-        → fansFit (cageOf bytes) m ≡ b
-    unfolding fansFit
-    fans t m A S =
+    -- Condition 6 by the decoded lists is that of the tables that the cage is written to.
+    six : {b : Bool} → TellsFit v f origins partners b → (m : Mesh) → TablesAgree m → SizesFit bytes m
+        → not (fansFit (cageOf bytes) m) || someInnerOfTwo (cageOf bytes) m ≡ not b
+    unfolding fansFit someInnerOfTwo
+    six t m A S =
         let c : Cage = cageOf bytes in
+        let n : Topology = topologyOf v f origins partners [] in
         let Z = F .read .sized in
         let L = loaded-loads c m A (S .vertexRoom) (S .triangleRoom) in
-        let E : SameSides (topologyOf v f origins partners []) (loaded c m .topology) =
+        let E : SameSides n (loaded c m .topology) =
         record {
           triangles = sym (Z .triangles) ∙ sym (L .triangles);
           corner = λ h l.
@@ -187,16 +177,20 @@ module _ {bytes : List ℕ} {v f : ℕ} {origins : List ℕ} (F : Fits bytes v f
               let i : h < 3 * c .triangles = omega (arith, Z .triangles) in
               holds .partner h i ∙ sym (L .links h i);
         } in
-        ap (λ (n : ℕ). all n (hasOneFan (loaded c m .topology))) (Z .vertices)
-        ∙ sym (t [] (matched-glued v f origins partners M (F .corners) (Z .fewTriangles))
-        ∙ all-same v _ _ (λ x l. one-fan-same E x))
+        ap₂ (λ (a b : Bool). not a || b)
+        (ap (λ (n : ℕ). all n (hasOneFan (loaded c m .topology))) (Z .vertices)
+        ∙ sym (all-same v _ _ (λ x l. one-fan-same E x)))
+        (ap (λ (n : ℕ). any (3 * n) (turnsBack (loaded c m .topology))) (sym (L .triangles))
+        ∙ sym (some-turns-back-same E))
+        ∙ not-both (all v (hasOneFan n)) (any (3 * f) (turnsBack n))
+        ∙ ap not (sym (t (matched-glued v f origins partners M (F .corners) (Z .fewTriangles))))
 
-    pub refuses-6 : TellsFans v f origins partners false → Refuses bytes 6
+    pub refuses-6 : TellsFit v f origins partners false → Refuses bytes 6
     refuses-6 t rule m K A S =
         load-by-tests rule bytes m (agrees A) (known K) (sizes S) corners coordinates
-        (differs (is-true (M .differ))) (fans t m A S)
+        (differs (is-true (M .differ))) (six t m A S)
 
-    pub refuses-none : TellsFans v f origins partners true → Refuses bytes 0
+    pub refuses-none : TellsFit v f origins partners true → Refuses bytes 0
     refuses-none t rule m K A S =
         load-by-tests rule bytes m (agrees A) (known K) (sizes S) corners coordinates
-        (differs (is-true (M .differ))) (fans t m A S)
+        (differs (is-true (M .differ))) (six t m A S)
