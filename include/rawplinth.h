@@ -14,7 +14,7 @@ extern "C" {
 
 /* Raised by every new call and every change of a signature, a struct or an answer; docs/changes/README.md has a line
    for each. */
-#define RAWPLINTH_VERSION 6
+#define RAWPLINTH_VERSION 7
 
 /* What a side without a partner links to. */
 #define RAWPLINTH_BOUNDARY UINT32_C(4294967295)
@@ -51,7 +51,7 @@ enum {
     RAWPLINTH_CORNERS = 3,         /* a corner that is no vertex, or twice in one triangle */
     RAWPLINTH_COORDINATES = 4,     /* a coordinate beyond 16777216 either way */
     RAWPLINTH_SIDE_TWICE = 5,      /* two triangles with the same directed side */
-    RAWPLINTH_FANS = 6,            /* a vertex whose triangles are none, or not one fan */
+    RAWPLINTH_FANS = 6,            /* a vertex with no triangle, several fans, or two triangles and no boundary */
     RAWPLINTH_NOT_SOUND = 7,       /* no mesh by the rules: a fresh store, damaged tables, a rule neither 1 nor 2 */
     RAWPLINTH_NOT_IN_USE = 8,      /* no such triangle or vertex in use */
     RAWPLINTH_GENERATION = 9,      /* generation 20, the last, or 19 with the base on the boundary */

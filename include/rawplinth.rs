@@ -3,7 +3,7 @@
 
 /// Raised with that of the header. A program may go without it.
 #[allow(dead_code)]
-pub const RAWPLINTH_VERSION: u32 = 6;
+pub const RAWPLINTH_VERSION: u32 = 7;
 
 /// The rules by which a mesh rounds halves: up, or away from zero.
 pub const RAWPLINTH_HALF_UP: u32 = 1;

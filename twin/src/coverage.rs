@@ -1,16 +1,17 @@
 //! What a run has met: each refusal of each call, each rule, each kind of linked pair, each chain length over an even
 //! triangle and over the boundary, each ring length of a whole step and of a limit query, halves in these, sides linked
-//! to themselves, and what becomes of the entries of lists.
+//! to themselves, what becomes of the entries of lists, and foils.
 
 use std::collections::{BTreeMap, BTreeSet};
 use std::fmt::{self, Display};
 
 use crate::claims::read_chain;
 use crate::fault::Seeded;
+use crate::load::linked_mesh;
 use crate::mesh::Mesh;
 use crate::refine::handle;
 use crate::smooth::{Fraction, fractions};
-use crate::sound::kind;
+use crate::sound::{has_one_fan_each, kind};
 use crate::tables::{Answer, BOUNDARY, Call, HALF_UP, Store};
 
 /// The calls, each with the refusals that it can give and 0 for none.
@@ -64,7 +65,18 @@ pub struct Coverage {
     entries: [u64; 7],
     /// Spare tables of another length, in the order of the tables.
     spare_sizes: [u64; 4],
+    /// Loads refused with 6, as `SIXES` lists what holds.
+    sixes: [u64; 4],
+    /// Calls carried out where two triangles are a fan, as `TWOS` lists them.
+    twos: [u64; 2],
 }
+
+/// What a load is refused with 6 for.
+const SIXES: [&str; 4] = ["vertex without triangles", "several fans", "foil alone", "foil beside others"];
+
+/// A refine of a triangle that lies back to back with another, as it does in a foil, and a load of a cage with a
+/// boundary vertex of two triangles.
+const TWOS: [&str; 2] = ["refines in a foil", "loads with one on the boundary"];
 
 /// The halves that are told apart.
 const HALVES: [&str; 4] = ["rule 1, below zero", "rule 1, above", "rule 2, below zero", "rule 2, above"];
@@ -118,6 +130,11 @@ fn note_halves(met: &mut [u64; 4], before: &Store, rounded: impl Fn([Fraction; 2
     }
 }
 
+/// The mesh of a cage that passes 2 to 5.
+fn mesh_in(store: &Store, rule: u32, cage: &[u8]) -> Option<Mesh> {
+    linked_mesh(cage, rule, store.tables.slots(), Seeded(None)).ok()
+}
+
 impl Coverage {
     /// Notes a call on the tables as they were before it, and its answer.
     pub fn note(&mut self, before: &Store, call: &Call, answer: &Answer) {
@@ -138,6 +155,8 @@ impl Coverage {
                 note_rings(&mut self.limit_rings, before);
                 note_halves(&mut self.limit_halves, before, |[_, limit]| limit);
             }
+            (Call::Load { rule, cage }, 6) => self.note_six(before, *rule, cage),
+            (Call::Load { rule, cage }, 0) => self.note_load(before, *rule, cage),
             (_, 7) => self.note_self_linked(before),
             (Call::RefineList { .. }, 17) => self.note_spare_sizes(before),
             (Call::RefineList { list }, 0 | 8 | 9 | 11) => self.note_list(before, list, answer),
@@ -153,6 +172,9 @@ impl Coverage {
             count(&mut self.rim_flips, answer.flips as usize);
         }
         chain.entered_by.iter().for_each(|&side| count(&mut self.entered, side));
+        let across = |side: usize| tables.links[3 * triangle + side] / 3;
+        let back_to_back = across(0) == across(1) && across(1) == across(2) && tables.links[3 * triangle] != BOUNDARY;
+        self.twos[0] += u64::from(back_to_back);
         let end = |side: usize| (tables.generations[side / 3], side % 3);
         for side in 3 * triangle..3 * triangle + 3 {
             let link = tables.links[side];
@@ -186,6 +208,26 @@ impl Coverage {
             _ => 5 + usize::from(made),
         };
         count(&mut self.entries, kind);
+    }
+
+    fn note_six(&mut self, before: &Store, rule: u32, cage: &[u8]) {
+        let Some(mesh) = mesh_in(before, rule, cage) else {
+            return;
+        };
+        let unused = mesh.leaving_sides().iter().any(Vec::is_empty);
+        let reason = match (unused, has_one_fan_each(&mesh), mesh.triangles.len()) {
+            (true, ..) => 0,
+            (false, false, _) => 1,
+            (false, true, 2) => 2,
+            (false, true, _) => 3,
+        };
+        count(&mut self.sixes, reason);
+    }
+
+    fn note_load(&mut self, before: &Store, rule: u32, cage: &[u8]) {
+        let mesh = mesh_in(before, rule, cage);
+        let two = mesh.is_some_and(|mesh| mesh.leaving_sides().iter().any(|leaving| leaving.len() == 2));
+        self.twos[1] += u64::from(two);
     }
 
     fn note_self_linked(&mut self, before: &Store) {
@@ -242,8 +284,10 @@ impl Coverage {
     }
 
     /// The counts of what has names, with their titles.
-    fn named(&self) -> [(&str, &[&str], &[u64]); 4] {
+    fn named(&self) -> [(&str, &[&str], &[u64]); 6] {
         [
+            ("loads refused with 6", &SIXES, &self.sixes),
+            ("fans of two triangles", &TWOS, &self.twos),
             ("halves in whole steps", &HALVES, &self.step_halves),
             ("halves in limit queries", &HALVES, &self.limit_halves),
             ("entries of lists", &ENTRIES, &self.entries),

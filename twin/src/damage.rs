@@ -8,14 +8,13 @@ use crate::rng::Rng;
 use crate::tables::{BOUNDARY, Call, Counts, FARTHEST, HALF_AWAY, HALF_UP, NO_RULES, Service, Store};
 use crate::twin::Twin;
 
-/// The store after a load by either rule and a list of refines, with some slots to spare that hold anything.
+/// The store with a cage in it, by either rule, after a list of refines, with some slots to spare that hold anything.
 pub fn refined(cage: &cages::Cage, requests: &[u32], spare: usize, rng: &mut Rng) -> Store {
     let most = requests.len() * 4 + spare;
     let mut store = Store::junk(cage.points.len() + most, cage.triangles.len() + 2 * most, rng);
-    let load = Call::Load { rule: calls::either_rule(rng), cage: cage.bytes() };
-    let refines = requests.iter().map(|&triangle| Call::Refine { triangle });
-    for call in std::iter::once(load).chain(refines) {
-        Twin::UNBROKEN.answer(&mut store, &call).expect("the twin stays inside");
+    assert!(handmade::store_cage(&mut store, calls::either_rule(rng), &cage.bytes()), "the cage has its fans");
+    for &triangle in requests {
+        Twin::UNBROKEN.answer(&mut store, &Call::Refine { triangle }).expect("the twin stays inside");
     }
     let (vertices, triangles) = (store.counts.vertices as usize, store.counts.triangles as usize);
     store.tables.positions.truncate(3 * (vertices + spare));

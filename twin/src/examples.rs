@@ -133,6 +133,18 @@ pub fn orders(rng: &mut Rng) -> Vec<Example> {
     vec![
         example(3, Store::junk(20, 40, rng), load(&last_corner_first_coordinate)),
         example(6, Store::junk(20, 40, rng), load(&cages::bow_tie())),
+        // A vertex off the boundary with two triangles, alone, after and before others, and where 5 comes first.
+        example(6, Store::junk(20, 40, rng), load(&cages::foil())),
+        example(6, Store::junk(20, 40, rng), load(&cages::tetrahedron().with(&cages::foil()))),
+        example(6, Store::junk(20, 40, rng), load(&cages::foil().with(&cages::strip(1)))),
+        example(5, Store::junk(20, 40, rng), load(&Cage::of(vec![[0, 1, 2], [0, 2, 1], [0, 1, 3]]))),
+        // On the boundary two triangles are allowed, and one alone is.
+        example(0, Store::junk(20, 40, rng), load(&cages::strip(2))),
+        example(0, Store::junk(20, 40, rng), load(&cages::strip(1))),
+        // Stored tables with such a vertex are sound.
+        example(0, refined(&cages::foil(), &[], 2, rng), refine(0)),
+        example(0, refined(&cages::foil(), &[], 2, rng), Call::WholeStep),
+        limit(0, refined(&cages::foil(), &[], 2, rng), 9),
         example(7, Store::fresh(20, 40), refine(u32::MAX)),
         example(7, counts_above_slots, refine(0)),
         ring(8, refined(&tetrahedron, &[], 0, rng), 4, 0),

@@ -90,6 +90,10 @@ faults! {
     FailedPreviewKeepsSpares: "preview leaves the spare tables alone where it fails",
     PreviewWrites: "preview writes the mesh",
     PreviewCountsTaken: "preview leaves the mesh with the counts that it foresees",
+    FoilLoaded: "load lets a foil pass",
+    FoilBesideLoaded: "load lets a foil beside other triangles pass",
+    BoundaryOfTwoRefused: "load refuses a boundary vertex of two triangles",
+    FoilUnsound: "stored tables with a foil are refused with 7",
 }
 
 impl Fault {

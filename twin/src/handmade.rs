@@ -6,8 +6,10 @@
 
 use crate::bench::{Bench, Outcome};
 use crate::calls;
+use crate::fault::Seeded;
+use crate::load::linked_mesh;
 use crate::rng::Rng;
-use crate::sound::kind;
+use crate::sound::{has_one_fan_each, kind};
 use crate::tables::{BOUNDARY, Call, Counts, FARTHEST, LAST_GENERATION, Store};
 
 pub struct Gluing {
@@ -123,6 +125,19 @@ pub fn foil(generation: u8) -> Gluing {
         assert!(gluing.glue(side, 5 - side), "even triangles can be glued");
     }
     gluing
+}
+
+/// Puts a cage into the tables by hand, with one fan at each vertex and be it a foil, which load turns away. Answers
+/// whether it has such fans.
+pub fn store_cage(store: &mut Store, rule: u32, cage: &[u8]) -> bool {
+    match linked_mesh(cage, rule, store.tables.slots(), Seeded(None)) {
+        Ok(mesh) if has_one_fan_each(&mesh) => {
+            mesh.write(&mut store.tables);
+            store.counts = mesh.counts();
+            true
+        }
+        _ => false,
+    }
 }
 
 /// Tables of any of these forms: a chain with more glued to it, a mixture of near generations, or one even

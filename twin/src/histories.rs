@@ -42,11 +42,21 @@ impl History {
         Ok(())
     }
 
+    /// The same; a cage that is turned away for a foil is then put into the tables by hand.
+    fn load_or_store(&mut self, bench: &mut Bench, cage: &Cage, rng: &mut Rng) -> Outcome {
+        let rule = calls::either_rule(rng);
+        self.load(bench, rule, cage.bytes())?;
+        if self.euler_number.is_none() && handmade::store_cage(&mut self.store, rule, &cage.bytes()) {
+            self.euler_number = Some(cage.euler_number());
+        }
+        Ok(())
+    }
+
     fn refine(&mut self, bench: &mut Bench, triangle: u32) -> Outcome<u32> {
         Ok(bench.compare(&mut self.store, &Call::Refine { triangle })?.refusal)
     }
 
-    /// The claims of demand 3, once a load was accepted: three on the tables, and the fourth, which every
+    /// The claims of demand 3, once a load was accepted or a cage stored: three on the tables, and the fourth, which every
     /// comparison of a refine tests, on some triangles.
     fn check(&self, bench: &mut Bench, rng: &mut Rng) -> Outcome {
         let Some(euler_number) = self.euler_number else {
@@ -69,7 +79,7 @@ impl History {
     }
 }
 
-/// Every shape, plain and shuffled: loaded, all rings and positions read, limits and the whole step tried, refined at
+/// Every shape, plain and shuffled: loaded or stored, all rings and positions read, limits and the whole step tried, refined at
 /// random.
 pub fn shapes(bench: &mut Bench, rng: &mut Rng) -> Outcome {
     for shape in cages::shapes() {
@@ -77,7 +87,7 @@ pub fn shapes(bench: &mut Bench, rng: &mut Rng) -> Outcome {
             let cage = if shuffle == 0 { shape.clone() } else { shape.shuffled(rng).scattered(rng) };
             let spare = rng.pick(&[0, 30, 200]);
             let mut history = History::begun(cage.points.len() + spare, cage.triangles.len() + 2 * spare, rng);
-            history.load(bench, calls::either_rule(rng), cage.bytes())?;
+            history.load_or_store(bench, &cage, rng)?;
             for vertex in 0..cage.points.len() as u32 {
                 read_vertex(bench, &mut history.store, vertex, rng)?;
             }
@@ -110,7 +120,7 @@ pub fn whole_steps(bench: &mut Bench, rng: &mut Rng) -> Outcome {
         let mut history = History::begun(vertices, triangles, rng);
         let closed = [cages::tetrahedron(), cages::foil(), cages::double_pyramid(3 + round % 11), cages::torus(3, 4)];
         let cage = closed[round as usize % 4].clone().shuffled(rng).scattered(rng);
-        history.load(bench, calls::either_rule(rng), cage.bytes())?;
+        history.load_or_store(bench, &cage, rng)?;
         for _ in 0..6 {
             calls::compare_limits(bench, &mut history.store, rng)?;
             bench.compare(&mut history.store, &Call::WholeStep)?;
@@ -127,7 +137,7 @@ pub fn deep(bench: &mut Bench, rounds: usize, rng: &mut Rng) -> Outcome {
         let spare = rng.pick(&[60, 250, 500]);
         let cage = random_cage(rng);
         let mut history = History::begun(cage.points.len() + spare, cage.triangles.len() + 2 * spare, rng);
-        history.load(bench, calls::either_rule(rng), cage.bytes())?;
+        history.load_or_store(bench, &cage, rng)?;
         if history.euler_number.is_none() {
             continue;
         }

@@ -4,12 +4,24 @@ use std::collections::HashMap;
 
 use crate::fault::{Fault, Seeded};
 use crate::mesh::{Mesh, Side, Triangle};
-use crate::sound::{coordinates_are_in_range, corners_fit, has_one_fan_each};
+use crate::sound::{coordinates_are_in_range, corners_fit, has_foil, has_one_fan_each};
 use crate::tables::refuse_unless;
 
 /// The mesh of a cage, with the rule it is loaded by: generation 0 everywhere, opposite sides linked. Each condition is
 /// tested over the whole cage before the next.
 pub fn mesh_of_cage(cage: &[u8], rule: u32, slots: [usize; 2], fault: Seeded) -> Result<Mesh, u32> {
+    let mesh = linked_mesh(cage, rule, slots, fault)?;
+    let all_used = mesh.leaving_sides().iter().all(|leaving| !leaving.is_empty());
+    if all_used || !fault.has(Fault::UnusedVertexLoaded) {
+        refuse_unless(has_one_fan_each(&mesh), 6)?;
+    }
+    let let_pass = fault.has(Fault::FoilLoaded) || fault.has(Fault::FoilBesideLoaded) && mesh.triangles.len() > 2;
+    refuse_unless(!has_foil(&mesh) || let_pass, 6)?;
+    Ok(mesh)
+}
+
+/// The same by the conditions 2 to 5 alone.
+pub fn linked_mesh(cage: &[u8], rule: u32, slots: [usize; 2], fault: Seeded) -> Result<Mesh, u32> {
     let (vertices, triangles) = sizes(cage, slots, fault)?;
     let mut mesh = unlinked_mesh(cage, rule, vertices, triangles, fault);
     if fault.has(Fault::CoordinatesBeforeCorners) {
@@ -18,10 +30,6 @@ pub fn mesh_of_cage(cage: &[u8], rule: u32, slots: [usize; 2], fault: Seeded) ->
     refuse_unless(corners_fit(&mesh), 3)?;
     refuse_unless(coordinates_are_in_range(&mesh), 4)?;
     link_opposite_sides(&mut mesh)?;
-    let all_used = mesh.leaving_sides().iter().all(|leaving| !leaving.is_empty());
-    if all_used || !fault.has(Fault::UnusedVertexLoaded) {
-        refuse_unless(has_one_fan_each(&mesh), 6)?;
-    }
     Ok(mesh)
 }
 

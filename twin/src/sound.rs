@@ -1,4 +1,4 @@
-//! Sound, as document 01 says it.
+//! Sound, as document 01 says it, and what load asks of fans beyond it.
 
 use crate::fault::Fault;
 use crate::mesh::{Mesh, Side};
@@ -55,6 +55,7 @@ pub fn is_sound(mesh: &Mesh) -> bool {
         && corners_fit(mesh)
         && sides(mesh).all(|side| link_is_sound(mesh, side))
         && has_one_fan_each(mesh)
+        && !(mesh.fault.has(Fault::FoilUnsound) && has_foil(mesh))
         && coordinates_are_in_range(mesh)
         && mesh.triangles.iter().all(|triangle| triangle.generation <= LAST_GENERATION)
         && sides(mesh).all(|side| pair_is_sound(mesh, side))
@@ -92,6 +93,17 @@ pub fn has_one_fan_each(mesh: &Mesh) -> bool {
     mesh.leaving_sides().iter().all(|leaving| {
         !leaving.is_empty() && (mesh.fan(leaving).len() == leaving.len() || mesh.fault.has(Fault::FanTestSkipped))
     })
+}
+
+/// Whether some vertex off the boundary has exactly two triangles: neither a side out of it nor one into it is at the
+/// boundary.
+pub fn has_foil(mesh: &Mesh) -> bool {
+    let inside = |side: &Side| {
+        let entering = Side::new(side.triangle, (side.number + 2) % 3);
+        mesh.across(*side).is_some() && mesh.across(entering).is_some()
+    };
+    let anywhere = mesh.fault.has(Fault::BoundaryOfTwoRefused);
+    mesh.leaving_sides().iter().any(|leaving| leaving.len() == 2 && (anywhere || leaving.iter().all(inside)))
 }
 
 /// Coordinates of vertices in use are allowed ones.

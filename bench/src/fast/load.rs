@@ -74,7 +74,7 @@ impl Threads {
         let mut links = vec![BOUNDARY; corners.len()];
         // For each target the side last seen to lead there, after one more than its origin.
         let mut seen = vec![(0, 0); self.heads.len()];
-        let mut one_fan_each = true;
+        let mut fans_fit = true;
         for v in 0..self.heads.len() {
             let stamp = v as u32 + 1;
             let mut degree = 0;
@@ -100,9 +100,11 @@ impl Threads {
                 }
             }
             let start = if ends == 0 { self.heads[v] } else { start };
-            one_fan_each &= degree > 0 && ends < 2 && walk_length(&links, start) == degree;
+            // A closed fan of two triangles is turned away.
+            let foil = degree == 2 && ends == 0;
+            fans_fit &= degree > 0 && ends < 2 && !foil && walk_length(&links, start) == degree;
         }
-        if one_fan_each { Ok(links) } else { Err(6) }
+        if fans_fit { Ok(links) } else { Err(6) }
     }
 }
 

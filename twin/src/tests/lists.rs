@@ -3,8 +3,9 @@
 use crate::cages;
 use crate::calls::fitting_spares;
 use crate::examples::{self, Example};
+use crate::handmade::store_cage;
 use crate::rng::Rng;
-use crate::tables::{Answer, Call, Counts, Store, Tables};
+use crate::tables::{Answer, Call, Counts, HALF_AWAY, Store, Tables};
 use crate::tests::{after_requests, loaded, run};
 
 /// Runs a list with spare tables of any content. Answers the content, too.
@@ -39,7 +40,7 @@ fn a_list_of_one_does_what_refine_does() {
     for cage in cages::shapes() {
         for triangle in 0..=cage.triangles.len() as u32 {
             let mut store = Store::junk(90, 150, &mut Rng::new(23));
-            run(&mut store, &Call::Load { rule: 2, cage: cage.bytes() });
+            assert!(store_cage(&mut store, HALF_AWAY, &cage.bytes()));
             let mut refined = store.clone();
             let expected = run(&mut refined, &Call::Refine { triangle });
             let (answer, _) = refine_list(&mut store, &[triangle]);

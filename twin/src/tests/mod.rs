@@ -28,7 +28,10 @@ fn loaded_by(rule: u32, cage: &Cage) -> Store {
 }
 
 fn after_requests(cage: &Cage, requests: &[u32]) -> Store {
-    let mut store = loaded(cage);
+    refined(loaded(cage), requests)
+}
+
+fn refined(mut store: Store, requests: &[u32]) -> Store {
     for &triangle in requests {
         run(&mut store, &Call::Refine { triangle });
     }

@@ -3,12 +3,24 @@
 use crate::cages::{self, Cage};
 use crate::examples::{self, Example};
 use crate::halves::{IN_LIMIT, IN_STEP};
+use crate::handmade::store_cage;
 use crate::malformed::RawCage;
 use crate::mirror;
 use crate::program::{Files, model};
 use crate::rng::Rng;
 use crate::tables::{Answer, BOUNDARY, Call, Counts, FARTHEST, HALF_AWAY, HALF_UP, Store};
-use crate::tests::{after_requests, loaded, loaded_by, run};
+use crate::tests::{after_requests, loaded, loaded_by, refined, run};
+
+/// A cage in the tables, be it one that load turns away.
+fn stored(cage: &Cage) -> Store {
+    stored_by(HALF_UP, cage)
+}
+
+fn stored_by(rule: u32, cage: &Cage) -> Store {
+    let mut store = Store::junk(60, 100, &mut Rng::new(5));
+    assert!(store_cage(&mut store, rule, &cage.bytes()));
+    store
+}
 
 /// The program's lines for a cage and its requests.
 fn lines(cage: &Cage, requests: &[u32]) -> String {
@@ -58,7 +70,7 @@ fn an_even_triangle_may_rise_by_two() {
     let octahedron = Cage::of([upper, lower].concat());
     assert_eq!(lines(&octahedron, &[0, 4]), "0 0 0 6 8\n0 1 0 7 10\n0 1 1 8 12\n");
     assert_eq!(slot(&after_requests(&octahedron, &[0, 4]), 4), ([2, 6, 7], 2));
-    assert_eq!(slot(&after_requests(&cages::foil(), &[0, 1]), 1).1, 2);
+    assert_eq!(slot(&refined(stored(&cages::foil()), &[0, 1]), 1).1, 2);
 }
 
 #[test]
@@ -113,12 +125,22 @@ fn rim_splits_place_the_nearest_thirds_in_order() {
 
 #[test]
 fn links_are_no_function_of_the_corners() {
-    let store = after_requests(&cages::foil(), &[0, 1]);
+    let store = refined(stored(&cages::foil()), &[0, 1]);
     let sides = (0..18).filter(|&side: &usize| {
         let ends = [side, side - side % 3 + (side + 1) % 3].map(|corner| store.tables.corners[corner]);
         ends == [3, 4]
     });
     assert_eq!((store.counts.triangles, sides.count()), (6, 3));
+}
+
+#[test]
+fn a_foil_is_turned_away_and_two_triangles_on_the_boundary_are_not() {
+    let foil = cages::foil();
+    assert_eq!(lines(&foil, &[0]), "6 0 0 0 0\n7 0 0 0 0\n");
+    assert_eq!(lines(&cages::tetrahedron().with(&foil), &[]), "6 0 0 0 0\n");
+    assert_eq!(lines(&foil.with(&cages::strip(1)), &[]), "6 0 0 0 0\n");
+    assert_eq!(lines(&cages::strip(2), &[]), "0 0 0 4 2\n");
+    assert_eq!(lines(&cages::strip(1), &[]), "0 0 0 3 1\n");
 }
 
 #[test]
@@ -173,12 +195,12 @@ fn halves_go_up_by_rule_1_and_away_from_zero_by_rule_2() {
     }
     for rule in [HALF_UP, HALF_AWAY] {
         for halfway in &IN_STEP {
-            let mut store = loaded_by(rule, &halfway.cage());
+            let mut store = stored_by(rule, &halfway.cage());
             run(&mut store, &Call::WholeStep);
             assert_eq!(point(&store, halfway.vertex()), halfway.expected(rule), "{} entries", halfway.entries);
         }
         for halfway in &IN_LIMIT {
-            let limits = limits(&mut loaded_by(rule, &halfway.cage()));
+            let limits = limits(&mut stored_by(rule, &halfway.cage()));
             assert_eq!(limits[halfway.vertex()], halfway.expected(rule), "{} entries", halfway.entries);
         }
     }
@@ -188,7 +210,7 @@ fn halves_go_up_by_rule_1_and_away_from_zero_by_rule_2() {
 fn rule_2_keeps_mirror_images_and_rule_1_does_not() {
     for rule in [HALF_UP, HALF_AWAY] {
         for (halfway, call) in [(&IN_STEP[1], Call::WholeStep), (&IN_LIMIT[1], Call::Limit)] {
-            let mut store = loaded_by(rule, &halfway.cage());
+            let mut store = stored_by(rule, &halfway.cage());
             store.room.table = vec![-5; 3 * store.vertices()];
             let mut image = mirror::of_store(&store, 1);
             run(&mut store, &call);
@@ -228,7 +250,7 @@ fn the_rule_stays_with_the_counts_until_a_load_is_carried_out() {
 fn weights_are_the_formula_to_the_nearest() {
     let mut foil = cages::foil();
     foil.points[0] = [65_536, 0, 0];
-    let mut store = loaded(&foil);
+    let mut store = stored(&foil);
     run(&mut store, &Call::WholeStep);
     assert_eq!(point(&store, 0)[0], 65_536 - 43_691);
     for sides in 3..=12_u32 {
@@ -276,7 +298,7 @@ fn whole_steps_lead_to_the_limits() {
         let mut cage = cage;
         cage.points.iter_mut().flatten().for_each(|coordinate| *coordinate = rng.between(-1_000_000, 1_000_000));
         let mut store = Store::junk(9_000, 18_000, rng);
-        run(&mut store, &Call::Load { rule: HALF_UP, cage: cage.bytes() });
+        assert!(store_cage(&mut store, HALF_UP, &cage.bytes()));
         let first = limits(&mut store);
         for _ in 0..6 {
             assert_eq!(run(&mut store, &Call::WholeStep).refusal, 0);
@@ -304,7 +326,7 @@ fn rings_start_and_end_where_the_papers_say() {
     assert_eq!(ring(&mut loaded(&cages::strip(1)), 0), [1, 2]);
     assert_eq!(ring(&mut loaded(&cages::tetrahedron()), 0), [1, 2, 3]);
     assert_eq!(ring(&mut loaded(&cages::tetrahedron()), 3), [1, 0, 2]);
-    assert_eq!(ring(&mut loaded(&cages::foil()), 1), [2, 0]);
+    assert_eq!(ring(&mut stored(&cages::foil()), 1), [2, 0]);
     assert_eq!(ring(&mut loaded(&cages::open_fan(3)), 0), [1, 2, 3, 4]);
     assert_eq!(ring(&mut loaded(&cages::open_fan(3)), 2), [3, 0, 1]);
 }
@@ -313,7 +335,7 @@ fn rings_start_and_end_where_the_papers_say() {
 fn whole_step_splits_every_triangle_and_flips_every_edge() {
     let rng = &mut Rng::new(4);
     for cage in [cages::torus(3, 3), cages::double_pyramid(7), cages::foil(), cages::tetrahedron()] {
-        let mut store = loaded(&cage.shuffled(rng).scattered(rng));
+        let mut store = stored(&cage.shuffled(rng).scattered(rng));
         let before = store.clone();
         let faces = before.counts.triangles;
         let answer = run(&mut store, &Call::WholeStep);
