@@ -32,8 +32,8 @@ enum {
 };
 
 /* How many vertices and triangles are in use, and the rule that the mesh was loaded by. In a fresh store none are in
-   use, and the rule may be any number. Every call takes the counts, and its answer has those for the next call; after a
-   preview they are the same as before. Counts that were saved before version 4 have no rule: their mesh goes on with
+   use, and the rule may be any number. Every call takes the counts, and every answer but preview's has those for the
+   next call; after a preview they are the same as before. Counts that were saved before version 4 have no rule: their mesh goes on with
    RAWPLINTH_HALF_UP. */
 typedef struct {
     uint32_t vertices;
@@ -84,8 +84,8 @@ typedef struct {
     rawplinth_counts spares; /* of the mesh in the spare tables; zeros where 1, 17 or 7 refuses */
 } rawplinth_batch_worked;
 
-/* The answer of preview: what refine_list would answer. It has no counts, as those of the mesh stand and go on to the
-   next call; what is foreseen must not be given to one. */
+/* The answer of preview: what refine_list would answer. It has no counts of the mesh: those stand and go on to the next
+   call. What is foreseen must not be given to one, and `spares` goes with the spare tables alone. */
 typedef struct {
     uint32_t refusal;
     uint32_t splits;

@@ -1,26 +1,24 @@
 -- The first refusal of a call, found test by test.
-use borrow.Author.Tests.{not-true, not-false, leb-false, le-leb, lt-leb, lt-ltb, le-ltb, eq-eqb, ne-eqb}
+use borrow.Author.Tests.{not-true, not-false, le-leb, lt-leb, lt-ltb, le-ltb}
 use mathlib.Core.Bool.{Bool, true, false, not}
 use mathlib.Core.List.{List, [], _∷_}
 use mathlib.Core.Logic.{_≢_}
 use mathlib.Core.Path.{_≡_, refl, sym, _∙_}
 use Prim.Native.Nat.{ℕ, _*_, _≤_, _<_}
-use native.Mathlib.Omega.{arith}
 use lib.Dec.{eqb, leb, ltb}
 use lib.IntN.{ℤ}
 use lib.ListN.{length}
 use Rattle.rules.proofs.Calls.CallRefusals.{position-refusal-first}
-use Rattle.rules.proofs.Numbers.Decide.{Decides, stable}
+use Rattle.rules.proofs.Numbers.Decide.{stable}
 use Rattle.rules.proofs.Calls.FirstThatHolds.{refuses, carries, none-hold}
-use Rattle.rules.proofs.Soundness.SoundTest.{tables-agree-is, sound-is}
-use Rattle.rules.specs.Calls.{Test, _if_, firstOf, noRoom, ringRoom}
-use Rattle.rules.specs.Calls.{refusedWith, roomFor, worked, refineRefusal, refineCall, closedEven, longRing}
+use Rattle.rules.proofs.Soundness.SoundTest.{tables-agree-is}
+use Rattle.rules.specs.Calls.{_if_, firstOf, noRoom, ringRoom}
+use Rattle.rules.specs.Calls.{refusedWith, roomFor, closedEven, longRing}
 use Rattle.rules.specs.Calls.{wholeStepRefusal, limitRefusal, ringRefusal, ringRead, ringCall, positionRefusal}
-use Rattle.rules.specs.Calls.{positionRead, positionCall, verticesOf, trianglesOf, tooOld}
+use Rattle.rules.specs.Calls.{positionRead, positionCall}
 use Rattle.rules.specs.Ring.{ring}
-use Rattle.rules.specs.Sound.{Sound, isSound}
-use Rattle.rules.specs.Split.{atFirst, refine}
-use Rattle.rules.specs.Tables.{Mesh, TablesAgree, tablesAgree, generation, Topology, boundary, link}
+use Rattle.rules.specs.Sound.{isSound}
+use Rattle.rules.specs.Tables.{Mesh, TablesAgree, tablesAgree, generation}
 use Rattle.refining.proofs.Refusing.{two-kept, two-passed}
 use Rattle.refining.specs.Standing.{standing}
 

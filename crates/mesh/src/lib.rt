@@ -1,4 +1,5 @@
-// The public calls. None asks anything of its caller: what cannot be done is refused, and then nothing lent is written.
+// The public calls. None asks anything of its caller: what cannot be done is refused, and then nothing lent is written,
+// but spare tables that a list was worked in.
 pub mod lists;
 
 use points::Point;

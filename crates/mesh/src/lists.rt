@@ -86,7 +86,8 @@ fn spares_refusal(
     0
 }
 
-// Refines the triangles of a list, in its order: all of them, or none of the mesh. The work is done in the spare tables.
+// Refines the triangles of a list, in its order: all of them, or none of the mesh. The work is done in the spare
+// tables.
 pub fn refine_list(
     positions: &mut [i32],
     corners: &mut [u32],

@@ -151,7 +151,8 @@ module _ (n : Counts) {p : List ℤ} {c l g : List ℕ} {s : Spares} (W : MayWor
 
 -- ---- what is foreseen
 
-module _ (list : List ℕ) {m : Mesh} {s : Spares} {n at k f : ℕ} {x : Mesh} (D : Done (refineEach list m) s n at k f x) where
+module _ (list : List ℕ) {m : Mesh} {s : Spares} {n at k f : ℕ} {x : Mesh}
+    (D : Done (refineEach list m) s n at k f x) where
   pub foreseen-failed : n ≢ 0
       → outcomeOf (sparesAnswer n 0 0 m at x) m (spareRoom (tablesOf x)) ≡ onlyRead m (listDone list m s)
   foreseen-failed z = ap (onlyRead m) (failed-is m D z)

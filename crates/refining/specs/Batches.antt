@@ -45,7 +45,8 @@ listDone list m s = allOrNothing (refineEach list m .refusal) (refineEach list m
 abbrev pub batchOutcome : BatchWorked → List ℤ → List ℕ → List ℕ → List ℕ → Spares → Outcome
 batchOutcome a positions corners links generations s =
     let m = meshNow (a .counts) positions corners links generations in
-    outcomeOf (sparesAnswer (a .refusal) (a .splits) (a .flips) m (a .handled) (meshNow (a .spares) [] [] [] [])) m (spareRoom s)
+    let n = meshNow (a .spares) [] [] [] [] in
+    outcomeOf (sparesAnswer (a .refusal) (a .splits) (a .flips) m (a .handled) n) m (spareRoom s)
 
 -- An outcome of which the mesh m is only read.
 abbrev pub onlyRead : Mesh → Outcome → Outcome

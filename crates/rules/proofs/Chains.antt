@@ -6,3 +6,4 @@ pub mod Raise
 pub mod Refine
 pub mod RefineLoop
 pub mod Kobbelt
+pub mod Going

@@ -31,8 +31,8 @@ unfolding all any lowest total fill cageOf partner loaded sizesFit cornersFit co
     halfUp rounded weights weight moved firstSide fanFrom fan neighbours ring isLinked soundSide hasOneFan isSound
     faceCut flip limit limitCoordinate limitPositions limitRefusal limitCall centre firstThird secondThird facePlaced
     rimCut rimPlaced settle faceSplit rimSplit chainEndWithin chainOddWithin raise refine sumOver movedCoordinate
-    moveVertices refineFirst wholeStep tablesAgree copied sameSizes entryRefusal entryWork handle handleAll sparesRefusal
-    listCall previewCall
+    moveVertices refineFirst wholeStep tablesAgree copied sameSizes entryRefusal entryWork handle handleAll
+    sparesRefusal listCall previewCall
 computing = tt
 
 -- The mesh after these changes, and the outcome of each.

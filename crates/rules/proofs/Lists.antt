@@ -1,7 +1,7 @@
 -- Triangles refined one after the other: what a list makes of a mesh, which entry fails, and with what.
-pub mod Going
 pub mod Entries
 pub mod ListCall
+pub mod OneEntry
 pub mod EveryList
 pub mod InSpares
 pub mod Preview

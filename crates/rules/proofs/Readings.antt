@@ -24,9 +24,9 @@ unfolding tetrahedron
 sideOne = loads 1 tetrahedron ∷ refines 0 ∷ refines 3 ∷ refines 7 ∷ refines 9 ∷ []
 
 -- The tetrahedron with a list of its triangles refined.
-unfoldable pub lassoed : List ℕ → List Change
+unfoldable pub listed : List ℕ → List Change
 unfolding tetrahedron sevens
-lassoed list = loads 1 tetrahedron ∷ refinesEach list (sevens 12 20) ∷ []
+listed list = loads 1 tetrahedron ∷ refinesEach list (sevens 12 20) ∷ []
 
 -- Of that list: how many entries succeeded, the vertices and triangles of the mesh in the spare tables, and there the
 -- generations in slots 0, 1, 5 and 6.
@@ -124,8 +124,8 @@ pub record Table : Type 0 where
   pub ownSlotFlipped : triangleOf (made octahedron store) 4 ≡ 1 ∷ 6 ∷ 7 ∷ 2 ∷ []
   -- Links are no function of the corners: the nine edges here join only seven pairs of vertices.
   pub foilEdges : edges (made (refines 0 ∷ refines 1 ∷ []) foil .topology) ≡ 9
-  -- Load turns such a cage away (Refusals.n6ByFoil), but stored it is sound, is refined, makes a whole step with rings of
-  -- two entries, and has its rings and limit positions. (Request g)
+  -- Load turns such a cage away (Refusals.n6ByFoil), but stored it is sound, is refined, makes a whole step with rings
+  -- of two entries, and has its rings and limit positions. (Request g)
   pub foilSound : isSound foil ≡ true
   pub foilRefined : map lineOf (madeEach (refines 0 ∷ refines 1 ∷ []) foil)
       ≡ (0 ∷ 1 ∷ 0 ∷ 4 ∷ 4 ∷ []) ∷ (0 ∷ 1 ∷ 3 ∷ 5 ∷ 6 ∷ []) ∷ []
@@ -189,9 +189,9 @@ pub record Table : Type 0 where
   pub halves : rounded 1 (pos 5) 2 ∷ rounded 1 (negsuc 4) 2 ∷ [] ≡ pos 3 ∷ negsuc 1 ∷ []
   pub halvesAway : rounded 2 (pos 5) 2 ∷ rounded 2 (negsuc 4) 2 ∷ [] ≡ pos 3 ∷ negsuc 2 ∷ []
   -- A triangle listed twice is refined once; two lists are not one. (Request e)
-  pub listedTwice : map lineOf (madeEach (lassoed (0 ∷ 0 ∷ [])) store)
+  pub listedTwice : map lineOf (madeEach (listed (0 ∷ 0 ∷ [])) store)
       ≡ (0 ∷ 0 ∷ 0 ∷ 4 ∷ 4 ∷ []) ∷ (0 ∷ 1 ∷ 0 ∷ 5 ∷ 6 ∷ []) ∷ []
-  pub twoLists : map lineOf (madeEach (lassoed (0 ∷ []) ++ (refinesEach (0 ∷ []) (sevens 12 20) ∷ [])) store)
+  pub twoLists : map lineOf (madeEach (listed (0 ∷ []) ++ (refinesEach (0 ∷ []) (sevens 12 20) ∷ [])) store)
       ≡ (0 ∷ 0 ∷ 0 ∷ 4 ∷ 4 ∷ []) ∷ (0 ∷ 1 ∷ 0 ∷ 5 ∷ 6 ∷ []) ∷ (0 ∷ 1 ∷ 1 ∷ 6 ∷ 8 ∷ []) ∷ []
   -- A triangle that another entry has raised is passed over: the refine of slot 0, which is odd, splits slot 1.
   pub raisedByOther :
@@ -199,20 +199,24 @@ pub record Table : Type 0 where
       map lineOf (drop 2 (madeEach calls store)) ≡ (0 ∷ 1 ∷ 1 ∷ 6 ∷ 8 ∷ []) ∷ []
   -- A slot that an earlier entry made was not in use at the start: the mesh stands, the spare tables hold the mesh
   -- after that entry, and the answer says how many entries succeeded, and the counts there.
-  pub madeByEarlier : map lineOf (madeEach (lassoed (0 ∷ 4 ∷ [])) store)
+  pub madeByEarlier : map lineOf (madeEach (listed (0 ∷ 4 ∷ [])) store)
       ≡ (0 ∷ 0 ∷ 0 ∷ 4 ∷ 4 ∷ []) ∷ (8 ∷ 0 ∷ 0 ∷ 4 ∷ 4 ∷ []) ∷ []
   pub heldInSpares : heldBy (0 ∷ 4 ∷ []) ≡ 1 ∷ 5 ∷ 6 ∷ 1 ∷ 0 ∷ 1 ∷ 7 ∷ []
   -- An empty list is carried out, with zeros, and copies the mesh.
-  pub emptyList : map lineOf (madeEach (lassoed []) store)
+  pub emptyList : map lineOf (madeEach (listed []) store)
       ≡ (0 ∷ 0 ∷ 0 ∷ 4 ∷ 4 ∷ []) ∷ (0 ∷ 0 ∷ 0 ∷ 4 ∷ 4 ∷ []) ∷ []
   pub heldByNone : heldBy [] ≡ 0 ∷ 4 ∷ 4 ∷ 0 ∷ 0 ∷ 7 ∷ 7 ∷ []
   -- A preview answers the list's V and F, and the mesh keeps its own. (Request f)
   pub foreseen : map lineOf (outcomes (map changes (loads 1 tetrahedron ∷ [])
       ++ (asks (previewOf (0 ∷ 1 ∷ []) (sevens 12 20)) ∷ changes (refines 0) ∷ [])) store)
       ≡ (0 ∷ 0 ∷ 0 ∷ 4 ∷ 4 ∷ []) ∷ (0 ∷ 2 ∷ 1 ∷ 6 ∷ 8 ∷ []) ∷ (0 ∷ 1 ∷ 0 ∷ 5 ∷ 6 ∷ []) ∷ []
+  pub foreseenRefused : map lineOf (outcomes (map changes (loads 1 tetrahedron ∷ [])
+      ++ (asks (previewOf (0 ∷ 4 ∷ []) (sevens 12 20)) ∷ changes (refinesEach (0 ∷ 4 ∷ []) (sevens 12 20)) ∷ [])) store)
+      ≡ (0 ∷ 0 ∷ 0 ∷ 4 ∷ 4 ∷ []) ∷ (8 ∷ 0 ∷ 0 ∷ 4 ∷ 4 ∷ []) ∷ (8 ∷ 0 ∷ 0 ∷ 4 ∷ 4 ∷ []) ∷ []
 
 pub readings : Table
-unfolding computing mirrorTable fresh sevens lassoed heldBy tetrahedron triangle store sideOne octahedron pulled spike longChain hinge
+unfolding computing mirrorTable fresh sevens listed heldBy tetrahedron triangle store sideOne octahedron pulled
+    spike longChain hinge
     withFirst signedBytes foil atEighteen
 readings = record {
   throughSideOne = refl;
@@ -265,4 +269,5 @@ readings = record {
   emptyList = refl;
   heldByNone = refl;
   foreseen = refl;
+  foreseenRefused = refl;
 }

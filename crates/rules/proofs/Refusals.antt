@@ -82,8 +82,8 @@ pub record Table : Type 0 where
   pub n4 : refusalAfter [] (changes (loads 1 tooFar)) small ≡ 4
   pub n5 : refusalAfter [] (changes (loads 1 (cageAtOrigin 4 2 (0 ∷ 1 ∷ 2 ∷ 0 ∷ 1 ∷ 3 ∷ [])))) small ≡ 5
   pub n6 : refusalAfter [] (changes (loads 1 (cageAtOrigin 4 1 (0 ∷ 1 ∷ 2 ∷ [])))) small ≡ 6
-  -- A foil leaf, alone and beside a good component. Vertices of two triangles on the boundary are allowed, and so is one
-  -- triangle alone. (Request g)
+  -- A foil leaf, alone and beside a good component. Vertices of two triangles on the boundary are allowed, and so is
+  -- one triangle alone. (Request g)
   pub n6ByFoil : refusalAfter [] (changes (loads 1 foilCage)) small ≡ 6
   pub n6ByLast : refusalAfter [] (changes (loads 1 foilLast)) (fresh 7 6) ≡ 6
   pub n6ByFirst : refusalAfter [] (changes (loads 1 foilFirst)) (fresh 7 6) ≡ 6

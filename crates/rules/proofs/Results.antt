@@ -8,17 +8,19 @@ use lib.IntN.{ℤ, pos, natAbs, _-ℤ_, _*ℤ_}
 use lib.ListN.{length}
 use Rattle.rules.proofs.Calls.CallRefusals.{load-refusal, refine-refusal, whole-step-refusal, ring-refusal}
 use Rattle.rules.proofs.Calls.CallRefusals.{position-refusal, limit-refusal, taken-at-boundary}
-use Rattle.rules.proofs.Calls.EveryCall.{refused-leaves, no-ten}
-use Rattle.rules.proofs.Calls.Histories.{every-history, history-sound, history-thick}
+use Rattle.rules.proofs.Calls.EveryCall.{refused-is, no-ten}
+use Rattle.rules.proofs.Calls.Histories.{every-history, history-sound, history-none-of-two}
 use Rattle.rules.proofs.Loads.InnerOfTwo.{some-inner-of-two-is, back-to-back}
 use Rattle.rules.proofs.Loads.Load.{links-are}
 use Rattle.rules.proofs.Calls.Outcomes.{load-makes, refine-makes, chain-falls, refine-is-split}
 use Rattle.rules.proofs.Calls.Outcomes.{whole-step-makes, limit-makes, ring-reads, position-reads}
 use Rattle.rules.proofs.Chains.Refine.{chain-counts, chain-takes}
 use Rattle.rules.proofs.Lists.Entries.{handled-then}
-use Rattle.rules.proofs.Lists.ListCall.{list-refusal, list-makes, list-stops, one-entry}
+use Rattle.rules.proofs.Lists.ListCall.{list-refusal, list-makes, list-stops}
+use Rattle.rules.proofs.Lists.OneEntry.{one-entry}
 use Rattle.rules.proofs.Lists.EveryList.{refused-first, empty-list, held-in-spares, one-failure, listed-twice}
-use Rattle.rules.proofs.Lists.Preview.{preview-refusal, preview-is, preview-same, preview-shows, preview-again}
+use Rattle.rules.proofs.Lists.Preview.{preview-refusal, preview-is, preview-same, preview-shows, list-after}
+use Rattle.rules.proofs.Lists.Preview.{preview-again}
 use Rattle.rules.proofs.Mirrors.MirrorCalls.{call-mirror, history-mirror}
 use Rattle.rules.proofs.Rings.RingTheory.{ring-makes}
 use Rattle.rules.proofs.Numbers.Rounding.{nearest-third, nearest-third-only, rounded-nearest, nearest-only}
@@ -30,7 +32,8 @@ use Rattle.rules.specs.Calls.{positionRead, positionCall, limitRead, lim
 use Rattle.rules.specs.Calls.{rimSplitsOf, verticesOf, trianglesOf, spareRoom, refusedWith}
 use Rattle.rules.specs.Conditions.{SidesDiffer, EndsAtBoundary, OddInChain, First, loadConditions}
 use Rattle.rules.specs.Conditions.{refineConditions, wholeStepConditions, limitConditions, ringConditions}
-use Rattle.rules.specs.Conditions.{positionConditions, listConditions, Takes, FailsAfter, SizesFit, CornersFit, FansFit}
+use Rattle.rules.specs.Conditions.{positionConditions, listConditions, Takes, FailsAfter}
+use Rattle.rules.specs.Conditions.{SizesFit, CornersFit, FansFit}
 use Rattle.rules.specs.Conditions.{InnerOfTwo, SomeInnerOfTwo}
 use Rattle.rules.specs.History.{Call, outcome, after, lastLoad, nothing, cage, EveryHistory}
 use Rattle.rules.specs.Lists.{Progress, begun, handleAll, refineEach, sparesRefusal, allOrNothing}
@@ -38,7 +41,7 @@ use Rattle.rules.specs.Lists.{listCall, previewCall}
 use Rattle.rules.specs.Mirror.{mirror, mirrorOutcome, Mirrors, Rounds, MirrorsEach}
 use Rattle.rules.specs.Numbers.{nearestThird, rounded}
 use Rattle.rules.specs.Promises.{Nearest, Matches, Loaded, ChainFalls, RefineMakes, added, StepMakes, LimitMakes}
-use Rattle.rules.specs.Promises.{RefusalLeaves, AgreeInUse, RingMakes, kobbelt, ListMakes, SameWork, BackToBack}
+use Rattle.rules.specs.Promises.{refusedAs, AgreeInUse, RingMakes, kobbelt, ListMakes, SameWork, BackToBack}
 use Rattle.rules.specs.Sound.{Sound, isSound}
 use Rattle.rules.specs.Spares.{Spares, copied, meshIn, SameSizes}
 use Rattle.rules.specs.Split.{Work, atFirst, chainOdd, refine}
@@ -107,10 +110,12 @@ list-returns = list-refusal
 pub never-ten : (c : Call) (m : Mesh) → outcome c m .answer .refusal ≢ 10
 never-ten = no-ten
 
--- A refused call answers its number with zeros and the counts as they stood, and leaves the mesh and its room; of spare
--- tables that it worked in, the slots in use of the last good mesh hold that, and the others keep their content.
-pub refusal-leaves : (c : Call) (m : Mesh) → outcome c m .answer .refusal ≢ 0 → RefusalLeaves c m (outcome c m)
-refusal-leaves = refused-leaves
+-- A refused call answers its number with zeros and the counts as they stood, and leaves the mesh and what it is lent;
+-- of spare tables that a list was worked in, the slots in use of the last good mesh hold that, the others keep their
+-- content, and the answer tells of them.
+pub refusal-leaves : (c : Call) (m : Mesh) → outcome c m .answer .refusal ≢ 0
+    → outcome c m ≡ refusedAs c (outcome c m .answer .refusal) m
+refusal-leaves = refused-is
 
 -- ---- load (Load)
 
@@ -120,8 +125,8 @@ pub load-carried : (rule : ℕ) (bytes : List ℕ) (m : Mesh) → loadCall rule 
     (loadCall rule bytes m ≡ worked (atFirst n)) × Loaded rule (cageOf bytes) m n
 load-carried = load-makes
 
--- The test on sides says yes exactly where some vertex off the boundary has exactly two triangles, in a cage that passes
--- 3 and 5 and whose fans fit. (Request g)
+-- The test on sides says yes exactly where some vertex off the boundary has exactly two triangles, in a cage that
+-- passes 3 and 5 and whose fans fit. (Request g)
 pub two-test : (c : Cage) (m : Mesh) → TablesAgree m → c .vertices ≤ vertexSlots m → c .triangles ≤ triangleSlots m
     → CornersFit c → SidesDiffer c → FansFit c m → T (someInnerOfTwo c m) ↔ SomeInnerOfTwo c m
 two-test c m A v f K D F =
@@ -259,6 +264,12 @@ pub preview-then-list : (list : List ℕ) {s t : Spares} {m : Mesh} → SameSize
     → AgreeInUse (previewCall list s m .room .spares) (listCall list t m .mesh))
 preview-then-list list a b = (preview-same list a b, preview-shows list a b)
 
+-- A preview before it changes nothing of what the list does in the same spare tables, carried out or refused, on every
+-- content.
+pub list-after-preview : (list : List ℕ) (spares : Spares) (m : Mesh)
+    → listCall list (previewCall list spares m .room .spares) m ≡ listCall list spares m
+list-after-preview = list-after
+
 -- A preview repeated, in what it left of the spare tables, gives the same outcome.
 pub preview-repeats : (list : List ℕ) (spares : Spares) (m : Mesh)
     → previewCall list (previewCall list spares m .room .spares) m ≡ previewCall list spares m
@@ -312,9 +323,9 @@ sound-after = history-sound
 
 -- The cage of an accepted load has no vertex off the boundary of exactly two triangles, whichever tables it is loaded
 -- into. (Request g)
-pub thick-after : (calls : List Call) (m : Mesh) (bytes : List ℕ) → lastLoad calls m nothing ≡ cage bytes
+pub none-of-two-after : (calls : List Call) (m : Mesh) (bytes : List ℕ) → lastLoad calls m nothing ≡ cage bytes
     → (n : Mesh) → TablesAgree n → SizesFit bytes n → ¬ SomeInnerOfTwo (cageOf bytes) n
-thick-after = history-thick
+none-of-two-after = history-none-of-two
 
 -- ---- mirror images (Request c)
 

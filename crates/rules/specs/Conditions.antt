@@ -40,8 +40,8 @@ SidesDiffer c =
     (h k : ℕ) → h < 3 * c .triangles → k < 3 * c .triangles
     → c .corner h ≡ c .corner k → c .corner (next h) ≡ c .corner (next k) → h ≡ k
 
--- Not 6: in the tables that the cage would be loaded as, the triangles of each vertex form one fan, and it has at least
--- one.
+-- Not the first part of 6: in the tables that the cage would be loaded as, the triangles of each vertex form one fan,
+-- and it has at least one.
 abbrev pub FansFit : Cage → Mesh → Type 0
 FansFit c m = (v : ℕ) → v < c .vertices → OneFan (loaded c m .topology) v
 
@@ -49,7 +49,7 @@ FansFit c m = (v : ℕ) → v < c .vertices → OneFan (loaded c m .topology) v
 abbrev pub InnerOfTwo : Topology → ℕ → Type 0
 InnerOfTwo m v = (¬ OnBoundary m v) × (triangleCount m v ≡ 2)
 
--- 6 as well: some vertex is such, in the same tables.
+-- The second part of 6: some vertex is such, in the same tables. (Request g)
 abbrev pub SomeInnerOfTwo : Cage → Mesh → Type 0
 SomeInnerOfTwo c m = (v : ℕ) × (v < c .vertices) × InnerOfTwo (loaded c m .topology) v
 

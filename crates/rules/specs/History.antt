@@ -8,7 +8,7 @@ use lib.Dec.{eqb, ltb}
 use lib.IntN.{ℤ, pos, _+ℤ_, _-ℤ_}
 use Rattle.rules.specs.Below.{any, count, total}
 use Rattle.rules.specs.Cage.{Cage, cageOf}
-use Rattle.rules.specs.Calls.{Room, noRoom, ringRoom, tableRoom, spareRoom, Outcome, loadCall}
+use Rattle.rules.specs.Calls.{Outcome, loadCall}
 use Rattle.rules.specs.Calls.{refineCall, wholeStepCall, ringCall, positionCall, limitCall}
 use Rattle.rules.specs.Conditions.{OddInChain, EndsAtBoundary}
 use Rattle.rules.specs.Lists.{listCall, previewCall}
@@ -23,8 +23,8 @@ pub data Change : Type 0 where
   steps : Change
   refinesEach : List ℕ → Spares → Change
 
--- A call that reads the mesh: a vertex and a ring buffer, a vertex, a table for limit positions, a list of triangles and
--- spare tables. A preview answers the counts that the list would leave; those of the mesh stand.
+-- A call that reads the mesh: a vertex and a ring buffer, a vertex, a table for limit positions, a list of triangles
+-- and spare tables. A preview answers the counts that the list would leave; those of the mesh stand.
 pub data Question : Type 0 where
   ringOf : ℕ → List ℕ → Question
   positionOf : ℕ → Question
@@ -52,17 +52,6 @@ asked (previewOf list spares) m = previewCall list spares m
 abbrev pub outcome : Call → Mesh → Outcome
 outcome (changes c) m = changed c m
 outcome (asks q) m = asked q m
-
--- What a call is lent beside the mesh.
-abbrev pub lent : Call → Room
-lent (changes (loads rule bytes)) = noRoom
-lent (changes (refines t)) = noRoom
-lent (changes steps) = noRoom
-lent (changes (refinesEach list spares)) = spareRoom spares
-lent (asks (ringOf v buffer)) = ringRoom buffer
-lent (asks (positionOf v)) = noRoom
-lent (asks (limitsOf table)) = tableRoom table
-lent (asks (previewOf list spares)) = spareRoom spares
 
 -- The mesh after a list of calls, each getting it as the one before left it.
 unfoldable pub after : List Call → Mesh → Mesh

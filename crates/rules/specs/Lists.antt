@@ -30,8 +30,8 @@ goesOn (suc n) w p = record { work = p .work; handled = p .handled; refusal = su
 abbrev pub risen : Mesh → ℕ → Mesh → Bool
 risen start t m = ltb (generation (start .topology) t) (generation (m .topology) t)
 
--- What entry t fails with at its turn, 0 for nothing: 8 if it was not in use at the call's start. If it has risen since,
--- it is passed over; else its refine may be refused.
+-- What entry t fails with at its turn, 0 for nothing: 8 if it was not in use at the call's start. If it has risen
+-- since, it is passed over; else its refine may be refused.
 unfoldable pub entryRefusal : Mesh → ℕ → Mesh → ℕ
 entryRefusal start t m = elim (leb (start .topology .triangles) t) [
   | true ↦ 8
@@ -98,7 +98,7 @@ listCall list spares m =
     let p = refineEach list m in
     unless (sparesRefusal spares m) m (spareRoom spares) (allOrNothing (p .refusal) p spares m)
 
--- The same foreseen: the answer is what the list would answer, V and F included, and the spare tables hold what it would
--- make, while the mesh is only read. (Request f)
+-- The same foreseen: the answer is what the list would answer, V and F included, and the spare tables are left as it
+-- would leave them, while the mesh is only read. (Request f)
 unfoldable pub previewCall : List ℕ → Spares → Mesh → Outcome
 previewCall list spares m = let o = listCall list spares m in outcomeOf (o .answer) m (o .room)

@@ -9,13 +9,13 @@ use lib.IntN.{ℤ, pos, natAbs, _+ℤ_, _-ℤ_, _*ℤ_}
 use lib.ListN.{length, getD, drop}
 use lib.Signed.{_≤ℤ_, _<ℤ_}
 use Rattle.rules.specs.Below.{total}
-use Rattle.rules.specs.Calls.{Room, Outcome, noRoom, ringRoom, tableRoom, spareRoom, zeroPoint, splitsOf, rimSplitsOf}
-use Rattle.rules.specs.Calls.{worked}
+use Rattle.rules.specs.Calls.{Outcome, outcomeOf, noRoom, ringRoom, tableRoom, spareRoom, refusedWith, worked}
+use Rattle.rules.specs.Calls.{splitsOf, rimSplitsOf}
 use Rattle.rules.specs.Cage.{Cage}
 use Rattle.rules.specs.Conditions.{InnerOfTwo, Risen, Handled}
 use Rattle.rules.specs.History.{Call, changes, asks, loads, refines, steps, refinesEach, ringOf, positionOf}
 use Rattle.rules.specs.History.{limitsOf, previewOf, ReportsSplits, edges, cageEdges}
-use Rattle.rules.specs.Lists.{refineEach, sparesRefusal}
+use Rattle.rules.specs.Lists.{refineEach, sparesRefusal, sparesAnswer}
 use Rattle.rules.specs.Numbers.{InRange, weight}
 use Rattle.rules.specs.Ring.{OnBoundary, triangleCount, firstSide, fan, ring}
 use Rattle.rules.specs.Sound.{Sound}
@@ -52,30 +52,28 @@ pub record SamePast (m n : Mesh) : Type 0 where
 
 -- ---- refusals (Refused inputs, below the table)
 
--- What a refused call leaves in its room: what it was lent. But spare tables that were worked in, where neither 1, 17
--- nor 7 refuses, hold the mesh after the last entry that succeeded, in the slots that this has in use. (Request e)
-abbrev pub sparesLeft : List ℕ → Spares → Mesh → Spares
-sparesLeft list spares m =
-    elim (sparesRefusal spares m) [ zero ↦ copied (refineEach list m .work .mesh) spares | suc n ↦ spares ]
+-- A list refused with n. Where 1, 17 or 7 refuses, all that is lent is left; where an entry fails, the spare tables
+-- hold what the entries before it made, and the answer tells of them. (Request e)
+abbrev pub refusedList : List ℕ → Spares → ℕ → Mesh → Outcome
+refusedList list spares n m = elim (sparesRefusal spares m) [
+  | zero ↦
+      let p = refineEach list m in
+      let made = p .work .mesh in
+      outcomeOf (sparesAnswer n 0 0 m (p .handled) made) m (spareRoom (copied made spares))
+  | suc k ↦ refusedWith n m (spareRoom spares)
+]
 
-abbrev pub left : Call → Mesh → Room
-left (changes (loads rule bytes)) m = noRoom
-left (changes (refines t)) m = noRoom
-left (changes steps) m = noRoom
-left (changes (refinesEach list spares)) m = spareRoom (sparesLeft list spares m)
-left (asks (ringOf v buffer)) m = ringRoom buffer
-left (asks (positionOf v)) m = noRoom
-left (asks (limitsOf table)) m = tableRoom table
-left (asks (previewOf list spares)) m = spareRoom (sparesLeft list spares m)
-
--- A refused call answers zeros and the counts as they stand, and leaves the mesh. (Refused inputs, below the table)
-pub record RefusalLeaves (c : Call) (m : Mesh) (o : Outcome) : Type 0 where
-  pub zeros : (o .answer .splits ≡ 0) × (o .answer .flips ≡ 0) × (o .answer .ringLength ≡ 0)
-      × (o .answer .point ≡ zeroPoint)
-  pub counts : (o .answer .vertices ≡ m .topology .vertices) × (o .answer .triangles ≡ m .topology .triangles)
-      × (o .answer .rule ≡ m .rule)
-  pub mesh : o .mesh ≡ m
-  pub room : o .room ≡ left c m
+-- A call refused with n: it answers zeros and the counts as they stand, and leaves the mesh and what it is lent, but
+-- spare tables that a list was worked in.
+abbrev pub refusedAs : Call → ℕ → Mesh → Outcome
+refusedAs (changes (loads rule bytes)) n m = refusedWith n m noRoom
+refusedAs (changes (refines t)) n m = refusedWith n m noRoom
+refusedAs (changes steps) n m = refusedWith n m noRoom
+refusedAs (changes (refinesEach list spares)) n m = refusedList list spares n m
+refusedAs (asks (ringOf v buffer)) n m = refusedWith n m (ringRoom buffer)
+refusedAs (asks (positionOf v)) n m = refusedWith n m noRoom
+refusedAs (asks (limitsOf table)) n m = refusedWith n m (tableRoom table)
+refusedAs (asks (previewOf list spares)) n m = refusedList list spares n m
 
 -- ---- load (Load)
 
@@ -102,7 +100,7 @@ pub record Loaded (r : ℕ) (c : Cage) (m n : Mesh) : Type 0 where
   pub links : (h : ℕ) → h < sides (n .topology) → Matches c h (link (n .topology) h)
   pub edges : edges (n .topology) ≡ cageEdges c
   -- No vertex off the boundary has exactly two triangles. (Request g)
-  pub thick : (v : ℕ) → v < n .topology .vertices → ¬ InnerOfTwo (n .topology) v
+  pub noneOfTwo : (v : ℕ) → v < n .topology .vertices → ¬ InnerOfTwo (n .topology) v
   pub past : SamePast m n
 
 -- Triangles t and u have v for a corner and lie back to back: each side of the one is linked to a side of the other, so

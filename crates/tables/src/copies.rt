@@ -60,7 +60,8 @@ pub fn copy_mesh(
     spare_generations: &mut [u8],
 )
     requires { ⌜ HasSlots counts (now positions) (now corners) (now links) (now generations) ⌝ }
-    requires { ⌜ HasSlots counts (now «spare_positions») (now «spare_corners») (now «spare_links») (now «spare_generations») ⌝ }
+    requires { ⌜ HasSlots counts (now «spare_positions») (now «spare_corners») (now «spare_links»)
+        (now «spare_generations») ⌝ }
     ensures { λ _. ⌜
         sparesNow (now («spare_positions» .exit)) (now («spare_corners» .exit)) (now («spare_links» .exit))
         (now («spare_generations» .exit))

@@ -5,7 +5,8 @@ use Rattle.rules.specs.Calls.{worked, refineRefusal}
 use Rattle.rules.specs.Tables.{Mesh}
 use Rattle.tables.specs.Lent.{meshNow}
 use Rattle.split.specs.Made.{BaseChain}
-use Rattle.refining.proofs.Refusing.{triangleRefusal, refine-triangle, refine-chain, refine-young, refine-refused}
+use Rattle.refining.proofs.Refusing.{triangleRefusal, refine-triangle, refine-chain}
+use Rattle.refining.proofs.Refusing.{refine-young, refine-refused}
 use Rattle.refining.proofs.Refusing.{refine-carried}
 use borrow.Author.Needs.{needs}
 use Rattle.refining.proofs.refine.Statement.{statement}

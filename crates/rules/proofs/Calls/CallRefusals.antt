@@ -12,15 +12,15 @@ use Rattle.rules.proofs.Loads.CageTests.{sizes-fit-is, corners-fit-is, 
 use Rattle.rules.proofs.Numbers.Decide.{Decides, is-eq, is-lt, is-le, is-not, is-iff, stable, is-and, even-is}
 use Rattle.rules.proofs.Numbers.Decide.{is-all}
 use Rattle.rules.proofs.Numbers.Decide.{is-any, is-or}
-use Rattle.rules.proofs.Calls.FirstThatHolds.{Judged, carried, refused, first-if, first-unless, judged}
-use Rattle.rules.proofs.Calls.FirstThatHolds.{judged-refusal, judged-refused, first-not}
+use Rattle.rules.proofs.Calls.FirstThatHolds.{Judged, first-if, first-unless, judged}
+use Rattle.rules.proofs.Calls.FirstThatHolds.{judged-refusal}
 use Rattle.rules.proofs.Loads.InnerOfTwo.{six-is}
 use Rattle.rules.proofs.Chains.Refine.{chain-takes}
 use Rattle.rules.proofs.Soundness.SoundTest.{tables-agree-is, sound-is, known-rule-is}
 use Rattle.rules.specs.Below.{any}
 use Rattle.rules.specs.Cage.{Cage, cageOf, loaded}
-use Rattle.rules.specs.Calls.{Room, noRoom, ringRoom, tableRoom, limitRefusal, limitRead, limitCall, Outcome}
-use Rattle.rules.specs.Calls.{refusedWith, worked, roomFor, closedEven, loadRefusal}
+use Rattle.rules.specs.Calls.{noRoom, ringRoom, tableRoom, limitRefusal, limitRead, limitCall}
+use Rattle.rules.specs.Calls.{worked, roomFor, closedEven, loadRefusal}
 use Rattle.rules.specs.Calls.{refineRefusal, wholeStepRefusal, ringRefusal, positionRefusal, loadCall, refineCall}
 use Rattle.rules.specs.Calls.{wholeStepCall, ringRead, ringCall, positionRead, positionCall, verticesOf}
 use Rattle.rules.specs.Calls.{trianglesOf, tooOld}
@@ -28,8 +28,6 @@ use Rattle.rules.specs.Conditions.{OddInChain, atEven, atBoundary, onwar
 use Rattle.rules.specs.Conditions.{ClosedEven, First, none, LongRing, loadConditions, refineConditions}
 use Rattle.rules.specs.Conditions.{wholeStepConditions, limitConditions, ringConditions, positionConditions}
 use Rattle.rules.specs.Conditions.{Takes, evenEnd, boundaryEnd, TooOld, EndsAtBoundary}
-use Rattle.rules.specs.History.{loads, refines, steps, Question, ringOf, positionOf, limitsOf, asked, Call}
-use Rattle.rules.specs.History.{changes, asks, outcome, lent}
 use Rattle.rules.specs.Ring.{ring}
 use Rattle.rules.specs.Sound.{Sound}
 use Rattle.rules.specs.Split.{atFirst, refine}

@@ -36,7 +36,7 @@ pub record LoadFound (rule : ℕ) (bytes : List ℕ) (m : Mesh) : Type 0 where
   pub coordinates : CoordinatesFit (cageOf bytes)
   pub differ : SidesDiffer (cageOf bytes)
   pub fans : FansFit (cageOf bytes) m
-  pub thick : ¬ SomeInnerOfTwo (cageOf bytes) m
+  pub noneOfTwo : ¬ SomeInnerOfTwo (cageOf bytes) m
 
 pub load-found : (rule : ℕ) (bytes : List ℕ) (m : Mesh) → loadRefusal rule bytes m ≡ 0 → LoadFound rule bytes m
 load-found rule bytes m z =
@@ -54,7 +54,7 @@ load-found rule bytes m z =
       coordinates = stable (coordinates-fit-is c) r;
       differ = D;
       fans = stable (fans-fit-is c m A (S .vertexRoom) (S .triangleRoom) K D) (λ n. f (inl n));
-      thick = λ x. f (inr x);
+      noneOfTwo = λ x. f (inr x);
     }
 
 -- ---- refine

@@ -1,38 +1,29 @@
 -- What holds of every call, refused or carried out.
-use mathlib.Core.Path.{_≡_, refl, subst, sym}
+use mathlib.Core.Path.{_≡_, refl}
 use mathlib.Core.Logic.{_≢_}
 use Prim.Native.Nat.{ℕ}
 use Rattle.rules.proofs.Calls.CallRefusals.{load-judged, refine-judged, whole-step-judged, ring-judged}
 use Rattle.rules.proofs.Calls.CallRefusals.{position-judged, limit-judged, load-refusal, refine-refusal}
 use Rattle.rules.proofs.Calls.CallRefusals.{whole-step-refusal, ring-refusal, position-refusal, limit-refusal}
 use Rattle.rules.proofs.Calls.FirstThatHolds.{Judged, carried, refused, judged-refused, first-not}
-use Rattle.rules.proofs.Lists.ListCall.{list-refusal, list-leaves}
-use Rattle.rules.proofs.Lists.Preview.{preview-refusal, preview-leaves, preview-stands}
-use Rattle.rules.specs.Calls.{Room, Outcome, refusedWith}
+use Rattle.rules.proofs.Lists.ListCall.{list-refusal, list-refused-is}
+use Rattle.rules.proofs.Lists.Preview.{preview-refusal, preview-refused-is, preview-stands}
+use Rattle.rules.specs.Calls.{Room, Outcome}
 use Rattle.rules.specs.History.{loads, refines, steps, refinesEach, Question, ringOf, positionOf, limitsOf}
 use Rattle.rules.specs.History.{previewOf, asked, Call, changes, asks, outcome}
-use Rattle.rules.specs.Promises.{left, RefusalLeaves}
+use Rattle.rules.specs.Promises.{refusedAs}
 use Rattle.rules.specs.Tables.{Mesh}
 
--- A refused call that works in no spare tables leaves what it is lent.
-leaves-of : (c : Call) {m : Mesh} {n : ℕ} {o : Outcome} → o ≡ refusedWith n m (left c m) → RefusalLeaves c m o
-leaves-of c {m} {n} e =
-    subst (RefusalLeaves c m) (sym e) (record {
-      zeros = (refl, refl, refl, refl);
-      counts = (refl, refl, refl);
-      mesh = refl;
-      room = refl;
-    })
-
-pub refused-leaves : (c : Call) (m : Mesh) → outcome c m .answer .refusal ≢ 0 → RefusalLeaves c m (outcome c m)
-refused-leaves (changes (loads rule bytes)) m n = leaves-of _ (judged-refused refl (load-judged rule bytes m) n)
-refused-leaves (changes (refines t)) m n = leaves-of _ (judged-refused refl (refine-judged t m) n)
-refused-leaves (changes steps) m n = leaves-of _ (judged-refused refl (whole-step-judged m) n)
-refused-leaves (changes (refinesEach list spares)) m n = list-leaves list spares m n
-refused-leaves (asks (ringOf v buffer)) m n = leaves-of _ (judged-refused refl (ring-judged v buffer m) n)
-refused-leaves (asks (positionOf v)) m n = leaves-of _ (judged-refused refl (position-judged v m) n)
-refused-leaves (asks (limitsOf table)) m n = leaves-of _ (judged-refused refl (limit-judged table m) n)
-refused-leaves (asks (previewOf list spares)) m n = preview-leaves list spares m n
+pub refused-is : (c : Call) (m : Mesh) → outcome c m .answer .refusal ≢ 0
+    → outcome c m ≡ refusedAs c (outcome c m .answer .refusal) m
+refused-is (changes (loads rule bytes)) m = judged-refused refl (load-judged rule bytes m)
+refused-is (changes (refines t)) m = judged-refused refl (refine-judged t m)
+refused-is (changes steps) m = judged-refused refl (whole-step-judged m)
+refused-is (changes (refinesEach list spares)) m = list-refused-is list spares m
+refused-is (asks (ringOf v buffer)) m = judged-refused refl (ring-judged v buffer m)
+refused-is (asks (positionOf v)) m = judged-refused refl (position-judged v m)
+refused-is (asks (limitsOf table)) m = judged-refused refl (limit-judged table m)
+refused-is (asks (previewOf list spares)) m = preview-refused-is list spares m
 
 -- A question leaves the mesh.
 judged-stands : {n : ℕ} {m : Mesh} {room : Room} {success o : Outcome} → success .mesh ≡ m

@@ -6,23 +6,21 @@ use mathlib.Core.List.{List, [], _∷_}
 use Prim.Native.Nat.{ℕ, _+_, _*_, _/_, _%_, _≤_, min, _-_, max}
 use native.Mathlib.Omega.{arith}
 use lib.Dec.{eqb}
-use lib.IntN.{pos, _+ℤ_, _-ℤ_}
 use borrow.Author.Tests.{ne-eqb}
 use Rattle.rules.proofs.Splits.Bases.{reached}
 use Rattle.rules.proofs.Loads.CageEdges.{load-characteristic}
 use Rattle.rules.proofs.Calls.CallRefusals.{load-judged, refine-judged, whole-step-judged}
 use Rattle.rules.proofs.Calls.EveryCall.{question-stands}
-use Rattle.rules.proofs.Lists.Going.{Going, going-begins, going-on, same-characteristic}
+use Rattle.rules.proofs.Chains.Going.{Going, going-begins, going-on, same-characteristic}
 use Rattle.rules.proofs.Lists.ListCall.{list-keeps}
 use Rattle.rules.proofs.Calls.Carried.{LoadFound, RefineFound, load-found, refine-found, found-refined}
 use Rattle.rules.proofs.Calls.Carried.{step-found}
 use Rattle.rules.proofs.Calls.Carried.{found-step}
-use Rattle.rules.proofs.Numbers.Differences.{nat, add, sub, equal}
 use Rattle.rules.proofs.Calls.FirstThatHolds.{Judged, carried, refused, judged-carried}
 use Rattle.rules.proofs.Loads.InnerOfTwo.{same-two}
 use Rattle.rules.proofs.Loads.Load.{load-sound}
 use Rattle.rules.proofs.Links.Manifold.{partnered}
-use Rattle.rules.proofs.Chains.Refine.{Refined, chain-bound, chain-takes}
+use Rattle.rules.proofs.Chains.Refine.{chain-bound, chain-takes}
 use Rattle.rules.proofs.Soundness.Relaxed.{sound-manifold}
 use Rattle.rules.proofs.Splits.Parts.{mutual-links}
 use Rattle.rules.specs.Cage.{cageOf, loaded}
@@ -39,14 +37,15 @@ use Rattle.rules.specs.Split.{Work, atFirst, refine}
 use Rattle.rules.specs.Tables.{Topology, Mesh, TablesAgree, withRule, link, generation}
 
 -- In no tables has the cage a vertex off the boundary of exactly two triangles.
-abbrev Thick : List ℕ → Type 0
-Thick bytes = (n : Mesh) → TablesAgree n → SizesFit bytes n → ¬ SomeInnerOfTwo (cageOf bytes) n
+abbrev NoneOfTwo : List ℕ → Type 0
+NoneOfTwo bytes = (n : Mesh) → TablesAgree n → SizesFit bytes n → ¬ SomeInnerOfTwo (cageOf bytes) n
 
--- What is kept from an accepted load on: the tables are sound, the characteristic is the cage's, and the cage is thick.
+-- What is kept from an accepted load on: the tables are sound, the characteristic is the cage's, and no vertex of the
+-- cage off the boundary has exactly two triangles.
 pub record Good (bytes : List ℕ) (m : Mesh) : Type 0 where
   pub sound : Sound m
   pub euler : characteristic (m .topology) ≡ cageCharacteristic (cageOf bytes)
-  pub thick : Thick bytes
+  pub noneOfTwo : NoneOfTwo bytes
 
 abbrev pub Holds : LastLoad → Mesh → Type 0
 Holds nothing m = Unit {0}
@@ -78,7 +77,7 @@ step-stays {m = m} {w = w} P =
 
 holds-on : {m n : Mesh} (o : LastLoad) → Stays m n → Holds o m → Holds o n
 holds-on nothing S h = tt
-holds-on (cage bytes) S h = record { sound = S .sound; euler = S .euler ∙ h .euler; thick = h .thick }
+holds-on (cage bytes) S h = record { sound = S .sound; euler = S .euler ∙ h .euler; noneOfTwo = h .noneOfTwo }
 
 -- A call that is refused leaves the mesh, and one that is carried out makes one that stays.
 judged-keeps : {n : ℕ} {m : Mesh} {room : Room} {success o : Outcome} (a : LastLoad) → Judged n m room success o
@@ -95,8 +94,8 @@ loaded-good rule bytes m L = record {
   euler =
       load-characteristic (cageOf bytes) m (L .agree) (L .sizes .vertexRoom) (L .sizes .triangleRoom) (L .corners)
       (L .differ);
-  thick = λ n A S x.
-      L .thick (same-two (cageOf bytes) m n (L .agree) A (L .sizes .vertexRoom) (L .sizes .triangleRoom)
+  noneOfTwo = λ n A S x.
+      L .noneOfTwo (same-two (cageOf bytes) m n (L .agree) A (L .sizes .vertexRoom) (L .sizes .triangleRoom)
       (S .vertexRoom) (S .triangleRoom) x);
 }
 
@@ -204,8 +203,8 @@ module _ (calls : List Call) (m : Mesh) (bytes : List ℕ) (e : lastLoad calls m
   pub history-sound : Sound (after calls m)
   history-sound = good-after .sound
 
-  pub history-thick : (n : Mesh) → TablesAgree n → SizesFit bytes n → ¬ SomeInnerOfTwo (cageOf bytes) n
-  history-thick = good-after .thick
+  pub history-none-of-two : (n : Mesh) → TablesAgree n → SizesFit bytes n → ¬ SomeInnerOfTwo (cageOf bytes) n
+  history-none-of-two = good-after .noneOfTwo
 
 pub every-history : EveryHistory
 every-history calls m bytes e = good-kept bytes (after calls m) (good-after calls m bytes e)

@@ -17,7 +17,7 @@ use Rattle.rules.proofs.Soundness.SoundTest.{sound-is}
 use Rattle.rules.proofs.Steps.Limits.{limits-made}
 use Rattle.rules.proofs.Calls.Histories.{found-refines}
 use Rattle.rules.proofs.Chains.Kobbelt.{refine-is-kobbelt}
-use Rattle.rules.proofs.Lists.Going.{going-begins, going-on, same-past}
+use Rattle.rules.proofs.Chains.Going.{going-begins, going-on, same-past}
 use Rattle.rules.proofs.Loads.Load.{loaded-loads, links-are, load-sound, loaded-past, loaded-positions-past}
 use Rattle.rules.proofs.Soundness.Relaxed.{sound-manifold, sound-bases}
 use Rattle.rules.specs.Cage.{Cage, cageOf, loaded}
@@ -55,7 +55,7 @@ load-makes rule bytes m z =
         generations = R .generations;
         links = links-are c m A v f (L .differ);
         edges = load-edges c m A v f (L .corners) (L .differ);
-        thick = λ v l x. L .thick (v, l, x);
+        noneOfTwo = λ v l x. L .noneOfTwo (v, l, x);
         past = record {
           cornerSlots = R .cornerRoom;
           linkSlots = R .linkRoom;

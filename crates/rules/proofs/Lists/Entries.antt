@@ -5,18 +5,20 @@ use mathlib.Core.Bool.{Bool, true, false}
 use mathlib.Core.List.{List, [], _∷_, _++_}
 use Prim.Native.Nat.{ℕ, zero, suc, _+_, _≤_, _<_}
 use native.Mathlib.Omega.{arith}
-use lib.Dec.{eqb, leb, ltb}
+use lib.Dec.{leb}
 use lib.ListN.{length, getD}
 use Rattle.rules.proofs.Calls.CallRefusals.{unused-is, refine-refusal-first}
 use Rattle.rules.proofs.Calls.Carried.{RefineFound, refine-found}
-use Rattle.rules.proofs.Lists.Going.{Going, going-begins, going-on, refine-rises}
+use Rattle.rules.proofs.Chains.Going.{Going, going-begins, going-on, refine-rises}
 use Rattle.rules.proofs.Numbers.Decide.{Decides, is-lt, stable}
 use Rattle.rules.proofs.Splits.Bases.{reached}
 use Rattle.rules.proofs.Splits.Settled.{still-all, still-on}
 use Rattle.rules.specs.Conditions.{TooOld, TooFewSlots, Risen, EntryFails, notInUse, old, crowded, Handled}
-use Rattle.rules.specs.Conditions.{FailsAfter, allDone, passedOver, refined, First, this, later, none, refineConditions}
+use Rattle.rules.specs.Conditions.{FailsAfter, allDone, passedOver, refined, First}
+use Rattle.rules.specs.Conditions.{this, later, none, refineConditions}
 use Rattle.rules.specs.Calls.{refineRefusal}
-use Rattle.rules.specs.Lists.{Progress, begun, goesOn, risen, entryRefusal, entryWork, handleUnless, handle, handleAll, refineEach}
+use Rattle.rules.specs.Lists.{Progress, begun, goesOn, risen, entryRefusal}
+use Rattle.rules.specs.Lists.{entryWork, handleUnless, handle, handleAll, refineEach}
 use Rattle.rules.specs.Promises.{Still}
 use Rattle.rules.specs.Sound.{Sound}
 use Rattle.rules.specs.Split.{Work, refine}
@@ -166,7 +168,9 @@ fold m (t ∷ rest) p z G =
         record {
           going = I .going;
           still = I .still;
-          ends = ends-after (λ _ _ H. passedOver l r H) (omega (arith, I .still .mono t (omega (arith, G .still .grows)))) (I .ends);
+          ends =
+              ends-after (λ _ _ H. passedOver l r H)
+              (omega (arith, I .still .mono t (omega (arith, G .still .grows)))) (I .ends);
         }
     go f (refines l r n F) =
         let I = f (refine t (p .work)) (going-on G F) in
@@ -176,7 +180,8 @@ fold m (t ∷ rest) p z G =
           going = I .going;
           still = s;
           ends = ends-after (λ _ _ H. refined l r (F .young) n H)
-              (omega (arith, G .still .mono t l, R .0, I .still .mono t (omega (arith, F .inUse, R .1 .grows)))) (I .ends);
+              (omega (arith, G .still .mono t l, R .0, I .still .mono t (omega (arith, F .inUse, R .1 .grows))))
+              (I .ends);
         }
 
 -- Entries that are handled were in use at the start.

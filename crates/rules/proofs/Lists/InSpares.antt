@@ -2,7 +2,7 @@
 use mathlib.Core.Path.{_≡_, refl, sym, ap, ap₂, _∙_}
 use mathlib.Core.Logic.{_≢_}
 use mathlib.Core.Bool.{Bool, true, false}
-use mathlib.Core.List.{List, [], _∷_}
+use mathlib.Core.List.{List}
 use Prim.Native.Nat.{ℕ, zero, suc, _+_, _≤_, _<_}
 use native.Mathlib.Nat.{add-zero}
 use native.Mathlib.Numerals.{add-one}
@@ -11,16 +11,15 @@ use borrow.Author.Tests.{leb-false}
 use lib.Dec.{leb, ltb}
 use lib.ListN.{length, getD, drop}
 use lib.Seq.{drop-cons, drop-length}
-use Rattle.rules.proofs.Calls.Carried.{refine-found}
 use Rattle.rules.proofs.Lists.Entries.{stopped, Turn, fails, passes, refines, entry-turn}
-use Rattle.rules.proofs.Lists.Going.{Going, going-begins, going-on, same-past}
+use Rattle.rules.proofs.Chains.Going.{Going, going-begins, going-on, same-past}
 use Rattle.rules.proofs.Lists.ListCall.{folded}
 use Rattle.rules.proofs.Spares.Adds.{refine-adds}
 use Rattle.rules.proofs.Spares.CopiedBack.{tablesOf, copied-back, copied-again}
 use Rattle.rules.proofs.Spares.OverSpares.{over, over-sound, over-refusal, over-refine, generation-same}
 use Rattle.rules.proofs.Splits.Bases.{reached}
 use Rattle.rules.specs.Calls.{Outcome, outcomeOf, worked, noRoom, spareRoom, unless, refineRefusal}
-use Rattle.rules.specs.Lists.{Progress, begun, goesOn, risen, entryRefusal, entryWork, handleUnless, handle}
+use Rattle.rules.specs.Lists.{Progress, goesOn, risen, entryRefusal, entryWork, handle}
 use Rattle.rules.specs.Lists.{handleAll, refineEach, sparesAnswer, allOrNothing}
 use Rattle.rules.specs.Promises.{added}
 use Rattle.rules.specs.Sound.{Sound}
@@ -57,7 +56,10 @@ module _ (start : Mesh) (t : ℕ) where
       where
         go : (c : Bool) → leb (start .topology .triangles) t ≡ c
             → _≡_ {A = ℕ}
-            (elim c [ true ↦ 8 | false ↦ elim (risen start t (over s m)) [ true ↦ 0 | false ↦ refineRefusal t (over s m) ] ])
+            (elim c [
+              | true ↦ 8
+              | false ↦ elim (risen start t (over s m)) [ true ↦ 0 | false ↦ refineRefusal t (over s m) ]
+            ])
             (elim c [ true ↦ 8 | false ↦ elim (risen start t m) [ true ↦ 0 | false ↦ refineRefusal t m ] ])
         go true e = refl
         go false e =
@@ -79,7 +81,8 @@ module _ (start : Mesh) (t : ℕ) where
         same a false e z = rw e (over-refine L t (z refl))
 
         go : (c : Bool) → leb (start .topology .triangles) t ≡ c
-            → _≡_ {A = ℕ} (elim c [ true ↦ 8 | false ↦ elim (risen start t m) [ true ↦ 0 | false ↦ refineRefusal t m ] ]) 0
+            → _≡_ {A = ℕ}
+            (elim c [ true ↦ 8 | false ↦ elim (risen start t m) [ true ↦ 0 | false ↦ refineRefusal t m ] ]) 0
             → let u : Work = elim (risen start t m) [ true ↦ atFirst m | false ↦ refine t (atFirst m) ] in
             _≡_ {A = Work}
             (elim (risen start t (over s m)) [ true ↦ atFirst (over s m) | false ↦ refine t (atFirst (over s m)) ])
@@ -171,45 +174,46 @@ module _ {m : Mesh} {s : Spares} {list : List ℕ} {at k f : ℕ} {x : Mesh} (D 
   doing-ends e = done-is (sym (D .result) ∙ rw (e, drop-length list) refl)
 
   module _ (l : at < length list) where
-    abbrev w : Work
-    w = D .work
+    abbrev so-made : Work
+    so-made = D .work
 
-    abbrev t : ℕ
-    t = getD list at 0
+    abbrev entry : ℕ
+    entry = getD list at 0
 
     result-on :
-        handleAll m (drop (suc at) list) (goesOn (entryRefusal m t (w .mesh)) (entryWork m t w) so-far)
+        handleAll m (drop (suc at) list)
+        (goesOn (entryRefusal m entry (so-made .mesh)) (entryWork m entry so-made) so-far)
         ≡ refineEach list m
     unfolding handleAll handle
     result-on = ap (λ (l : List ℕ). handleAll m l so-far) (sym (drop-cons list at 0 l)) ∙ D .result
 
-    outcome-is : {o : Outcome} → o ≡ entryOutcome m t x → {n : ℕ} → entryRefusal m t (w .mesh) ≡ n →
-        let u = entryWork m t (atFirst (w .mesh)) in
-        o ≡ unless n (over s (w .mesh)) noRoom (worked (withMesh (over s (u .mesh)) u))
+    outcome-is : {o : Outcome} → o ≡ entryOutcome m entry x → {n : ℕ} → entryRefusal m entry (so-made .mesh) ≡ n →
+        let u = entryWork m entry (atFirst (so-made .mesh)) in
+        o ≡ unless n (over s (so-made .mesh)) noRoom (worked (withMesh (over s (u .mesh)) u))
     outcome-is e {n} q =
-        e ∙ ap (entryOutcome m t) (D .tables)
-        ∙ outcome-over m t sizes-on (D .going .sound) (D .going .still .grows) n q
+        e ∙ ap (entryOutcome m entry) (D .tables)
+        ∙ outcome-over m entry sizes-on (D .going .sound) (D .going .still .grows) n q
 
-    going-next : entryRefusal m t (w .mesh) ≡ 0 → Going m (entryWork m t w)
-    going-next z = go (entry-turn m t w (D .going .sound) (D .going .still .grows)) z
+    going-next : entryRefusal m entry (so-made .mesh) ≡ 0 → Going m (entryWork m entry so-made)
+    going-next z = go (entry-turn m entry so-made (D .going .sound) (D .going .still .grows)) z
       where
-        go : {n : ℕ} {y : Work} → Turn m t w n y → n ≡ 0 → Going m y
+        go : {n : ℕ} {y : Work} → Turn m entry so-made n y → n ≡ 0 → Going m y
         go (fails F n) z = absurd (n z)
         go (passes l r) z = D .going
         go (refines l r f F) z = going-on (D .going) F
 
-    pub doing-on : {o : Outcome} → o ≡ entryOutcome m t x → o .answer .refusal ≡ 0
+    pub doing-on : {o : Outcome} → o ≡ entryOutcome m entry x → o .answer .refusal ≡ 0
         → Doing m s list (at + 1) (k + o .answer .splits) (f + o .answer .flips) (o .mesh)
-    doing-on {o} e z = go (entryRefusal m t (w .mesh)) refl
+    doing-on {o} e z = go (entryRefusal m entry (so-made .mesh)) refl
       where
-        go : (n : ℕ) → entryRefusal m t (w .mesh) ≡ n
+        go : (n : ℕ) → entryRefusal m entry (so-made .mesh) ≡ n
             → Doing m s list (at + 1) (k + o .answer .splits) (f + o .answer .flips) (o .mesh)
         go zero q =
-            let u = entryWork m t (atFirst (w .mesh)) in
-            let a = entry-adds m t w in
+            let u = entryWork m entry (atFirst (so-made .mesh)) in
+            let a = entry-adds m entry so-made in
             rw (outcome-is e q) (record {
               sizes = D .sizes;
-              work = entryWork m t w;
+              work = entryWork m entry so-made;
               going = going-next q;
               splits = rw a (ap (λ (j : ℕ). j + u .splits) (D .splits));
               flips = rw a (ap (λ (j : ℕ). j + u .flips) (D .flips));
@@ -220,11 +224,12 @@ module _ {m : Mesh} {s : Spares} {list : List ℕ} {at k f : ℕ} {x : Mesh} (D 
             let r : o .answer .refusal ≡ suc n = ap (λ (o : Outcome). o .answer .refusal) (outcome-is e q) in
             absurd (omega arith)
 
-    pub doing-stops : {o : Outcome} → o ≡ entryOutcome m t x → o .answer .refusal ≢ 0
+    pub doing-stops : {o : Outcome} → o ≡ entryOutcome m entry x → o .answer .refusal ≢ 0
         → Done (refineEach list m) s (o .answer .refusal) at k f (o .mesh)
-    doing-stops {o} e n = go (entryRefusal m t (w .mesh)) refl
+    doing-stops {o} e n = go (entryRefusal m entry (so-made .mesh)) refl
       where
-        go : (n : ℕ) → entryRefusal m t (w .mesh) ≡ n → Done (refineEach list m) s (o .answer .refusal) at k f (o .mesh)
+        go : (n : ℕ) → entryRefusal m entry (so-made .mesh) ≡ n
+            → Done (refineEach list m) s (o .answer .refusal) at k f (o .mesh)
         go zero q = absurd (n (ap (λ (o : Outcome). o .answer .refusal) (outcome-is e q)))
         go (suc j) q =
             rw (outcome-is e q, ← D .tables)

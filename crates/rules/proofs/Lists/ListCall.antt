@@ -1,33 +1,28 @@
 -- The call that refines a list: which number it returns, and what it leaves.
 use mathlib.Core.Path.{_≡_, refl, sym, ap, _∙_, subst}
 use mathlib.Core.Logic.{_≢_}
-use mathlib.Core.Bool.{Bool, true, false, not}
 use mathlib.Core.List.{List, [], _∷_}
 use Prim.Native.Nat.{ℕ, zero, suc, _<_}
 use native.Mathlib.Decide.{ℕ-discrete}
 use native.Mathlib.Omega.{arith}
-use lib.Dec.{leb}
 use lib.ListN.{length, getD}
-use borrow.Author.Tests.{le-ltb}
 use Rattle.rules.proofs.Calls.FirstThatHolds.{Judged, carried, refused, judged, first-unless, none-hold}
 use Rattle.rules.proofs.Calls.FirstThatHolds.{first-before}
 use Rattle.rules.proofs.Lists.Entries.{Ends, whole, short, Fold, fold, fails-computed, entry-turn, turn-passes}
 use Rattle.rules.proofs.Lists.Entries.{handled-used}
-use Rattle.rules.proofs.Lists.Going.{Going, going-begins, same-past}
+use Rattle.rules.proofs.Chains.Going.{Going, going-begins, same-past}
 use Rattle.rules.proofs.Numbers.Decide.{Decides, is-eq, is-iff, is-and, is-true, is-same, stable}
 use Rattle.rules.proofs.Soundness.SoundTest.{tables-agree-is, sound-is}
-use Rattle.rules.specs.Calls.{Outcome, noRoom, spareRoom, zeroPoint, worked, firstOf, _if_, unless, refineCall}
-use Rattle.rules.specs.Calls.{refineRefusal, tooOld, roomFor, verticesOf, trianglesOf}
-use Rattle.rules.specs.Conditions.{EntryFails, notInUse, old, crowded, Handled, FailsAfter, FailsWith}
+use Rattle.rules.specs.Calls.{Outcome, outcomeOf, spareRoom, refusedWith, _if_, unless}
+use Rattle.rules.specs.Conditions.{EntryFails, notInUse, old, crowded, FailsAfter, FailsWith}
 use Rattle.rules.specs.Conditions.{Condition, _when_, First, this, later, none, entryConditions, listConditions}
-use Rattle.rules.specs.Lists.{Progress, begun, goesOn, risen, entryRefusal, entryWork, handle, handleAll, refineEach, sparesRefusal}
-use Rattle.rules.specs.Lists.{allOrNothing, listCall}
-use Rattle.rules.specs.History.{changes, refinesEach}
-use Rattle.rules.specs.Promises.{RefusalLeaves, ListMakes, SameWork}
-use Rattle.rules.specs.Sound.{Sound, isSound}
+use Rattle.rules.specs.Lists.{Progress, begun, goesOn, risen}
+use Rattle.rules.specs.Lists.{handle, refineEach, sparesRefusal}
+use Rattle.rules.specs.Lists.{allOrNothing, sparesAnswer, listCall}
+use Rattle.rules.specs.Promises.{refusedList, ListMakes}
+use Rattle.rules.specs.Sound.{Sound}
 use Rattle.rules.specs.Spares.{Spares, copied, SameSizes, sameSizes}
-use Rattle.rules.specs.Split.{atFirst, refine}
-use Rattle.rules.specs.Tables.{Mesh, TablesAgree, tablesAgree, generation}
+use Rattle.rules.specs.Tables.{Mesh, TablesAgree, generation}
 
 pub same-sizes-is : (s : Spares) (m : Mesh) → Decides (sameSizes s m) (SameSizes s m)
 unfolding sameSizes
@@ -208,119 +203,34 @@ module _ (list : List ℕ) (spares : Spares) (m : Mesh) where
       go (carried e) n = (refl, stops S (λ q. n (done-refusal (progress .refusal) ∙ q)))
 
   -- Refused, it leaves the mesh, and spare tables that it worked in as the last entry that succeeded left them.
-  pub list-leaves : listCall list spares m .answer .refusal ≢ 0
-      → RefusalLeaves (changes (refinesEach list spares)) m (listCall list spares m)
+  pub list-refused-is : listCall list spares m .answer .refusal ≢ 0
+      → listCall list spares m ≡ refusedList list spares (listCall list spares m .answer .refusal) m
   unfolding listCall
-  list-leaves x =
-      let r = go (sparesRefusal spares m) (progress .refusal) x in
-      record { zeros = r .0; counts = r .1; mesh = r .2; room = r .3 }
+  list-refused-is = go (sparesRefusal spares m) (progress .refusal)
     where
       go : (n k : ℕ) →
           let o = unless n m (spareRoom spares) (allOrNothing k progress spares m) in
-          o .answer .refusal ≢ 0
-          → ((o .answer .splits ≡ 0) × (o .answer .flips ≡ 0) × (o .answer .ringLength ≡ 0)
-          × (o .answer .point ≡ zeroPoint))
-          × ((o .answer .vertices ≡ m .topology .vertices) × (o .answer .triangles ≡ m .topology .triangles)
-          × (o .answer .rule ≡ m .rule))
-          × (o .mesh ≡ m)
-          × (o .room ≡ spareRoom (elim n [ zero ↦ copied (progress .work .mesh) spares | suc n ↦ spares ]))
+          let r = o .answer .refusal in
+          r ≢ 0
+          → o ≡ elim n [
+            | zero ↦
+                let made = progress .work .mesh in
+                outcomeOf (sparesAnswer r 0 0 m (progress .handled) made) m (spareRoom (copied made spares))
+            | suc n ↦ refusedWith r m (spareRoom spares)
+          ]
       go zero zero x = absurd (x refl)
-      go zero (suc k) x = ((refl, refl, refl, refl), (refl, refl, refl), refl, refl)
-      go (suc n) k x = ((refl, refl, refl, refl), (refl, refl, refl), refl, refl)
+      go zero (suc k) x = refl
+      go (suc n) k x = refl
 
   -- The mesh stands, or it is what the list made of a sound one.
   pub list-keeps : (P : Mesh → Type 0) → P m → (Going m (progress .work) → P (progress .work .mesh))
       → P (listCall list spares m .mesh)
   unfolding listCall
-  list-keeps P p f = go (sparesRefusal spares m) (progress .refusal) (λ z. f (folded (spares-sound spares m z .1) .going))
+  list-keeps P p f =
+      go (sparesRefusal spares m) (progress .refusal) (λ z. f (folded (spares-sound spares m z .1) .going))
     where
       go : (n k : ℕ) → (n ≡ 0 → P (progress .work .mesh))
           → P (unless n m (spareRoom spares) (allOrNothing k progress spares m) .mesh)
       go zero zero f = f refl
       go zero (suc k) f = p
       go (suc n) k f = p
-
--- ---- a list of one entry does what a refine does
-
-module _ (t : ℕ) (spares : Spares) (m : Mesh) (Z : SameSizes spares m) where
-  -- The refusal of a refine by the first three of its tests.
-  abbrev byTests : Bool → Bool → Bool → ℕ
-  byTests a b c =
-      firstOf (
-      1 if not a
-      ∷ 7 if not b
-      ∷ 8 if c
-      ∷ 9 if tooOld (m .topology) t
-      ∷ 11 if not (roomFor (verticesOf (m .topology) t) (trianglesOf (m .topology) t) m)
-      ∷ []
-      )
-
-  -- What refuses the mesh refuses both.
-  first-same : sparesRefusal spares m ≢ 0 → refineRefusal t m ≡ sparesRefusal spares m
-  unfolding sparesRefusal refineRefusal
-  first-same = rw (is-same (same-sizes-is spares m) (is-true Z)) (go (tablesAgree m) (isSound m))
-    where
-      go : (a b : Bool) → firstOf (1 if not a ∷ 17 if false ∷ 7 if not b ∷ []) ≢ 0
-          → byTests a b (leb (m .topology .triangles) t) ≡ firstOf (1 if not a ∷ 17 if false ∷ 7 if not b ∷ [])
-      go true true n = absurd (n refl)
-      go true false n = refl
-      go false b n = refl
-
-  entry-same : Sound m → entryRefusal m t m ≡ refineRefusal t m
-  unfolding entryRefusal refineRefusal
-  entry-same S =
-      go (tablesAgree m) (isSound m) (leb (m .topology .triangles) t) (risen m t m) (refineRefusal t m) refl
-      (is-same (tables-agree-is m) (is-true (S .tables))) (is-same (sound-is m) (is-true S))
-      (le-ltb (generation (m .topology) t) (generation (m .topology) t) (omega arith))
-    where
-      go : (a b c r : Bool) (n : ℕ) → n ≡ byTests a b c → a ≡ true → b ≡ true → r ≡ false
-          → _≡_ {A = ℕ} (elim c [ true ↦ 8 | false ↦ elim r [ true ↦ 0 | false ↦ n ] ]) (byTests a b c)
-      go a b true r n q e f g = rw (e, f) refl
-      go a b false r n q e f g = rw g q
-
-  work-same : entryWork m t (atFirst m) ≡ refine t (atFirst m)
-  unfolding entryWork
-  work-same = rw (le-ltb (generation (m .topology) t) (generation (m .topology) t) (omega arith), entryWork) refl
-
-  pub one-entry : SameWork (listCall (t ∷ []) spares m) (refineCall t m)
-  unfolding listCall refineCall handleAll handle
-  one-entry =
-      rw work-same (go (sparesRefusal spares m) (refineRefusal t m) (entryRefusal m t m) first-same
-      (λ z. entry-same (spares-sound spares m z .1)))
-    where
-      go : (n k e : ℕ) → (n ≢ 0 → k ≡ n) → (n ≡ 0 → e ≡ k) →
-          let p = goesOn e (refine t (atFirst m)) (begun m) in
-          SameWork (unless n m (spareRoom spares) (allOrNothing (p .refusal) p spares m))
-          (unless k m noRoom (worked (refine t (atFirst m))))
-      go zero k e f g = rw (g refl) (both k)
-        where
-          both : (k : ℕ) →
-              let p = goesOn k (refine t (atFirst m)) (begun m) in
-              SameWork (allOrNothing (p .refusal) p spares m) (unless k m noRoom (worked (refine t (atFirst m))))
-          both zero = (record {
-            refusal = refl;
-            splits = refl;
-            flips = refl;
-            vertices = refl;
-            triangles = refl;
-            rule = refl;
-            mesh = refl;
-          })
-          both (suc k) = (record {
-            refusal = refl;
-            splits = refl;
-            flips = refl;
-            vertices = refl;
-            triangles = refl;
-            rule = refl;
-            mesh = refl;
-          })
-      go (suc n) k e f g = rw (f (λ z. omega arith)) (record {
-        refusal = refl;
-        splits = refl;
-        flips = refl;
-        vertices = refl;
-        triangles = refl;
-        rule = refl;
-        mesh = refl;
-      })

@@ -1,21 +1,18 @@
 -- A preview answers and leaves in the spare tables what the list would, and can be repeated.
-use mathlib.Core.Path.{_≡_, refl, sym, _∙_}
+use mathlib.Core.Path.{_≡_, refl, ap, _∙_}
 use mathlib.Core.Logic.{_≢_}
 use mathlib.Core.List.{List}
-use Prim.Native.Nat.{ℕ, zero, suc, _*_, _≤_}
+use Prim.Native.Nat.{ℕ, zero, suc, _*_}
 use native.Mathlib.Omega.{arith}
 use lib.IntN.{pos}
-use lib.ListN.{length}
 use Rattle.rules.proofs.Lists.InSpares.{going-sizes}
-use Rattle.rules.proofs.Lists.ListCall.{same-sizes-is, spares-sound, list-refusal, list-leaves, list-makes, both-zero}
-use Rattle.rules.proofs.Lists.ListCall.{folded}
+use Rattle.rules.proofs.Lists.ListCall.{same-sizes-is, spares-sound, list-refusal, both-zero, folded}
 use Rattle.rules.proofs.Numbers.Decide.{is-true, is-same}
 use Rattle.rules.proofs.Numbers.Fill.{length-fill, getD-fill, fill-again}
-use Rattle.rules.specs.Calls.{Outcome, outcomeOf, spareRoom, unless}
+use Rattle.rules.specs.Calls.{Outcome, outcomeOf, spareRoom, refusedWith, unless}
 use Rattle.rules.specs.Conditions.{First, listConditions}
-use Rattle.rules.specs.History.{asks, previewOf}
-use Rattle.rules.specs.Lists.{Progress, refineEach, sparesRefusal, allOrNothing, listCall, previewCall}
-use Rattle.rules.specs.Promises.{RefusalLeaves, AgreeInUse}
+use Rattle.rules.specs.Lists.{refineEach, sparesRefusal, sparesAnswer, allOrNothing, listCall, previewCall}
+use Rattle.rules.specs.Promises.{refusedList, AgreeInUse}
 use Rattle.rules.specs.Sound.{Sound}
 use Rattle.rules.specs.Spares.{Spares, copied, SameSizes, sameSizes}
 use Rattle.rules.specs.Tables.{Mesh, sides}
@@ -61,12 +58,26 @@ module _ (list : List ℕ) (spares : Spares) (m : Mesh) where
   unfolding previewCall
   preview-refusal = list-refusal list spares m
 
-  pub preview-leaves : previewCall list spares m .answer .refusal ≢ 0
-      → RefusalLeaves (asks (previewOf list spares)) m (previewCall list spares m)
-  unfolding previewCall
-  preview-leaves n =
-      let L = list-leaves list spares m n in
-      record { zeros = L .zeros; counts = L .counts; mesh = refl; room = L .room }
+  pub preview-refused-is : previewCall list spares m .answer .refusal ≢ 0
+      → previewCall list spares m ≡ refusedList list spares (previewCall list spares m .answer .refusal) m
+  unfolding previewCall listCall
+  preview-refused-is = go (sparesRefusal spares m) (refineEach list m .refusal)
+    where
+      go : (n k : ℕ) →
+          let p = refineEach list m in
+          let o = unless n m (spareRoom spares) (allOrNothing k p spares m) in
+          let r = o .answer .refusal in
+          r ≢ 0
+          → outcomeOf (o .answer) m (o .room)
+          ≡ elim n [
+            | zero ↦
+                let made = p .work .mesh in
+                outcomeOf (sparesAnswer r 0 0 m (p .handled) made) m (spareRoom (copied made spares))
+            | suc n ↦ refusedWith r m (spareRoom spares)
+          ]
+      go zero zero x = absurd (x refl)
+      go zero (suc k) x = refl
+      go (suc n) k x = refl
 
   pub preview-is : previewCall list spares m
       ≡ outcomeOf (listCall list spares m .answer) m (listCall list spares m .room)
@@ -104,7 +115,7 @@ module _ (list : List ℕ) {s t : Spares} {m : Mesh} (a : SameSizes s m) (b : Sa
       let G = folded list t m (spares-sound t m e .1) .going in
       rw (refusal-same ∙ e, e, k) (copied-agrees (going-sizes a G) (G .sound))
 
--- A preview repeated, in what it left of the spare tables.
+-- A preview leaves spare tables in which the list, and a preview repeated, come out as in those that it was lent.
 module _ (list : List ℕ) (s : Spares) (m : Mesh) where
   abbrev made : Mesh
   made = refineEach list m .work .mesh
@@ -113,18 +124,20 @@ module _ (list : List ℕ) (s : Spares) (m : Mesh) where
   unfolding sparesRefusal
   refusal-again = rw (copied-sizes made s m) refl
 
-  pub preview-again : previewCall list (previewCall list s m .room .spares) m ≡ previewCall list s m
+  pub list-after : listCall list (previewCall list s m .room .spares) m ≡ listCall list s m
   unfolding previewCall listCall
-  preview-again = go (sparesRefusal s m) refl (refineEach list m .refusal)
+  list-after = go (sparesRefusal s m) refl (refineEach list m .refusal)
     where
-      seen : ℕ → ℕ → Spares → Outcome
-      seen n k t =
-          let o = unless n m (spareRoom t) (allOrNothing k (refineEach list m) t m) in
-          outcomeOf (o .answer) m (o .room)
+      done : ℕ → ℕ → Spares → Outcome
+      done n k t = unless n m (spareRoom t) (allOrNothing k (refineEach list m) t m)
 
       go : (n : ℕ) → sparesRefusal s m ≡ n → (k : ℕ) →
-          let t = seen n k s .room .spares in
-          seen (sparesRefusal t m) k t ≡ seen n k s
+          let t = done n k s .room .spares in
+          done (sparesRefusal t m) k t ≡ done n k s
       go zero e zero = rw (refusal-again ∙ e, copied-twice made s) refl
       go zero e (suc k) = rw (refusal-again ∙ e, copied-twice made s) refl
       go (suc n) e k = rw e refl
+
+  pub preview-again : previewCall list (previewCall list s m .room .spares) m ≡ previewCall list s m
+  unfolding previewCall
+  preview-again = ap (λ (o : Outcome). outcomeOf (o .answer) m (o .room)) list-after

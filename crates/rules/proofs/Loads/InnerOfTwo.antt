@@ -244,8 +244,12 @@ module _ (c : Cage) (m : Mesh) (A : TablesAgree m)
       ap (λ (x : ℕ). target n x) (sym (B .back)) ∙ rotate-target n G k i (rw (B .back) l) in
       matches-opposite (links-are c m A vertexRoom triangleRoom D (next h) (next-lt h f l)) (next k) (record {
         inUse = next-lt k f i;
-        from = sym (at (next k) (next-lt k f i)) ∙ a ∙ at (previous h) (previous-lt h f l) ∙ ap (c .corner) (sym (next-next h));
-        onto = ap (c .corner) (next-next k) ∙ sym (at (previous k) (previous-lt k f i)) ∙ sym b ∙ at (next h) (next-lt h f l);
+        from =
+            sym (at (next k) (next-lt k f i)) ∙ a ∙ at (previous h) (previous-lt h f l)
+            ∙ ap (c .corner) (sym (next-next h));
+        onto =
+            ap (c .corner) (next-next k) ∙ sym (at (previous k) (previous-lt k f i)) ∙ sym b
+            ∙ at (next h) (next-lt h f l);
       })
 
   -- Each side of the triangle of h is linked to one of the triangle of k.
@@ -290,7 +294,9 @@ same-two c m n A B v f w g (x, l, i) =
     let S : SameSides (loaded c m .topology) (loaded c n .topology) =
     record {
       triangles = L .triangles ∙ sym (N .triangles);
-      corner = λ h b. let j : h < 3 * c .triangles = omega (arith, L .triangles) in L .corners h j ∙ sym (N .corners h j);
+      corner = λ h b.
+          let j : h < 3 * c .triangles = omega (arith, L .triangles) in
+          L .corners h j ∙ sym (N .corners h j);
       link = λ h b. let j : h < 3 * c .triangles = omega (arith, L .triangles) in L .links h j ∙ sym (N .links h j);
     } in
     (x, l, inner-of-two-same S x i)

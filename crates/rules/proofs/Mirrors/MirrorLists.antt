@@ -2,7 +2,7 @@
 use Prim.Native.Nat.{ℕ, zero, suc, _*_}
 use mathlib.Core.Bool.{Bool, true, false}
 use mathlib.Core.List.{List, [], _∷_}
-use mathlib.Core.Path.{_≡_, refl, ap, _∙_}
+use mathlib.Core.Path.{_≡_, refl}
 use lib.Dec.{leb}
 use lib.IntN.{pos}
 use lib.ListN.{getD}
@@ -10,7 +10,7 @@ use Rattle.rules.proofs.Mirrors.MirrorRefusals.{refine-refused}
 use Rattle.rules.proofs.Mirrors.MirrorTables.{getD-mirror, fill-mirror}
 use Rattle.rules.proofs.Mirrors.MirrorWork.{mirrorWork, either, refine-mirror}
 use Rattle.rules.specs.Calls.{refineRefusal}
-use Rattle.rules.specs.Lists.{Progress, begun, goesOn, risen, entryRefusal, entryWork, handleUnless, handle}
+use Rattle.rules.specs.Lists.{Progress, goesOn, risen, entryRefusal, entryWork, handleUnless, handle}
 use Rattle.rules.specs.Lists.{handleAll}
 use Rattle.rules.specs.Mirror.{mirror, mirrorSpares}
 use Rattle.rules.specs.Spares.{Spares, copied}

@@ -41,7 +41,8 @@ pub copied-again : {s : Spares} {m : Mesh} (t : Spares) → SameSizes s m → So
 unfolding copied
 copied-again {s} {m} t L S =
     let A = S .tables in
-    let p : 3 * m .topology .vertices ≤ length (s .positions) = omega (arith, L .positions, A .positions, S .vertexRoom) in
+    let p : 3 * m .topology .vertices ≤ length (s .positions) =
+    omega (arith, L .positions, A .positions, S .vertexRoom) in
     let c : sides (m .topology) ≤ length (s .corners) = omega (arith, L .corners, A .corners, S .triangleRoom) in
     let l : sides (m .topology) ≤ length (s .links) = omega (arith, L .links, A .links, S .triangleRoom) in
     let g : m .topology .triangles ≤ length (s .generations) = omega (arith, L .generations, S .triangleRoom) in

@@ -6,7 +6,7 @@ use Prim.Native.Nat.{ℕ, suc, _+_, _-_, _*_, _≤_, _<_, max}
 use native.Mathlib.Omega.{arith}
 use native.Mathlib.Decide.{ℕ-discrete, decLt}
 use lib.ListN.{length, getD, set, drop, length-set, List·getD-eq-default}
-use lib.Seq.{getD-set-same, getD-set-other, set-out, getD-drop, drop-drop, ext-getD}
+use lib.Seq.{getD-set-same, getD-set-other, set-out, getD-drop, ext-getD}
 use Rattle.rules.proofs.Numbers.Fill.{length-fill, getD-fill, drop-fill}
 use Rattle.rules.specs.Below.{fill}
 use Rattle.rules.specs.Tables.{putThree}

@@ -66,7 +66,8 @@ same-length-16 c = search needs
 
 returns-2 : tie.Need-returns-2
 returns-2 c =
-    let at-list = c .before .before .before .before .before .before .before .before .before .before .before .before .before .before in
+    let to-list = c .before .before .before .before .before .before .before in
+    let at-list = to-list .before .before .before .before .before .before .before in
     let at-if1 = at-list .before .before .before .before .before .before .before .before .before in
     at-list .refine-list .ensures
     ∙ list-carried _ _ _ (at-if1 .before .spares-refusal .ensures) _ (at-if1 .if1 .left)

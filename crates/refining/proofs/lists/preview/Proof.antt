@@ -39,7 +39,8 @@ same-length-8 c = search needs
 returns-2 : tie.Need-returns-2
 returns-2 c =
     let at-work = c .before .before .before .before .before .before .before .before .before .before in
-    let start = at-work .before .before .before .before .before .before .before .before .before .before .before .before in
+    let to-start = at-work .before .before .before .before .before .before in
+    let start = to-start .before .before .before .before .before .before in
     foreseen-done _ (at-work .work-in-spares .ensures) (start .pre) (c .if1 .left)
 
 pub preview-spec : {M : Type 1} → statement M

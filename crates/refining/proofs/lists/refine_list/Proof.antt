@@ -42,13 +42,16 @@ same-length-8 c = search needs
 returns : tie.Need-returns
 returns c =
     let at-work = c .before .before .before .before .before .before .before .before .before .before in
-    let start = at-work .before .before .before .before .before .before .before .before .before .before .before .before .before .before .before .before in
+    let to-start = at-work .before .before .before .before .before .before .before .before in
+    let start = to-start .before .before .before .before .before .before .before .before in
     failed-is (mesh-of start) (at-work .work-in-spares .ensures) (c .if1 .taken)
 
 copy-mesh-requires : tie.Need-copy-mesh-requires
 copy-mesh-requires c κs =
-    let at-work = c .before .before .before .before .before .before .before .before .before .before .before .before .before .before .before .before .before .before in
-    let start = at-work .before .before .before .before .before .before .before .before .before .before .before .before .before .before .before .before in
+    let to-work = c .before .before .before .before .before .before .before .before .before in
+    let at-work = to-work .before .before .before .before .before .before .before .before .before in
+    let to-start = at-work .before .before .before .before .before .before .before .before in
+    let start = to-start .before .before .before .before .before .before .before .before in
     slots-back (start .args .counts) (start .pre) _ _ (at-work .work-in-spares .ensures)
 
 same-length-9 : tie.Need-same-length-9
@@ -80,8 +83,10 @@ returns-2 c =
     let at-copy = c .before .before .before .before .before .before .before in
     let at-if1 = at-copy .before .before .before .before .before .before .before .before .before in
     let at-work = at-if1 .before .before .before .before .before .before .before .before .before .before in
-    let start = at-work .before .before .before .before .before .before .before .before .before .before .before .before .before .before .before .before in
-    copied-is _ (start .pre .sizes) (may-sound (start .pre)) (rw (at-if1 .if1 .left) at (at-work .work-in-spares .ensures))
+    let to-start = at-work .before .before .before .before .before .before .before .before in
+    let start = to-start .before .before .before .before .before .before .before .before in
+    copied-is _ (start .pre .sizes) (may-sound (start .pre))
+    (rw (at-if1 .if1 .left) at (at-work .work-in-spares .ensures))
     (at-copy .copy-mesh .ensures)
 
 pub refine-list-spec : {M : Type 1} → statement M

@@ -26,7 +26,8 @@ copy-mesh-requires c κs =
 handle-all-requires : tie.Need-handle-all-requires
 handle-all-requires c κs =
     let at-copy = c .before .before .before .before .before .before .before .before .before .before .before in
-    let start = at-copy .before .before .before .before .before .before .before .before .before .before .before .before in
+    let to-start = at-copy .before .before .before .before .before .before in
+    let start = to-start .before .before .before .before .before .before in
     (mesh-of start, spares-of start, may-begin (start .pre) (at-copy .copy-mesh .ensures))
 
 same-length : tie.Need-same-length
@@ -44,9 +45,12 @@ same-length-4 c = search needs
 returns : tie.Need-returns
 returns c =
     let at-handle = c .before .before .before .before .before .before .before in
-    let at-copy = at-handle .before .before .before .before .before .before .before .before .before .before .before .before in
-    let start = at-copy .before .before .before .before .before .before .before .before .before .before .before .before in
-    at-handle .handle-all .ensures (mesh-of start) (spares-of start) (may-begin (start .pre) (at-copy .copy-mesh .ensures))
+    let to-copy = at-handle .before .before .before .before .before .before in
+    let at-copy = to-copy .before .before .before .before .before .before in
+    let to-start = at-copy .before .before .before .before .before .before in
+    let start = to-start .before .before .before .before .before .before in
+    at-handle .handle-all .ensures (mesh-of start) (spares-of start)
+    (may-begin (start .pre) (at-copy .copy-mesh .ensures))
 
 pub work-in-spares-spec : {M : Type 1} → statement M
 work-in-spares-spec =

@@ -28,7 +28,7 @@ static const int32_t cage[] = {
 };
 
 /* Looks what would come of a list, and refines its triangles if it is not refused. */
-static rawplinth_counts lasso(rawplinth_counts counts, const uint32_t *list, size_t length)
+static rawplinth_counts refine_each(rawplinth_counts counts, const uint32_t *list, size_t length)
 {
     rawplinth_batch_foreseen look = rawplinth_preview(LENT(mesh), counts, list, length, LENT(spares));
     printf("foreseen: %u vertices, %u triangles; ", look.foreseen_vertices, look.foreseen_triangles);
@@ -62,10 +62,10 @@ int main(void)
         return 1;
 
     /* Three neighbours. The first is listed twice, which does no harm. */
-    counts = lasso(done.counts, (const uint32_t[]){0, 1, 2, 0}, 4);
+    counts = refine_each(done.counts, (const uint32_t[]){0, 1, 2, 0}, 4);
     /* There are slots for three splits, but not for a fourth: the mesh stands. */
-    lasso(counts, (const uint32_t[]){3, 4, 5, 6}, 4);
+    refine_each(counts, (const uint32_t[]){3, 4, 5, 6}, 4);
     /* Triangle 14 comes into use by the first entry, but was not when the call began. */
-    lasso(counts, (const uint32_t[]){3, 14}, 2);
+    refine_each(counts, (const uint32_t[]){3, 14}, 2);
     return 0;
 }
