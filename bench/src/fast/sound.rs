@@ -46,11 +46,11 @@ fn starts_if_linked(corners: &[u32], links: &[u32], generations: &[u8], vertices
             if *start == NONE {
                 *start = h as u32;
             }
-            // The lower side of a pair tests what both have in common.
+            // The lower side of a pair tests what both have in common; one linked to itself does not run the other way.
             if *links.get(k)? as usize != h {
                 return None;
             }
-            if h < k {
+            if h <= k {
                 let other = generations[k / 3];
                 let even = generation == other && generation % 2 == 0;
                 if corners[k] != to || corners[next(k)] != from || !(even || are_a_pair(generation, i, other, k % 3)) {
