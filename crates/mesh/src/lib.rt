@@ -1,6 +1,8 @@
 // The public calls. None asks anything of its caller: what cannot be done is refused, and then nothing lent is written,
-// but spare tables that a list was worked in.
+// but spare tables that were worked in.
+pub mod boxes;
 pub mod lists;
+mod spares;
 
 use points::Point;
 use tables::Counts;

@@ -1,90 +1,11 @@
 // The calls that refine a list of triangles and that foresee it.
 use refining::lists::BatchForeseen;
-use refining::lists::BatchWorked;
+use refining::spares::BatchWorked;
 use tables::Counts;
 ghost use mathlib.Core.Path.{_≡_};
-ghost use Rattle.rules.specs.Lists.{sparesRefusal, listCall, previewCall};
-ghost use Rattle.rules.specs.Spares.{sameSizes};
+ghost use Rattle.rules.specs.Lists.{listCall, previewCall};
 ghost use Rattle.tables.specs.Lent.{meshNow, sparesNow};
 ghost use Rattle.refining.specs.Batches.{batchOutcome, foreseenOutcome};
-
-// Whether the spare tables are as long as those of the mesh.
-fn same_sizes(
-    positions: &[i32],
-    corners: &[u32],
-    links: &[u32],
-    generations: &[u8],
-    counts: Counts,
-    spare_positions: &[i32],
-    spare_corners: &[u32],
-    spare_links: &[u32],
-    spare_generations: &[u8],
-) -> bool
-    ensures { λ r. ⌜
-        r ≡ sameSizes (sparesNow (now («spare_positions» .entry)) (now («spare_corners» .entry))
-        (now («spare_links» .entry)) (now («spare_generations» .entry)))
-        (meshNow counts (now (positions .entry)) (now (corners .entry)) (now (links .entry))
-        (now (generations .entry))) ⌝ }
-{
-    if spare_positions.len() != positions.len() {
-        return false;
-    }
-    if spare_corners.len() != corners.len() {
-        return false;
-    }
-    if spare_links.len() != links.len() {
-        return false;
-    }
-    spare_generations.len() == generations.len()
-}
-
-// The first refusal of a call that works in spare tables: 1, 17, 7 or none.
-fn spares_refusal(
-    positions: &[i32],
-    corners: &[u32],
-    links: &[u32],
-    generations: &[u8],
-    counts: Counts,
-    spare_positions: &[i32],
-    spare_corners: &[u32],
-    spare_links: &[u32],
-    spare_generations: &[u8],
-) -> u32
-    ensures { λ r. ⌜
-        r ≡ sparesRefusal (sparesNow (now («spare_positions» .entry)) (now («spare_corners» .entry))
-        (now («spare_links» .entry)) (now («spare_generations» .entry)))
-        (meshNow counts (now (positions .entry)) (now (corners .entry)) (now (links .entry))
-        (now (generations .entry))) ⌝ }
-{
-    if !soundness::tables_agree(positions, corners, links, generations) {
-        return 1;
-    }
-    if !same_sizes(
-        positions,
-        corners,
-        links,
-        generations,
-        counts,
-        spare_positions,
-        spare_corners,
-        spare_links,
-        spare_generations,
-    ) {
-        return 17;
-    }
-    if !soundness::is_sound(
-        positions,
-        corners,
-        links,
-        generations,
-        counts.vertices,
-        counts.triangles,
-        counts.rule,
-    ) {
-        return 7;
-    }
-    0
-}
 
 // Refines the triangles of a list, in its order: all of them, or none of the mesh. The work is done in the spare
 // tables.
@@ -109,30 +30,20 @@ pub fn refine_list(
         (meshNow counts (now (positions .entry)) (now (corners .entry)) (now (links .entry))
         (now (generations .entry))) ⌝ }
 {
-    let refusal = spares_refusal(
+    let refusal = crate::spares::refusal(
         positions,
         corners,
         links,
         generations,
         counts,
+        true,
         spare_positions,
         spare_corners,
         spare_links,
         spare_generations,
     );
     if refusal != 0 {
-        return BatchWorked {
-            refusal,
-            splits: 0,
-            flips: 0,
-            counts,
-            handled: 0,
-            spares: Counts {
-                vertices: 0,
-                triangles: 0,
-                rule: 0,
-            },
-        };
+        return BatchWorked::refused(refusal, counts);
     }
     refining::lists::refine_list(
         positions,
@@ -168,12 +79,13 @@ pub fn preview(
         ≡ previewCall (now (list .entry)) (sparesNow (now («spare_positions» .entry)) (now («spare_corners» .entry))
         (now («spare_links» .entry)) (now («spare_generations» .entry))) m) ⌝ }
 {
-    let refusal = spares_refusal(
+    let refusal = crate::spares::refusal(
         positions,
         corners,
         links,
         generations,
         counts,
+        true,
         spare_positions,
         spare_corners,
         spare_links,

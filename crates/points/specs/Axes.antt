@@ -1,8 +1,10 @@
 -- Points, axis by axis: a rule on coordinates is said once, for axis k.
 use Prim.Native.Nat.{ℕ, zero, suc, _*_, _≤_}
+use mathlib.Core.Bool.{Bool, _&&_}
 use lib.IntN.{ℤ, pos, negℤ, _+ℤ_}
 use lib.Signed.{_≤ℤ_}
 use Rattle.rules.proofs.Numbers.Rounding.{mean}
+use Rattle.rules.specs.Boxes.{between}
 use Rattle.rules.specs.Numbers.{nearestThird, moved, limit}
 use Rattle.points.specs.declared.Point.{Point}
 
@@ -25,6 +27,11 @@ eachAxis f = at (f 0) (f 1) (f 2)
 -- The nearest third of the sum of three points.
 abbrev pub thirds : Point → Point → Point → Point
 thirds a b c = eachAxis (λ k. nearestThird (coordinate a k +ℤ coordinate b k +ℤ coordinate c k))
+
+-- A point lies in the box between two points, the faces included.
+abbrev pub inBox : Point → Point → Point → Bool
+inBox low high p =
+    between (low .x) (high .x) (p .x) && between (low .y) (high .y) (p .y) && between (low .z) (high .z) (p .z)
 
 -- Parts of a mean: n places have b each, and one has a.
 pub record Parts (a b n : ℕ) : Type 0 where

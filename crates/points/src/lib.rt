@@ -6,8 +6,10 @@ ghost use lib.Dec.{eqb, ltb};
 ghost use lib.IntN.{pos, _+ℤ_, _-ℤ_};
 ghost use lib.ListN.{length};
 ghost use Rattle.rules.proofs.Numbers.Rounding.{mean};
+ghost use Rattle.rules.specs.Boxes.{between};
 ghost use Rattle.rules.specs.Numbers.{inRange, nearestThird, knownRule, rounded, weight, numberAt, signed};
-ghost use Rattle.points.specs.Axes.{at, thirds, Parts, meanPoint, movedPoint, limitPoint, plus, SumOf, Fits};
+ghost use Rattle.points.specs.Axes.{at, inBox, thirds, Parts, meanPoint, movedPoint, limitPoint, plus};
+ghost use Rattle.points.specs.Axes.{SumOf, Fits};
 
 // A point, in units of 1/1024 mm.
 #[repr(C)]
@@ -50,6 +52,19 @@ impl Point {
             y: added(self.y, p.y),
             z: added(self.z, p.z),
         }
+    }
+
+    // Whether it lies in the box between two points, the faces included.
+    pub fn in_box(self, low: Point, high: Point) -> bool
+        ensures { λ r. ⌜ r ≡ inBox low high self ⌝ }
+    {
+        if !between(low.x, high.x, self.x) {
+            return false;
+        }
+        if !between(low.y, high.y, self.y) {
+            return false;
+        }
+        between(low.z, high.z, self.z)
     }
 
     // The mean of a parts at this point and b parts at each of n points that add up to sum, rounded by the rule.
@@ -96,6 +111,13 @@ pub fn in_range(x: i32) -> bool
     ensures { λ r. ⌜ r ≡ inRange x ⌝ }
 {
     Point::LOW <= x && x <= Point::HIGH
+}
+
+// Whether x lies between low and high, or is one of them.
+fn between(low: i32, high: i32, x: i32) -> bool
+    ensures { λ r. ⌜ r ≡ between low high x ⌝ }
+{
+    low <= x && x <= high
 }
 
 // A sum of n numbers of 32 bits, with each counted from the least such number, so that none is negative.

@@ -3,16 +3,19 @@
 use mesh::LimitRead;
 use mesh::PositionRead;
 use mesh::RingRead;
+use points::Point;
 use refining::lists::BatchForeseen;
-use refining::lists::BatchWorked;
+use refining::spares::BatchWorked;
 use tables::Counts;
 use tables::Worked;
 ghost use mathlib.Core.Path.{_≡_};
+ghost use Rattle.rules.specs.Boxes.{boxCall};
 ghost use Rattle.rules.specs.Calls.{loadCall, refineCall, wholeStepCall, limitCall, ringCall, positionCall};
 ghost use Rattle.rules.specs.Lists.{listCall, previewCall};
 ghost use Rattle.tables.specs.Answers.{workedOutcome};
 ghost use Rattle.tables.specs.Lent.{meshNow, sparesNow};
 ghost use Rattle.refining.specs.Batches.{batchOutcome, foreseenOutcome};
+ghost use Rattle.boxing.specs.Boxing.{boxOf};
 ghost use Rattle.mesh.specs.Answers.{limitOutcome, ringOutcome, positionOutcome};
 
 // Loads a cage, to be rounded by a rule.
@@ -99,6 +102,47 @@ pub extern "C" fn rawplinth_refine_list(
         generations,
         counts,
         list,
+        spare_positions,
+        spare_corners,
+        spare_links,
+        spare_generations,
+    )
+}
+
+// Refines what has a corner in a box, all or nothing, in spare tables.
+#[no_mangle]
+pub extern "C" fn rawplinth_refine_box(
+    positions: &mut [i32],
+    corners: &mut [u32],
+    links: &mut [u32],
+    generations: &mut [u8],
+    counts: Counts,
+    low: Point,
+    high: Point,
+    below: u32,
+    spare_positions: &mut [i32],
+    spare_corners: &mut [u32],
+    spare_links: &mut [u32],
+    spare_generations: &mut [u8],
+) -> BatchWorked
+    ensures { λ r. ⌜ batchOutcome r (now (positions .exit)) (now (corners .exit)) (now (links .exit))
+        (now (generations .exit))
+        (sparesNow (now («spare_positions» .exit)) (now («spare_corners» .exit)) (now («spare_links» .exit))
+        (now («spare_generations» .exit)))
+        ≡ boxCall (boxOf low high below) (sparesNow (now («spare_positions» .entry)) (now («spare_corners» .entry))
+        (now («spare_links» .entry)) (now («spare_generations» .entry)))
+        (meshNow counts (now (positions .entry)) (now (corners .entry)) (now (links .entry))
+        (now (generations .entry))) ⌝ }
+{
+    mesh::boxes::refine_box(
+        positions,
+        corners,
+        links,
+        generations,
+        counts,
+        low,
+        high,
+        below,
         spare_positions,
         spare_corners,
         spare_links,

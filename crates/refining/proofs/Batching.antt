@@ -1,4 +1,4 @@
--- A list handled in spare tables: its start, and its entries by the answers of their tests.
+-- Work in spare tables: its start, a list's entries by the answers of their tests, and what is carried back.
 use borrow.Author.Tests.{le-leb, lt-leb, lt-ltb, le-ltb}
 use mathlib.Core.Bool.{Bool, true, false}
 use mathlib.Core.List.{List}
@@ -9,22 +9,24 @@ use native.Mathlib.Omega.{arith}
 use lib.Dec.{leb}
 use lib.IntN.{ℤ}
 use lib.ListN.{length, getD}
-use Rattle.rules.proofs.Lists.InSpares.{entryOutcome, Doing, doing-begins, Done, going-sizes, failed-is}
-use Rattle.rules.proofs.Lists.InSpares.{copied-is}
+use Rattle.rules.proofs.Chains.Going.{Going}
+use Rattle.rules.proofs.Lists.Holding.{Done, going-sizes, failed-is, copied-is}
+use Rattle.rules.proofs.Lists.InSpares.{entryOutcome, Doing, doing-begins}
 use Rattle.rules.proofs.Lists.ListCall.{folded}
 use Rattle.rules.proofs.Numbers.Fill.{length-fill}
 use Rattle.rules.proofs.Soundness.Relaxed.{SameSlots}
 use Rattle.rules.proofs.Spares.CopiedBack.{tablesOf}
 use Rattle.rules.proofs.Spares.OverSpares.{over, over-sound}
 use Rattle.rules.specs.Calls.{outcomeOf, spareRoom, noRoom, refusedWith, worked, unless, refineRefusal, refineCall}
-use Rattle.rules.specs.Lists.{risen, entryRefusal, entryWork, refineEach, sparesAnswer}
+use Rattle.rules.specs.Lists.{Progress, risen, entryRefusal, entryWork, refineEach, sparesAnswer}
 use Rattle.rules.specs.Sound.{Sound}
 use Rattle.rules.specs.Spares.{Spares, copied, meshIn, SameSizes}
 use Rattle.rules.specs.Split.{Work, atFirst, refine}
 use Rattle.rules.specs.Tables.{Mesh, meshOf, withTopology, generation}
 use Rattle.tables.specs.declared.Counts.{Counts}
 use Rattle.tables.specs.Lent.{meshNow, HasSlots}
-use Rattle.refining.specs.Batches.{StartsWith, Begins, MayWork, listDone, onlyRead}
+use Rattle.refining.specs.Batches.{StartsWith, Begins, Handles, Made, MayWork, listDone, onlyRead}
+use Rattle.refining.specs.declared.spares.Batch.{Batch}
 use Rattle.refining.proofs.Refusing.{standing-sound}
 
 module _ (m x : Mesh) (f t : ℕ) (g : List ℕ) (W : StartsWith f g m) where
@@ -123,31 +125,38 @@ module _ {m : Mesh} {s : Spares} (W : MayWork m s) where
     tables = ap (λ (y : Spares). meshIn y m) e;
   }
 
--- The mesh copied into the spare tables, and what a list made of it copied back.
-module _ (n : Counts) {p : List ℤ} {c l g : List ℕ} {s : Spares} (W : MayWork (meshNow n p c l g) s) where
-  pub slots-there : HasSlots n p c l g × HasSlots n (s .positions) (s .corners) (s .links) (s .generations)
-  slots-there =
+-- The mesh copied into the spare tables, and what was made of it copied back.
+module _ (n : Counts) {p : List ℤ} {c l g : List ℕ} {s : Spares} where
+  pub slots-there : MayWork (meshNow n p c l g) s
+      → HasSlots n p c l g × HasSlots n (s .positions) (s .corners) (s .links) (s .generations)
+  slots-there W =
       let H = has-slots n (may-sound W) in
       let L = W .sizes in
       (H, same-slots H (L .positions) (L .corners) (L .links) (L .generations))
 
-  pub slots-back : (list : List ℕ) (k : Counts) {q : List ℤ} {d f h : List ℕ} {e at i j : ℕ}
-      → Done (refineEach list (meshNow n p c l g)) s e at i j (meshNow k q d f h)
+  pub slots-back : (k : Counts) {w : Progress} {q : List ℤ} {d f h : List ℕ} {e at i j : ℕ}
+      → SameSizes s (meshNow n p c l g) → Going (meshNow n p c l g) (w .work) → Done w s e at i j (meshNow k q d f h)
       → HasSlots k q d f h × HasSlots k p c l g
-  slots-back list k {q} {d} {f} {h} D =
+  slots-back k {w} {q} {d} {f} {h} L G D =
       let m = meshNow n p c l g in
-      let S = may-sound W in
-      let G = folded list s m S .going in
-      let X : Sound (meshNow k q d f h) = rw (D .tables) (over-sound (going-sizes (W .sizes) G) (G .sound)) in
+      let X : Sound (meshNow k q d f h) = rw (D .tables) (over-sound (going-sizes L G) (G .sound)) in
       let H = has-slots k X in
-      let L = W .sizes in
-      let R = over-slots s m (refineEach list m .work .mesh) refl (D .tables) in
+      let R = over-slots s m (w .work .mesh) refl (D .tables) in
       let Z = over-sizes s m in (
         H,
         same-slots H (sym (L .positions) ∙ Z .positions ∙ sym (R .positions))
             (sym (L .corners) ∙ Z .corners ∙ sym (R .corners)) (sym (L .links) ∙ Z .links ∙ sym (R .links))
             (sym (L .generations) ∙ Z .generations ∙ sym (R .generations)),
       )
+
+-- What a list made.
+pub list-made : (list : List ℕ) {m : Mesh} {s : Spares} {r : Batch} {x : Mesh} → MayWork m s → Handles list m s r x
+    → Made (refineEach list m) s m r x
+list-made list {m} {s} W D = record {
+  sizes = W .sizes;
+  going = folded list s m (may-sound W) .going;
+  done = D;
+}
 
 -- ---- what is foreseen
 
@@ -164,7 +173,7 @@ module _ (list : List ℕ) {m : Mesh} {s : Spares} {n at k f : ℕ} {x : Mesh}
       let S = may-sound W in
       let r : x .rule ≡ m .rule =
       ap (λ (y : Mesh). y .rule) (D .tables) ∙ folded list s m S .going .places .rule in
-      let e = copied-is list {y = copied x (tablesOf m)} (W .sizes) S (rw z at D) refl in
+      let e = copied-is {y = copied x (tablesOf m)} (W .sizes) (folded list s m S .going) (rw z at D) refl in
       ap (λ (q : ℕ).
       outcomeOf (sparesAnswer 0 k f (meshOf (x .topology) (m .positions) q) at x) m (spareRoom (tablesOf x)))
       (sym r)

@@ -1,20 +1,22 @@
--- Lists of triangles handled in spare tables.
+-- Work in spare tables: lists of triangles, and what lists and boxes share.
 use Prim.Native.Nat.{ℕ}
 use mathlib.Core.List.{List, []}
 use mathlib.Core.Path.{_≡_}
 use lib.IntN.{ℤ}
-use Rattle.rules.proofs.Lists.InSpares.{Done}
+use Rattle.rules.proofs.Chains.Going.{Going}
+use Rattle.rules.proofs.Lists.Holding.{Done}
 use Rattle.rules.proofs.Spares.OverSpares.{over}
 use Rattle.rules.specs.Calls.{Outcome, outcomeOf, spareRoom}
-use Rattle.rules.specs.Lists.{refineEach, sparesAnswer, allOrNothing}
+use Rattle.rules.specs.Lists.{Progress, refineEach, sparesAnswer, allOrNothing}
 use Rattle.rules.specs.Sound.{Sound}
 use Rattle.rules.specs.Spares.{Spares, SameSizes}
 use Rattle.rules.specs.Tables.{Mesh, topologyOf, withTopology}
 use Rattle.tables.specs.Lent.{meshNow}
+use Rattle.tables.specs.declared.Counts.{Counts}
 use Rattle.refining.specs.Standing.{standing}
-use Rattle.refining.specs.declared.lists.Batch.{Batch}
+use Rattle.refining.specs.declared.spares.Batch.{Batch}
 use Rattle.refining.specs.declared.lists.BatchForeseen.{BatchForeseen}
-use Rattle.refining.specs.declared.lists.BatchWorked.{BatchWorked}
+use Rattle.refining.specs.declared.spares.BatchWorked.{BatchWorked}
 
 -- The mesh at the call's start has so many triangles and these generations.
 pub record StartsWith (f : ℕ) (g : List ℕ) (m : Mesh) : Type 0 where
@@ -28,11 +30,21 @@ pub record Begins (m : Mesh) (s : Spares) (g : List ℕ) (x : Mesh) : Type 0 whe
   pub generations : g ≡ m .topology .generations
   pub tables : x ≡ over s m
 
--- The answer, and the mesh x in what were the tables s, are what the list makes of m.
-abbrev pub Handles : List ℕ → Mesh → Spares → Batch → Mesh → Type 0
-Handles list m s r x = Done (refineEach list m) s (r .refusal) (r .handled) (r .splits) (r .flips) x
+-- The answer, and the mesh x in what were the tables s, are what the work p is.
+abbrev pub Holds : Progress → Spares → Batch → Mesh → Type 0
+Holds p s r x = Done p s (r .refusal) (r .handled) (r .splits) (r .flips) x
 
--- A list may be handled: the mesh is not refused, and the spare tables are as long as its own.
+-- They are what the list makes of m.
+abbrev pub Handles : List ℕ → Mesh → Spares → Batch → Mesh → Type 0
+Handles list m s r x = Holds (refineEach list m) s r x
+
+-- Refines made the work p of m in what were the tables s, which hold x.
+pub record Made (p : Progress) (s : Spares) (m : Mesh) (r : Batch) (x : Mesh) : Type 0 where
+  pub sizes : SameSizes s m
+  pub going : Going m (p .work)
+  pub done : Holds p s r x
+
+-- Work may begin: the mesh is not refused, and the spare tables are as long as its own.
 pub record MayWork (m : Mesh) (s : Spares) : Type 0 where
   pub stands : 0 ≡ standing m
   pub sizes : SameSizes s m
@@ -47,6 +59,17 @@ batchOutcome a positions corners links generations s =
     let m = meshNow (a .counts) positions corners links generations in
     let n = meshNow (a .spares) [] [] [] [] in
     outcomeOf (sparesAnswer (a .refusal) (a .splits) (a .flips) m (a .handled) n) m (spareRoom s)
+
+-- The answer of such a call that is refused before the work.
+abbrev pub refusedBatch : ℕ → Counts → BatchWorked
+refusedBatch n counts = record {
+  refusal = n;
+  splits = 0;
+  flips = 0;
+  counts = counts;
+  handled = 0;
+  spares = record { vertices = 0; triangles = 0; rule = 0 };
+}
 
 -- An outcome of which the mesh m is only read.
 abbrev pub onlyRead : Mesh → Outcome → Outcome

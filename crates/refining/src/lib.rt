@@ -1,5 +1,6 @@
 // Refines of a mesh whose first refusal is known: of one triangle, and of a list in spare tables.
 pub mod lists;
+pub mod spares;
 
 use split::Chain;
 use tables::Counts;

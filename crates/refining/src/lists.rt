@@ -1,4 +1,6 @@
 // A list of triangles refined one after the other, in spare tables.
+use crate::spares::Batch;
+use crate::spares::BatchWorked;
 use tables::Counts;
 use tables::Worked;
 ghost use mathlib.Core.Path.{_≡_};
@@ -10,16 +12,6 @@ ghost use Rattle.tables.specs.Lent.{meshNow, sparesNow};
 ghost use Rattle.refining.specs.Batches.{StartsWith, Begins, Handles, MayWork, listDone, batchOutcome};
 ghost use Rattle.refining.specs.Batches.{onlyRead, foreseenOutcome};
 ghost use Rattle.refining.specs.Standing.{standing};
-
-// How far a list was handled, with what its entries made: the number that the next one failed with, 0 for none, and the
-// counts of the mesh in the spare tables.
-pub struct Batch {
-    pub refusal: u32,
-    pub splits: u32,
-    pub flips: u32,
-    pub handled: usize,
-    pub counts: Counts,
-}
 
 // Handles entry t on a sound mesh, judged by the triangles that were in use at the call's start, and their generations.
 fn handle(
@@ -158,18 +150,6 @@ fn work_in_spares(
     )
 }
 
-// The answer of a call that refines several triangles in spare tables: how many entries were handled, which is all of
-// them unless one failed, and the counts of the mesh that the spare tables hold, 0 where none was copied.
-#[repr(C)]
-pub struct BatchWorked {
-    pub refusal: u32,
-    pub splits: u32,
-    pub flips: u32,
-    pub counts: Counts,
-    pub handled: usize,
-    pub spares: Counts,
-}
-
 // Refines a list of triangles: all of them, or none of the mesh.
 pub fn refine_list(
     positions: &mut [i32],
@@ -206,36 +186,18 @@ pub fn refine_list(
         spare_links,
         spare_generations,
     );
-    let reached = made.counts;
-    if made.refusal != 0 {
-        return BatchWorked {
-            refusal: made.refusal,
-            splits: 0,
-            flips: 0,
-            counts,
-            handled: made.handled,
-            spares: reached,
-        };
-    }
-    tables::copies::copy_mesh(
-        spare_positions,
-        spare_corners,
-        spare_links,
-        spare_generations,
-        reached,
+    crate::spares::carry_back(
         positions,
         corners,
         links,
         generations,
-    );
-    BatchWorked {
-        refusal: 0,
-        splits: made.splits,
-        flips: made.flips,
-        counts: reached,
-        handled: made.handled,
-        spares: reached,
-    }
+        counts,
+        made,
+        spare_positions,
+        spare_corners,
+        spare_links,
+        spare_generations,
+    )
 }
 
 // The answer of a preview: V and F are those that the list would answer, and no counts of the mesh, which stands. On a

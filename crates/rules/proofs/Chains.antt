@@ -1,9 +1,11 @@
--- The base chain falls and its count is exact; refine raises its triangle, and is Kobbelt's procedure.
+-- The base chain falls and its count is exact; refine raises its triangle, writes slots known before the work, and is
+-- Kobbelt's procedure.
 pub mod Runs
 pub mod Chain
 pub mod Remembered
 pub mod Raise
 pub mod Refine
 pub mod RefineLoop
+pub mod Altered
 pub mod Kobbelt
 pub mod Going

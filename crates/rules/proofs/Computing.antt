@@ -1,9 +1,10 @@
 -- A store, cages as bytes, and what opens the rules for computation.
 use Prim.Native.Nat.{ℕ, _*_}
 use mathlib.Core.List.{List, [], _∷_, map}
-use lib.IntN.{pos}
+use lib.IntN.{ℤ, pos}
 use lib.ListN.{replicate}
 use Rattle.rules.specs.Below.{all, any, lowest, total, fill}
+use Rattle.rules.specs.Boxes.{Box, wanted, refineWanted, boxRefusal, boxCall}
 use Rattle.rules.specs.Cage.{cageOf, partner, loaded, sizesFit, cornersFit, coordinatesFit, sidesDiffer, fansFit}
 use Rattle.rules.specs.Cage.{someInnerOfTwo}
 use Rattle.rules.specs.Calls.{Outcome, closedEven, loadRefusal, refineRefusal, wholeStepRefusal, ringRefusal}
@@ -32,7 +33,7 @@ unfolding all any lowest total fill cageOf partner loaded sizesFit cornersFit co
     faceCut flip limit limitCoordinate limitPositions limitRefusal limitCall centre firstThird secondThird facePlaced
     rimCut rimPlaced settle faceSplit rimSplit chainEndWithin chainOddWithin raise refine sumOver movedCoordinate
     moveVertices refineFirst wholeStep tablesAgree copied sameSizes entryRefusal entryWork handle handleAll
-    sparesRefusal listCall previewCall
+    sparesRefusal listCall previewCall wanted refineWanted boxRefusal boxCall
 computing = tt
 
 -- The mesh after these changes, and the outcome of each.
@@ -56,6 +57,10 @@ sevens v f = record {
   links = replicate (3 * f) 7;
   generations = replicate f 7;
 }
+
+-- A box by its low and its high corner, and the generation.
+abbrev pub boxOf : ℤ × ℤ × ℤ → ℤ × ℤ × ℤ → ℕ → Box
+boxOf low high below = record { low = low; high = high; below = below }
 
 -- Numbers below 256 as the four bytes of each, low byte first.
 unfoldable pub bytes : List ℕ → List ℕ

@@ -10,6 +10,7 @@ pub mod Steps
 pub mod Calls
 pub mod Spares
 pub mod Lists
+pub mod Boxes
 pub mod Mirrors
 pub mod Results
 pub mod Computing

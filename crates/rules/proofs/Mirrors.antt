@@ -4,4 +4,5 @@ pub mod MirrorTables
 pub mod MirrorWork
 pub mod MirrorRefusals
 pub mod MirrorLists
+pub mod MirrorBoxes
 pub mod MirrorCalls

@@ -5,11 +5,14 @@ use mathlib.Core.List.{List, [], _∷_, _++_, map}
 use mathlib.Core.Path.{_≡_, refl}
 use lib.IntN.{ℤ, pos, negsuc}
 use lib.ListN.{replicate, drop, getD}
-use Rattle.rules.proofs.Computing.{computing, made, madeEach, fresh, sevens, bytes, tetrahedron}
-use Rattle.rules.proofs.Examples.{lineOf, triangleOf, pointOf}
+use Rattle.rules.proofs.Computing.{computing, made, madeEach, fresh, sevens, boxOf, bytes, tetrahedron}
+use Rattle.rules.proofs.Examples.{lineOf, triangleOf, pointOf, oneTriangle}
 use Rattle.rules.proofs.Refusals.{refusalAfter, cageAtOrigin, triangle, hinge}
-use Rattle.rules.specs.History.{Change, loads, refines, steps, refinesEach, ringOf, positionOf, limitsOf, asked}
-use Rattle.rules.specs.History.{changes, asks, previewOf, outcome, outcomes, nothing, cage, lastLoad, edges}
+use Rattle.rules.specs.Boxes.{Box}
+use Rattle.rules.specs.Calls.{Outcome}
+use Rattle.rules.specs.History.{Change, loads, refines, steps, refinesEach, refinesInBox, ringOf, positionOf}
+use Rattle.rules.specs.History.{limitsOf, asked, changes, asks, previewOf, outcome, outcomes, nothing, cage}
+use Rattle.rules.specs.History.{lastLoad, edges}
 use Rattle.rules.specs.Mirror.{mirror, mirrorTable}
 use Rattle.rules.specs.Numbers.{nearestThird, rounded}
 use Rattle.rules.specs.Sound.{isSound}
@@ -36,6 +39,39 @@ heldBy list =
     let o = outcome (changes (refinesEach list (sevens 12 20))) (made (loads 1 tetrahedron ∷ []) store) in
     let g : ℕ → ℕ = λ t. getD (o .room .spares .generations) t 0 in
     o .answer .handled ∷ o .answer .spareVertices ∷ o .answer .spareTriangles ∷ g 0 ∷ g 1 ∷ g 5 ∷ g 6 ∷ []
+
+-- A cage, in 12 vertex and f triangle slots, with what has a corner in a box refined.
+unfoldable pub boxed : ℕ → List ℕ → Box → Outcome
+unfolding fresh sevens
+boxed f bytes b = outcome (changes (refinesInBox b (sevens 12 f))) (made (loads 1 bytes ∷ []) (fresh 12 f))
+
+-- Its printed line, and how many refines it took.
+unfoldable pub boxLine : Outcome → List ℕ
+boxLine o = lineOf o ++ (o .answer .handled ∷ [])
+
+-- The box of one point, (9,0,0), where vertex 1 of the tetrahedron is, and vertex 1 of the triangle alone.
+unfoldable pub atPoint : ℕ → Box
+atPoint = boxOf (pos 9, pos 0, pos 0) (pos 9, pos 0, pos 0)
+
+-- The box of all that 32 bits can hold.
+unfoldable pub everywhere : ℕ → Box
+everywhere =
+    let low = negsuc 2147483647 in
+    let high = pos 2147483647 in
+    boxOf (low, low, low) (high, high, high)
+
+-- The box from (8,-1,-1) to (10,1,1) round that point, with one face drawn in past it: it ends one unit short.
+unfoldable pub shortBoxes : List Box
+shortBoxes =
+    let box : ℤ → ℤ → ℤ → ℤ → ℤ → ℤ → Box = λ x x′ y y′ z z′. boxOf (x, y, z) (x′, y′, z′) 2 in
+    let minus = negsuc 0 in
+    box (pos 10) (pos 10) minus (pos 1) minus (pos 1)
+    ∷ box (pos 8) (pos 8) minus (pos 1) minus (pos 1)
+    ∷ box (pos 8) (pos 10) (pos 1) (pos 1) minus (pos 1)
+    ∷ box (pos 8) (pos 10) minus minus minus (pos 1)
+    ∷ box (pos 8) (pos 10) minus (pos 1) (pos 1) (pos 1)
+    ∷ box (pos 8) (pos 10) minus (pos 1) minus minus
+    ∷ []
 
 unfoldable pub octahedron : List Change
 unfolding cageAtOrigin
@@ -213,11 +249,32 @@ pub record Table : Type 0 where
   pub foreseenRefused : map lineOf (outcomes (map changes (loads 1 tetrahedron ∷ [])
       ++ (asks (previewOf (0 ∷ 4 ∷ []) (sevens 12 20)) ∷ changes (refinesEach (0 ∷ 4 ∷ []) (sevens 12 20)) ∷ [])) store)
       ≡ (0 ∷ 0 ∷ 0 ∷ 4 ∷ 4 ∷ []) ∷ (8 ∷ 0 ∷ 0 ∷ 4 ∷ 4 ∷ []) ∷ (8 ∷ 0 ∷ 0 ∷ 4 ∷ 4 ∷ []) ∷ []
+  -- A box of one point has all its faces there, and holds it. The triangle alone for generations 0, 1 and 2: nothing;
+  -- a face split; a face split and two rim splits. In the tetrahedron it is corner 1 of slot 0, corner 2 of slot 1 and
+  -- corner 0 of slot 2: three splits lift all it touches to 2, and three more to 4. The third refine of the triangle
+  -- alone is of a slot that the first made. (Request h)
+  pub boxedOpen : map (λ k. boxLine (boxed 20 oneTriangle (atPoint k))) (0 ∷ 1 ∷ 2 ∷ []) ≡
+      (0 ∷ 0 ∷ 0 ∷ 3 ∷ 1 ∷ 0 ∷ []) ∷ (0 ∷ 1 ∷ 0 ∷ 4 ∷ 3 ∷ 1 ∷ []) ∷ (0 ∷ 3 ∷ 1 ∷ 8 ∷ 7 ∷ 3 ∷ []) ∷ []
+  pub boxedClosed : map (λ k. boxLine (boxed 20 tetrahedron (atPoint k))) (1 ∷ 2 ∷ 3 ∷ []) ≡
+      (0 ∷ 3 ∷ 3 ∷ 7 ∷ 10 ∷ 3 ∷ []) ∷ (0 ∷ 3 ∷ 3 ∷ 7 ∷ 10 ∷ 3 ∷ []) ∷ (0 ∷ 6 ∷ 6 ∷ 10 ∷ 16 ∷ 6 ∷ []) ∷ []
+  -- A box of all that 32 bits can hold takes every triangle: to generation 1 that is all but the whole step's moves.
+  pub boxedAll : boxLine (boxed 20 tetrahedron (everywhere 1)) ≡ 0 ∷ 4 ∷ 6 ∷ 8 ∷ 12 ∷ 4 ∷ []
+  -- The lowest slot comes first: vertex 4 is the centre of triangle 0.
+  pub lowestFirst : pointOf (boxed 20 tetrahedron (atPoint 1) .mesh) 4 ≡ pos 3 ∷ pos 3 ∷ pos 0 ∷ []
+  -- A box that is one unit short holds nothing: it is carried out, with zeros, and leaves the mesh.
+  pub shortByOne : map (λ b. boxLine (boxed 20 tetrahedron b)) shortBoxes ≡ replicate 6 (0 ∷ 0 ∷ 0 ∷ 4 ∷ 4 ∷ 0 ∷ [])
+  pub shortLeaves : map (λ b. boxed 20 tetrahedron b .mesh) shortBoxes
+      ≡ replicate 6 (made (loads 1 tetrahedron ∷ []) (fresh 12 20))
+  -- The third refine lacks a slot: the mesh stands, and the spare tables hold the mesh after two.
+  pub runsOut : boxLine (boxed 9 tetrahedron (atPoint 2)) ≡ 11 ∷ 0 ∷ 0 ∷ 4 ∷ 4 ∷ 2 ∷ []
+  pub runsOutStands : boxed 9 tetrahedron (atPoint 2) .mesh ≡ made (loads 1 tetrahedron ∷ []) (fresh 12 9)
+  pub runsOutSpares : boxed 9 tetrahedron (atPoint 2) .room .spares .generations
+      ≡ 2 ∷ 1 ∷ 0 ∷ 0 ∷ 1 ∷ 1 ∷ 1 ∷ 2 ∷ 7 ∷ []
 
 pub readings : Table
 unfolding computing mirrorTable fresh sevens listed heldBy tetrahedron triangle store sideOne octahedron pulled
     spike longChain hinge
-    withFirst signedBytes foil atEighteen
+    withFirst signedBytes foil atEighteen oneTriangle boxed boxLine atPoint everywhere shortBoxes
 readings = record {
   throughSideOne = refl;
   throughSideOne₉ = refl;
@@ -270,4 +327,13 @@ readings = record {
   heldByNone = refl;
   foreseen = refl;
   foreseenRefused = refl;
+  boxedOpen = refl;
+  boxedClosed = refl;
+  boxedAll = refl;
+  lowestFirst = refl;
+  shortByOne = refl;
+  shortLeaves = refl;
+  runsOut = refl;
+  runsOutStands = refl;
+  runsOutSpares = refl;
 }

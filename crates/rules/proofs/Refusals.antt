@@ -1,12 +1,14 @@
 -- One example of each refusal, computed from the rules. (Refused inputs, the column of examples)
 use Prim.Native.Nat.{ℕ, zero, suc, _+_, _*_, _%_}
-use mathlib.Core.List.{List, [], _∷_, _++_}
+use mathlib.Core.List.{List, [], _∷_, _++_, map}
 use mathlib.Core.Path.{_≡_, refl}
 use lib.IntN.{pos}
 use lib.ListN.{replicate, take}
-use Rattle.rules.proofs.Computing.{computing, made, fresh, sevens, bytes, tetrahedron}
-use Rattle.rules.specs.History.{Change, loads, refines, steps, refinesEach, ringOf, limitsOf, Call, changes}
-use Rattle.rules.specs.History.{asks, outcome}
+use Rattle.rules.proofs.Computing.{computing, made, fresh, sevens, boxOf, bytes, tetrahedron}
+use Rattle.rules.specs.Boxes.{Box}
+use Rattle.rules.specs.Calls.{zeroPoint}
+use Rattle.rules.specs.History.{Change, loads, refines, steps, refinesEach, refinesInBox, ringOf, limitsOf, Call}
+use Rattle.rules.specs.History.{changes, asks, outcome}
 use Rattle.rules.specs.Tables.{Mesh, topologyOf, meshOf, withRule, boundary}
 
 -- The refusal of the last call, on a mesh, after the others.
@@ -66,6 +68,15 @@ shell g =
     let links = boundary ∷ boundary ∷ boundary ∷ replicate 6 0 in
     meshOf (topologyOf 3 1 (0 ∷ 1 ∷ 2 ∷ replicate 6 0) links (g ∷ 0 ∷ 0 ∷ [])) (replicate 15 (pos 0)) 1
 
+-- A box that is refused: its generation is 21.
+unfoldable pub tooFine : Box
+tooFine = boxOf zeroPoint zeroPoint 21
+
+-- The refusals of these boxes, on the tetrahedron.
+unfoldable pub boxesRefused : List Box → List ℕ
+unfolding fresh sevens tetrahedron
+boxesRefused = map (λ b. refusalAfter (loads 1 tetrahedron ∷ []) (changes (refinesInBox b (sevens 6 9))) small)
+
 -- The first k pairs of triangles of a double pyramid on n sides: its apexes are n and n + 1.
 unfoldable pub pyramids : ℕ → ℕ → List ℕ
 pyramids n zero = []
@@ -116,10 +127,22 @@ pub record Table : Type 0 where
   pub n17 : refusalAfter (loads 1 tetrahedron ∷ []) (changes (refinesEach [] (sevens 6 8))) small ≡ 17
   pub tablesBeforeSpares : refusalAfter [] (changes (refinesEach [] (sevens 6 8))) uneven ≡ 1
   pub sparesBeforeSound : refusalAfter [] (changes (refinesEach [] (sevens 5 9))) small ≡ 17
+  -- A generation above 20, and a low coordinate above the high one, after 17 and before 7. A generation of 20 is
+  -- allowed, and so is a box of one point. (Request h)
+  pub n18 : boxesRefused (tooFine ∷ boxOf (pos 1, pos 0, pos 0) zeroPoint 1 ∷ boxOf (pos 0, pos 1, pos 0) zeroPoint 1
+      ∷ boxOf (pos 0, pos 0, pos 1) zeroPoint 1 ∷ []) ≡ 18 ∷ 18 ∷ 18 ∷ 18 ∷ []
+  pub pointIsAllowed : boxesRefused (boxOf (pos 1, pos 1, pos 1) (pos 1, pos 1, pos 1) 20 ∷ []) ≡ 0 ∷ []
+  pub sparesBeforeBox : refusalAfter [] (changes (refinesInBox tooFine (sevens 6 8))) small ≡ 17
+  pub boxBeforeSound : refusalAfter [] (changes (refinesInBox tooFine (sevens 6 9))) small ≡ 18
+  pub soundAfterBox : refusalAfter [] (changes (refinesInBox (boxOf zeroPoint zeroPoint 20) (sevens 6 9))) small ≡ 7
+  -- Generation 19 at the boundary, below 20 and not below 19.
+  pub n9InBox : refusalAfter [] (changes (refinesInBox (boxOf zeroPoint zeroPoint 20) (sevens 5 3))) (shell 19) ≡ 9
+  pub nineteenIsLeft : refusalAfter [] (changes (refinesInBox (boxOf zeroPoint zeroPoint 19) (sevens 5 3))) (shell 19)
+      ≡ 0
 
 pub refusals : Table
 unfolding computing fresh sevens small uneven tetrahedron cageAtOrigin triangle hinge foilCage foilLast foilFirst tooFar
-    grown shell doublePyramid
+    grown shell tooFine boxesRefused doublePyramid
 refusals = record {
   n1 = refl;
   n2 = refl;
@@ -154,4 +177,11 @@ refusals = record {
   n17 = refl;
   tablesBeforeSpares = refl;
   sparesBeforeSound = refl;
+  n18 = refl;
+  pointIsAllowed = refl;
+  sparesBeforeBox = refl;
+  boxBeforeSound = refl;
+  soundAfterBox = refl;
+  n9InBox = refl;
+  nineteenIsLeft = refl;
 }

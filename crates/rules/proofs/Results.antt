@@ -2,10 +2,12 @@
 use mathlib.Core.Path.{_≡_}
 use mathlib.Core.Logic.{_≢_, _↔_}
 use mathlib.Core.List.{List, [], _∷_, _++_}
-use Prim.Native.Nat.{ℕ, _-_, _*_, _%_, _≤_, _<_}
+use Prim.Native.Nat.{ℕ, _+_, _-_, _*_, _%_, _≤_, _<_}
 use lib.Dec.{T}
 use lib.IntN.{ℤ, pos, natAbs, _-ℤ_, _*ℤ_}
 use lib.ListN.{length}
+use Rattle.rules.proofs.Boxes.BoxCall.{box-refusal, box-makes, box-refused-first, box-stops, fails-same}
+use Rattle.rules.proofs.Boxes.BoxCall.{box-in-spares, nothing-wanted, box-twice, turn-takes}
 use Rattle.rules.proofs.Calls.CallRefusals.{load-refusal, refine-refusal, whole-step-refusal, ring-refusal}
 use Rattle.rules.proofs.Calls.CallRefusals.{position-refusal, limit-refusal, taken-at-boundary}
 use Rattle.rules.proofs.Calls.EveryCall.{refused-is, no-ten}
@@ -26,6 +28,7 @@ use Rattle.rules.proofs.Rings.RingTheory.{ring-makes}
 use Rattle.rules.proofs.Numbers.Rounding.{nearest-third, nearest-third-only, rounded-nearest, nearest-only}
 use Rattle.rules.proofs.Soundness.SoundTest.{sound-is}
 use Rattle.rules.proofs.Spares.Adds.{refine-adds}
+use Rattle.rules.specs.Boxes.{Box, refineInBox, boxRefusal, boxCall}
 use Rattle.rules.specs.Cage.{Cage, cageOf, loaded, someInnerOfTwo}
 use Rattle.rules.specs.Calls.{outcomeOf, worked, loadCall, refineCall, wholeStepCall, ringRead, ringCall}
 use Rattle.rules.specs.Calls.{positionRead, positionCall, limitRead, limitCall, splitsOf}
@@ -33,8 +36,8 @@ use Rattle.rules.specs.Calls.{rimSplitsOf, verticesOf, trianglesOf, spar
 use Rattle.rules.specs.Conditions.{SidesDiffer, EndsAtBoundary, OddInChain, First, loadConditions}
 use Rattle.rules.specs.Conditions.{refineConditions, wholeStepConditions, limitConditions, ringConditions}
 use Rattle.rules.specs.Conditions.{positionConditions, listConditions, Takes, FailsAfter}
-use Rattle.rules.specs.Conditions.{SizesFit, CornersFit, FansFit}
-use Rattle.rules.specs.Conditions.{InnerOfTwo, SomeInnerOfTwo}
+use Rattle.rules.specs.Conditions.{SizesFit, CornersFit, FansFit, InnerOfTwo, SomeInnerOfTwo, TooOld}
+use Rattle.rules.specs.Conditions.{TooFewSlots, BoxFits, Wanted, LowestWanted, TurnFails, boxConditions}
 use Rattle.rules.specs.History.{Call, outcome, after, lastLoad, nothing, cage, EveryHistory}
 use Rattle.rules.specs.Lists.{Progress, begun, handleAll, refineEach, sparesRefusal, allOrNothing}
 use Rattle.rules.specs.Lists.{listCall, previewCall}
@@ -42,6 +45,7 @@ use Rattle.rules.specs.Mirror.{mirror, mirrorOutcome, Mirrors, Rounds, M
 use Rattle.rules.specs.Numbers.{nearestThird, rounded}
 use Rattle.rules.specs.Promises.{Nearest, Matches, Loaded, ChainFalls, RefineMakes, added, StepMakes, LimitMakes}
 use Rattle.rules.specs.Promises.{refusedAs, AgreeInUse, RingMakes, kobbelt, ListMakes, SameWork, BackToBack}
+use Rattle.rules.specs.Promises.{BoxMakes}
 use Rattle.rules.specs.Sound.{Sound, isSound}
 use Rattle.rules.specs.Spares.{Spares, copied, meshIn, SameSizes}
 use Rattle.rules.specs.Split.{Work, atFirst, chainOdd, refine}
@@ -106,13 +110,18 @@ pub list-returns : (list : List ℕ) (spares : Spares) (m : Mesh)
     → First (listConditions list spares m) (listCall list spares m .answer .refusal)
 list-returns = list-refusal
 
+-- So does a box: after 1, 17, 18 and 7 that is what its failing turn is refused with.
+pub box-returns : (b : Box) (spares : Spares) (m : Mesh)
+    → First (boxConditions b spares m) (boxCall b spares m .answer .refusal)
+box-returns = box-refusal
+
 -- No call returns 10, on any content of the tables: a base chain that ends at the boundary is split there. (Request b)
 pub never-ten : (c : Call) (m : Mesh) → outcome c m .answer .refusal ≢ 10
 never-ten = no-ten
 
 -- A refused call answers its number with zeros and the counts as they stood, and leaves the mesh and what it is lent;
--- of spare tables that a list was worked in, the slots in use of the last good mesh hold that, the others keep their
--- content, and the answer tells of them.
+-- of spare tables that were worked in, the slots in use of the last good mesh hold that, the others keep their content,
+-- and the answer tells of them.
 pub refusal-leaves : (c : Call) (m : Mesh) → outcome c m .answer .refusal ≢ 0
     → outcome c m ≡ refusedAs c (outcome c m .answer .refusal) m
 refusal-leaves = refused-is
@@ -274,6 +283,64 @@ list-after-preview = list-after
 pub preview-repeats : (list : List ℕ) (spares : Spares) (m : Mesh)
     → previewCall list (previewCall list spares m .room .spares) m ≡ previewCall list spares m
 preview-repeats = preview-again
+
+-- ---- a box (Request h)
+
+-- A box that is carried out answers and leaves what its turns make, each a refine of the lowest triangle below the
+-- generation with a corner in it; their splits and flips are added up (list-sums). Then no such triangle is left, which
+-- is what the engraver relies on.
+pub box-carried : (b : Box) (spares : Spares) (m : Mesh) → boxCall b spares m .answer .refusal ≡ 0
+    → let p = refineInBox b m in
+    (boxCall b spares m ≡ allOrNothing 0 p spares m) × BoxMakes b m p
+box-carried = box-makes
+
+-- One that is refused with 1, 17, 18 or 7, which `boxRefusal` computes, answers zeros and leaves the spare tables too.
+pub box-refused : (b : Box) (spares : Spares) (m : Mesh) → boxRefusal b spares m ≢ 0
+    → boxCall b spares m ≡ refusedWith (boxRefusal b spares m) m (spareRoom spares)
+box-refused = box-refused-first
+
+-- One that is refused after 7 tells after how many turns, and leaves the mesh, and in the spare tables what these made.
+-- The next triangle fails, and is not skipped.
+pub box-stopped : (b : Box) (spares : Spares) (m : Mesh) → SameSizes spares m → BoxFits b → Sound m
+    → boxCall b spares m .answer .refusal ≢ 0
+    → let p = refineInBox b m in
+    (boxCall b spares m ≡ allOrNothing (p .refusal) p spares m) × TurnFails b m (p .handled) (p .work) (p .refusal)
+box-stopped = box-stops
+
+-- The turn that fails is the one computed, and so is its number.
+pub box-fails-once : {b : Box} {m : Mesh} {k n : ℕ} {w : Work} → Sound m → TurnFails b m k w n →
+    let p = refineInBox b m in
+    (k ≡ p .handled) × (n ≡ p .refusal)
+box-fails-once {b} {m} S = fails-same b m S
+
+-- After 7, carried out or refused, the spare tables hold what the turns made of the mesh, and it is sound there; their
+-- other slots keep their content.
+pub box-held : (b : Box) (spares : Spares) (m : Mesh) → SameSizes spares m → BoxFits b → Sound m
+    → let n = refineInBox b m .work .mesh in
+    (boxCall b spares m .room ≡ spareRoom (copied n spares)) × Sound (meshIn (copied n spares) n)
+box-held = box-in-spares
+
+-- Where no triangle below the generation has a corner in the box, it is carried out, with zeros: the mesh stands, and
+-- the spare tables hold it. So it is with generation 0.
+pub box-nothing : (b : Box) (spares : Spares) (m : Mesh) → SameSizes spares m → BoxFits b → Sound m
+    → ((t : ℕ) → t < m .topology .triangles → ¬ Wanted b m t)
+    → boxCall b spares m ≡ allOrNothing 0 (begun m) spares m
+box-nothing = nothing-wanted
+
+-- So it is where the box was carried out before.
+pub box-again : (b : Box) (s t : Spares) (m : Mesh) → boxCall b s m .answer .refusal ≡ 0 →
+    let n = boxCall b s m .mesh in
+    SameSizes t n → boxCall b t n ≡ allOrNothing 0 (begun n) t n
+box-again = box-twice
+
+-- Each turn raises the triangle that it refines and takes two triangle slots at least, so that the turns end
+-- (box-carried, box-stopped).
+pub box-turn : {b : Box} {t : ℕ} {m : Mesh} → Sound m → LowestWanted b m t → ¬ TooOld (m .topology) t
+    → ¬ TooFewSlots t m →
+    let n = refine t (atFirst m) .mesh in
+    (generation (m .topology) t < generation (n .topology) t)
+    × (m .topology .triangles + 2 ≤ n .topology .triangles)
+box-turn = turn-takes
 
 -- ---- whole step (Whole step)
 

@@ -18,9 +18,9 @@ use Rattle.rules.specs.Tables.{Topology, Mesh, tablesAgree, vertexSlots,
 use Rattle.rules.specs.Tables.{generation, odd, coordinate, withRule}
 
 -- What a call answers: the number of its refusal, 0 for none, the splits and flips that it made, the length of a ring,
--- a position, and the counts: V, F and the rule; and of work in spare tables (request e) how many entries of a list
--- succeeded, and the counts of the mesh in them. A preview (request f) answers what its list would. The calls build it
--- by `answerOf` and `sparesAnswer` alone.
+-- a position, and the counts: V, F and the rule; and of work in spare tables (requests e, h) how many entries of a
+-- list, or turns of a box, succeeded, and the counts of the mesh in them. A preview (request f) answers what its list
+-- would. The calls build it by `answerOf` and `sparesAnswer` alone.
 pub record Answer : Type 0 where
   pub refusal : ℕ
   pub splits : ℕ

@@ -5,6 +5,8 @@ use mathlib.Core.Logic.{_≢_, _⊎_}
 use mathlib.Core.Path.{_≡_}
 use lib.IntN.{ℤ}
 use lib.ListN.{length}
+use lib.Signed.{_≤ℤ_}
+use Rattle.rules.specs.Boxes.{Box}
 use Rattle.rules.specs.Cage.{Cage, cageOf, loaded}
 use Rattle.rules.specs.Numbers.{InRange, KnownRule}
 use Rattle.rules.specs.Ring.{OnBoundary, triangleCount, ring}
@@ -12,7 +14,7 @@ use Rattle.rules.specs.Sound.{OneFan, Sound}
 use Rattle.rules.specs.Spares.{Spares, SameSizes}
 use Rattle.rules.specs.Split.{Work, atFirst, refine}
 use Rattle.rules.specs.Tables.{Topology, Mesh, TablesAgree, vertexSlots, triangleSlots, sides, next, link}
-use Rattle.rules.specs.Tables.{boundary, generation}
+use Rattle.rules.specs.Tables.{boundary, generation, origin, coordinate}
 
 -- ---- a cage
 
@@ -88,6 +90,11 @@ pub record RoomFor (v f : ℕ) (m : Mesh) : Type 0 where
 abbrev pub TooFewSlots : ℕ → Mesh → Type 0
 TooFewSlots t m = (s : ℕ) × (q : ℕ) × Takes (m .topology) t s q × (¬ RoomFor (s + q) (2 * s) m)
 
+-- What a refine of a triangle in use of a sound mesh fails with.
+pub data RefineFails (t : ℕ) (m : Mesh) : ℕ → Type 0 where
+  old : TooOld (m .topology) t → RefineFails t m 9
+  crowded : ¬ TooOld (m .topology) t → TooFewSlots t m → RefineFails t m 11
+
 -- Not 12: no side is on the boundary, and all triangles are of one even generation.
 pub record ClosedEven (m : Topology) : Type 0 where
   pub closed : (h : ℕ) → h < sides m → link m h ≢ boundary
@@ -106,12 +113,11 @@ abbrev pub Risen : Mesh → ℕ → Mesh → Type 0
 Risen start t m = generation (start .topology) t < generation (m .topology) t
 
 -- What entry t fails with at its turn, on m: it was not in use at the call's start; or it was, has not risen since, and
--- its refine is refused.
+-- its refine fails.
 pub data EntryFails (start : Mesh) (t : ℕ) (m : Mesh) : ℕ → Type 0 where
   notInUse : ¬ (t < start .topology .triangles) → EntryFails start t m 8
-  old : t < start .topology .triangles → ¬ Risen start t m → TooOld (m .topology) t → EntryFails start t m 9
-  crowded : t < start .topology .triangles → ¬ Risen start t m → ¬ TooOld (m .topology) t → TooFewSlots t m
-      → EntryFails start t m 11
+  notRefined : {n : ℕ} → t < start .topology .triangles → ¬ Risen start t m → RefineFails t m n
+      → EntryFails start t m n
 
 -- Work w with these entries handled in order, none of which fails, is x.
 pub data Handled (start : Mesh) : List ℕ → Work → Work → Type 0 where
@@ -135,6 +141,54 @@ pub record FailsAfter (list : List ℕ) (m : Mesh) (k : ℕ) (w : Work) (n : ℕ
 -- The first entry that fails does so with n.
 abbrev pub FailsWith : ℕ → List ℕ → Mesh → Type 0
 FailsWith n list m = (k : ℕ) × (w : Work) × FailsAfter list m k w n
+
+-- ---- a box (Request h)
+
+-- x lies between the two, or is one of them.
+abbrev pub Between : ℤ → ℤ → ℤ → Type 0
+Between low high x = (low ≤ℤ x) × (x ≤ℤ high)
+
+-- Not 18: the generation is at most 20, and no low coordinate is above the high one.
+pub record BoxFits (b : Box) : Type 0 where
+  pub below : b .below ≤ 20
+  pub x : b .low .0 ≤ℤ b .high .0
+  pub y : b .low .1 ≤ℤ b .high .1
+  pub z : b .low .2 ≤ℤ b .high .2
+
+-- Vertex v lies in the box, its faces included.
+pub record InBox (b : Box) (m : Mesh) (v : ℕ) : Type 0 where
+  pub x : Between (b .low .0) (b .high .0) (coordinate m v 0)
+  pub y : Between (b .low .1) (b .high .1) (coordinate m v 1)
+  pub z : Between (b .low .2) (b .high .2) (coordinate m v 2)
+
+-- Triangle t is below the generation, and has a corner in the box.
+pub record Wanted (b : Box) (m : Mesh) (t : ℕ) : Type 0 where
+  pub below : generation (m .topology) t < b .below
+  pub corner : (i : ℕ) × (i < 3) × InBox b m (origin (m .topology) (3 * t + i))
+
+-- t is the lowest such slot in use.
+pub record LowestWanted (b : Box) (m : Mesh) (t : ℕ) : Type 0 where
+  pub inUse : t < m .topology .triangles
+  pub wanted : Wanted b m t
+  pub lowest : (s : ℕ) → s < t → ¬ Wanted b m s
+
+-- Work w with k turns of the box, none of which fails, is x: in each the lowest such triangle is refined.
+pub data Turns (b : Box) : ℕ → Work → Work → Type 0 where
+  noTurn : {w : Work} → Turns b 0 w w
+  oneTurn : {t k : ℕ} {w x : Work} → LowestWanted b (w .mesh) t
+      → ¬ TooOld (w .mesh .topology) t → ¬ TooFewSlots t (w .mesh)
+      → Turns b k (refine t w) x → Turns b (suc k) w x
+
+-- After k turns, which make w, the lowest such triangle fails with n. It is not skipped.
+pub record TurnFails (b : Box) (m : Mesh) (k : ℕ) (w : Work) (n : ℕ) : Type 0 where
+  pub turns : Turns b k (atFirst m) w
+  pub triangle : ℕ
+  pub next : LowestWanted b (w .mesh) triangle
+  pub fails : RefineFails triangle (w .mesh) n
+
+-- Some turn fails with n.
+abbrev pub SomeTurnFails : ℕ → Box → Mesh → Type 0
+SomeTurnFails n b m = (k : ℕ) × (w : Work) × TurnFails b m k w n
 
 -- ---- the first that holds
 
@@ -213,3 +267,14 @@ listConditions list spares m =
     ∷ 17 when (¬ SameSizes spares m)
     ∷ 7 when (¬ Sound m)
     ∷ entryConditions list m
+
+-- One turn at most fails, and with one number, so the order of 9 and 11 decides nothing.
+abbrev pub boxConditions : Box → Spares → Mesh → List Condition
+boxConditions b spares m =
+    1 when (¬ TablesAgree m)
+    ∷ 17 when (¬ SameSizes spares m)
+    ∷ 18 when (¬ BoxFits b)
+    ∷ 7 when (¬ Sound m)
+    ∷ 9 when SomeTurnFails 9 b m
+    ∷ 11 when SomeTurnFails 11 b m
+    ∷ []

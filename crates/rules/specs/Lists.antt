@@ -10,18 +10,18 @@ use Rattle.rules.specs.Spares.{Spares, copied, sameSizes}
 use Rattle.rules.specs.Split.{Work, atFirst, refine}
 use Rattle.rules.specs.Tables.{Mesh, tablesAgree, generation}
 
--- How far a list has been handled: the work that its entries made, how many of them succeeded, and the number that the
--- next one failed with, 0 for none.
+-- How far a list has been handled, or a box (request h): the work that its entries, or turns, made, how many of them
+-- succeeded, and the number that the next one failed with, 0 for none.
 pub record Progress : Type 0 where
   pub work : Work
   pub handled : ℕ
   pub refusal : ℕ
 
--- No entry handled yet.
+-- None yet.
 abbrev pub begun : Mesh → Progress
 begun m = record { work = atFirst m; handled = 0; refusal = 0 }
 
--- One entry more: where n is 0 it succeeds and leaves w, and else it fails with n.
+-- One more: where n is 0 it succeeds and leaves w, and else it fails with n.
 abbrev pub goesOn : ℕ → Work → Progress → Progress
 goesOn zero w p = record { work = w; handled = suc (p .handled); refusal = 0 }
 goesOn (suc n) w p = record { work = p .work; handled = p .handled; refusal = suc n }
@@ -84,7 +84,7 @@ sparesAnswer refusal splits flips m handled n = record {
 }
 
 -- All or nothing: after a failure the mesh stands. The slots in use of the spare tables hold the mesh after the last
--- entry that succeeded, in either case, and their other slots keep their content.
+-- entry, or turn, that succeeded, in either case, and their other slots keep their content.
 abbrev pub allOrNothing : ℕ → Progress → Spares → Mesh → Outcome
 allOrNothing zero p spares m =
     let n = p .work .mesh in

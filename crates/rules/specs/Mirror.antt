@@ -7,10 +7,11 @@ use lib.Dec.{eqb}
 use lib.IntN.{ℤ, pos, negℤ}
 use lib.ListN.{length, getD}
 use Rattle.rules.specs.Below.{fill}
+use Rattle.rules.specs.Boxes.{Box}
 use Rattle.rules.specs.Cage.{cageOf}
 use Rattle.rules.specs.Calls.{Answer, Room, Outcome, outcomeOf}
-use Rattle.rules.specs.History.{Call, changes, asks, loads, refines, steps, refinesEach, ringOf, positionOf}
-use Rattle.rules.specs.History.{limitsOf, previewOf, outcome}
+use Rattle.rules.specs.History.{Call, changes, asks, loads, refines, steps, refinesEach, refinesInBox, ringOf}
+use Rattle.rules.specs.History.{positionOf, limitsOf, previewOf, outcome}
 use Rattle.rules.specs.Spares.{Spares}
 use Rattle.rules.specs.Tables.{Mesh, withPositions}
 
@@ -53,6 +54,20 @@ mirrorSpares k s = record {
   generations = s .generations;
 }
 
+-- A box: coordinate k of its corners is negated, and there low and high change places. Among the numbers of four bytes
+-- the least has no opposite.
+abbrev pub mirrorCorner : ℕ → ℤ × ℤ × ℤ → ℤ × ℤ × ℤ → ℤ × ℤ × ℤ
+mirrorCorner k this that =
+    let at : ℕ → ℤ → ℤ → ℤ = λ j x y. elim (eqb j k) [ true ↦ negℤ y | false ↦ x ] in
+    (at 0 (this .0) (that .0), at 1 (this .1) (that .1), at 2 (this .2) (that .2))
+
+abbrev pub mirrorBox : ℕ → Box → Box
+mirrorBox k b = record {
+  low = mirrorCorner k (b .low) (b .high);
+  high = mirrorCorner k (b .high) (b .low);
+  below = b .below;
+}
+
 abbrev pub mirrorRoom : ℕ → Room → Room
 mirrorRoom k r = record {
   buffer = r .buffer;
@@ -81,6 +96,8 @@ pub data Mirrors (k : ℕ) : Call → Call → Type 0 where
   step : Mirrors k (changes steps) (changes steps)
   list : {entries : List ℕ} {spares : Spares}
       → Mirrors k (changes (refinesEach entries spares)) (changes (refinesEach entries (mirrorSpares k spares)))
+  box : {b : Box} {spares : Spares}
+      → Mirrors k (changes (refinesInBox b spares)) (changes (refinesInBox (mirrorBox k b) (mirrorSpares k spares)))
   ring : {v : ℕ} {buffer : List ℕ} → Mirrors k (asks (ringOf v buffer)) (asks (ringOf v buffer))
   position : {v : ℕ} → Mirrors k (asks (positionOf v)) (asks (positionOf v))
   limit : {table : List ℤ} → Mirrors k (asks (limitsOf table)) (asks (limitsOf (mirrorTable k table)))

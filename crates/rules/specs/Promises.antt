@@ -9,13 +9,14 @@ use lib.IntN.{ℤ, pos, natAbs, _+ℤ_, _-ℤ_, _*ℤ_}
 use lib.ListN.{length, getD, drop}
 use lib.Signed.{_≤ℤ_, _<ℤ_}
 use Rattle.rules.specs.Below.{total}
+use Rattle.rules.specs.Boxes.{Box, refineInBox, boxRefusal}
 use Rattle.rules.specs.Calls.{Outcome, outcomeOf, noRoom, ringRoom, tableRoom, spareRoom, refusedWith, worked}
 use Rattle.rules.specs.Calls.{splitsOf, rimSplitsOf}
 use Rattle.rules.specs.Cage.{Cage}
-use Rattle.rules.specs.Conditions.{InnerOfTwo, Risen, Handled}
-use Rattle.rules.specs.History.{Call, changes, asks, loads, refines, steps, refinesEach, ringOf, positionOf}
-use Rattle.rules.specs.History.{limitsOf, previewOf, ReportsSplits, edges, cageEdges}
-use Rattle.rules.specs.Lists.{refineEach, sparesRefusal, sparesAnswer}
+use Rattle.rules.specs.Conditions.{InnerOfTwo, Risen, Handled, Wanted, Turns}
+use Rattle.rules.specs.History.{Call, changes, asks, loads, refines, steps, refinesEach, refinesInBox, ringOf}
+use Rattle.rules.specs.History.{positionOf, limitsOf, previewOf, ReportsSplits, edges, cageEdges}
+use Rattle.rules.specs.Lists.{Progress, refineEach, sparesRefusal, sparesAnswer}
 use Rattle.rules.specs.Numbers.{InRange, weight}
 use Rattle.rules.specs.Ring.{OnBoundary, triangleCount, firstSide, fan, ring}
 use Rattle.rules.specs.Sound.{Sound}
@@ -52,24 +53,31 @@ pub record SamePast (m n : Mesh) : Type 0 where
 
 -- ---- refusals (Refused inputs, below the table)
 
--- A list refused with n. Where 1, 17 or 7 refuses, all that is lent is left; where an entry fails, the spare tables
--- hold what the entries before it made, and the answer tells of them. (Request e)
-abbrev pub refusedList : List ℕ → Spares → ℕ → Mesh → Outcome
-refusedList list spares n m = elim (sparesRefusal spares m) [
+-- A call that works in spare tables, refused with n. Where `first`, which is what refuses it before the work, is not 0,
+-- all that is lent is left. Where it is 0, the work p failed half way: the spare tables hold what was made until then,
+-- and the answer tells of them. (Requests e, h)
+abbrev pub refusedWork : ℕ → Progress → Spares → ℕ → Mesh → Outcome
+refusedWork first p spares n m = elim first [
   | zero ↦
-      let p = refineEach list m in
       let made = p .work .mesh in
       outcomeOf (sparesAnswer n 0 0 m (p .handled) made) m (spareRoom (copied made spares))
   | suc k ↦ refusedWith n m (spareRoom spares)
 ]
 
+abbrev pub refusedList : List ℕ → Spares → ℕ → Mesh → Outcome
+refusedList list spares n m = refusedWork (sparesRefusal spares m) (refineEach list m) spares n m
+
+abbrev pub refusedBox : Box → Spares → ℕ → Mesh → Outcome
+refusedBox b spares n m = refusedWork (boxRefusal b spares m) (refineInBox b m) spares n m
+
 -- A call refused with n: it answers zeros and the counts as they stand, and leaves the mesh and what it is lent, but
--- spare tables that a list was worked in.
+-- spare tables that it has worked in.
 abbrev pub refusedAs : Call → ℕ → Mesh → Outcome
 refusedAs (changes (loads rule bytes)) n m = refusedWith n m noRoom
 refusedAs (changes (refines t)) n m = refusedWith n m noRoom
 refusedAs (changes steps) n m = refusedWith n m noRoom
 refusedAs (changes (refinesEach list spares)) n m = refusedList list spares n m
+refusedAs (changes (refinesInBox b spares)) n m = refusedBox b spares n m
 refusedAs (asks (ringOf v buffer)) n m = refusedWith n m (ringRoom buffer)
 refusedAs (asks (positionOf v)) n m = refusedWith n m noRoom
 refusedAs (asks (limitsOf table)) n m = refusedWith n m (tableRoom table)
@@ -207,6 +215,25 @@ pub record ListMakes (list : List ℕ) (m : Mesh) (w : Work) : Type 0 where
       → getD (w .mesh .positions) i (pos 0) ≡ getD (m .positions) i (pos 0)
   pub rule : w .mesh .rule ≡ m .rule
   pub past : SamePast m (w .mesh)
+
+-- ---- a box (Request h)
+
+-- What a box that is carried out makes of a mesh.
+pub record BoxMakes (b : Box) (m : Mesh) (p : Progress) : Type 0 where
+  pub sound : Sound (p .work .mesh)
+  pub turns : Turns b (p .handled) (atFirst m) (p .work)
+  -- What the engraver relies on: no triangle below the generation has a corner in the box.
+  pub noneLeft : (t : ℕ) → t < p .work .mesh .topology .triangles → ¬ Wanted b (p .work .mesh) t
+  pub triangles : p .work .mesh .topology .triangles ≡ m .topology .triangles + 2 * p .work .splits
+  -- Each turn makes a split at least.
+  pub splits : p .handled ≤ p .work .splits
+  pub still : Still (m .topology) (p .work .mesh .topology)
+  pub oldVertices : (i : ℕ) → i < 3 * m .topology .vertices
+      → getD (p .work .mesh .positions) i (pos 0) ≡ getD (m .positions) i (pos 0)
+  pub rule : p .work .mesh .rule ≡ m .rule
+  pub past : SamePast m (p .work .mesh)
+
+-- ---- a list foreseen, and calls compared
 
 -- The tables have what m has in every entry in use. (Request f)
 pub record AgreeInUse (s : Spares) (m : Mesh) : Type 0 where

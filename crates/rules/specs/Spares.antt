@@ -1,4 +1,4 @@
--- Spare tables, lent for working in. (Request e)
+-- Spare tables, lent for working in. (Requests e, f, h)
 use Prim.Native.Nat.{ℕ, _*_}
 use mathlib.Core.Bool.{Bool, _&&_}
 use mathlib.Core.List.{List, []}

@@ -3,7 +3,7 @@ use Prim.Native.Nat.{ℕ, suc, _+_, _*_, _%_, _≤_, _<_}
 use mathlib.Core.List.{List, [], _∷_}
 use mathlib.Core.Path.{_≡_}
 use lib.IntN.{ℤ}
-use lib.ListN.{getD}
+use lib.ListN.{length, getD}
 use Rattle.rules.proofs.Chains.Remembered.{chainAt}
 use Rattle.rules.specs.Calls.{rimSplitsOf}
 use Rattle.rules.specs.Conditions.{RoomFor}
@@ -111,3 +111,4 @@ pub record BaseChain (m : Topology) (t : ℕ) (c : Chain) : Type 0 where
   pub end : c .end ≡ chainEnd m t
   pub rim : c .rim ≡ rimSplitsOf m t
   pub slots : (i : ℕ) → i < c .odd → getD (c .slots) i 0 ≡ chainAt i m t
+  pub room : length (c .slots) ≡ 20

@@ -1,5 +1,5 @@
 -- What a call that is carried out has found, and what it makes of the mesh.
-use mathlib.Core.Path.{_≡_, _∙_}
+use mathlib.Core.Path.{_≡_, refl, _∙_}
 use mathlib.Core.Logic.{_≢_, inl, inr}
 use mathlib.Core.List.{List}
 use Prim.Native.Nat.{ℕ, _*_, _<_}
@@ -18,7 +18,8 @@ use Rattle.rules.specs.Cage.{Cage, cageOf}
 use Rattle.rules.specs.Calls.{splitsOf, loadRefusal, refineRefusal, wholeStepRefusal, rimSplitsOf, verticesOf}
 use Rattle.rules.specs.Calls.{trianglesOf}
 use Rattle.rules.specs.Conditions.{SizesFit, CornersFit, RoomFor, ClosedEven, CoordinatesFit, SidesDiffer}
-use Rattle.rules.specs.Conditions.{FansFit, SomeInnerOfTwo, TooOld}
+use Rattle.rules.specs.Conditions.{FansFit, SomeInnerOfTwo, TooOld, TooFewSlots, RefineFails, old, crowded}
+use Rattle.rules.specs.Conditions.{First, this, later, none, refineConditions}
 use Rattle.rules.specs.Numbers.{KnownRule}
 use Rattle.rules.specs.Promises.{StepMakes}
 use Rattle.rules.specs.Sound.{Sound}
@@ -65,17 +66,51 @@ pub record RefineFound (t : ℕ) (m : Mesh) : Type 0 where
   pub young : ¬ TooOld (m .topology) t
   pub room : RoomFor (verticesOf (m .topology) t) (trianglesOf (m .topology) t) m
 
+pub may-refine : {t : ℕ} {m : Mesh} → Sound m → t < m .topology .triangles → ¬ TooOld (m .topology) t
+    → ¬ TooFewSlots t m → RefineFound t m
+may-refine {t} {m} S u y f = record {
+  sound = S;
+  inUse = u;
+  young = y;
+  room = stable (room-is _ _ m) (λ n. f (_, _, chain-takes t m S u, n));
+}
+
 pub refine-found : (t : ℕ) (m : Mesh) → refineRefusal t m ≡ 0 → RefineFound t m
 refine-found t m z =
     let (_, (s, (i, (n, (r, _))))) = none-hold (refine-refusal-first t m) z tt in
-    let S = stable (sound-is m) s in
-    let u : t < m .topology .triangles = stable (is-lt t (m .topology .triangles)) i in
-    record {
-      sound = S;
-      inUse = u;
-      young = n;
-      room = stable (room-is _ _ m) (λ n. r (_, _, chain-takes t m S u, n));
-    }
+    may-refine (stable (sound-is m) s) (stable (is-lt t (m .topology .triangles)) i) n r
+
+-- A triangle in use of a sound mesh: its refine fails with n, or n is 0 and it may be refined.
+pub data Tried (t : ℕ) (m : Mesh) : ℕ → Type 0 where
+  cannot : {n : ℕ} → RefineFails t m n → Tried t m n
+  can : ¬ TooFewSlots t m → RefineFound t m → Tried t m 0
+
+pub refine-tried : (t : ℕ) (m : Mesh) → Sound m → t < m .topology .triangles → Tried t m (refineRefusal t m)
+refine-tried t m S u = go refl (refine-refusal-first t m)
+  where
+    go : {n : ℕ} → refineRefusal t m ≡ n → First (refineConditions t m) n → Tried t m n
+    go e (this p) = absurd (p (S .tables))
+    go e (later _ (this p)) = absurd (p S)
+    go e (later _ (later _ (this p))) = absurd (p u)
+    go e (later _ (later _ (later _ (this p)))) = cannot (old p)
+    go e (later _ (later _ (later _ (later o (this p))))) = cannot (crowded o p)
+    go e (later _ (later _ (later _ (later o (later f none))))) = can f (refine-found t m e)
+
+-- It fails with one number, which is not 0.
+pub fails-once : {t n k : ℕ} {m : Mesh} → RefineFails t m n → RefineFails t m k → n ≡ k
+fails-once (old o) (old p) = refl
+fails-once (old o) (crowded y f) = absurd (y o)
+fails-once (crowded y f) (old o) = absurd (y o)
+fails-once (crowded y f) (crowded z g) = refl
+
+pub fails-positive : {t n : ℕ} {m : Mesh} → RefineFails t m n → n ≢ 0
+fails-positive (old o) = λ z. omega arith
+fails-positive (crowded y f) = λ z. omega arith
+
+-- What may be refined does not fail.
+pub cannot-fail : {t n : ℕ} {m : Mesh} → ¬ TooOld (m .topology) t → ¬ TooFewSlots t m → ¬ RefineFails t m n
+cannot-fail y f (old o) = y o
+cannot-fail y f (crowded _ g) = f g
 
 -- Its generation is below 20.
 pub found-young : {t : ℕ} {m : Mesh} → RefineFound t m → generation (m .topology) t < 20

@@ -32,7 +32,7 @@ first-before rest (later q f) z = later q (first-before rest f z)
 -- ---- no condition holds
 
 -- No number of the list is 0.
-abbrev positive : List Condition → Bool
+abbrev pub positive : List Condition → Bool
 positive [] = true
 positive (n when P ∷ rest) = ltb 0 n && positive rest
 

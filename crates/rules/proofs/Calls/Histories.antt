@@ -9,6 +9,7 @@ use lib.Dec.{eqb}
 use borrow.Author.Tests.{ne-eqb}
 use Rattle.rules.proofs.Splits.Bases.{reached}
 use Rattle.rules.proofs.Loads.CageEdges.{load-characteristic}
+use Rattle.rules.proofs.Boxes.BoxCall.{box-keeps}
 use Rattle.rules.proofs.Calls.CallRefusals.{load-judged, refine-judged, whole-step-judged}
 use Rattle.rules.proofs.Calls.EveryCall.{question-stands}
 use Rattle.rules.proofs.Chains.Going.{Going, going-begins, going-on, same-characteristic}
@@ -27,8 +28,8 @@ use Rattle.rules.specs.Cage.{cageOf, loaded}
 use Rattle.rules.specs.Calls.{Room, noRoom, Outcome, worked, loadRefusal, refineCall, rimSplitsOf}
 use Rattle.rules.specs.Conditions.{OddInChain, atEven, atBoundary, onward, EndsAtBoundary, Takes, evenEnd}
 use Rattle.rules.specs.Conditions.{boundaryEnd, SizesFit, SomeInnerOfTwo}
-use Rattle.rules.specs.History.{Near, ReportsSplits, Kept, loads, refines, steps, refinesEach, Call, changes}
-use Rattle.rules.specs.History.{asks}
+use Rattle.rules.specs.History.{Near, ReportsSplits, Kept, loads, refines, steps, refinesEach, refinesInBox, Call}
+use Rattle.rules.specs.History.{changes, asks}
 use Rattle.rules.specs.History.{LastLoad, nothing, cage, outcome, after, opens, lastLoad, edges, characteristic}
 use Rattle.rules.specs.History.{cageCharacteristic, EveryHistory}
 use Rattle.rules.specs.Promises.{StepMakes}
@@ -120,6 +121,9 @@ keeps (changes steps) m = record {
 }
 keeps (changes (refinesEach list spares)) m = record {
   holds = λ a h. list-keeps list spares m (Holds a) h (λ G. holds-on a (going-stays G) h);
+}
+keeps (changes (refinesInBox b spares)) m = record {
+  holds = λ a h. box-keeps b spares m (Holds a) h (λ G. holds-on a (going-stays G) h);
 }
 keeps (asks q) m = record { holds = λ a. subst (Holds a) (sym (question-stands q m)) }
 

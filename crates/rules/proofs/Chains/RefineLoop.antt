@@ -122,7 +122,7 @@ pub record Across (x v : ℕ) (m : Topology) : Type 0 where
   pub next : v ≡ link m (3 * x) / 3
 
 -- The odd triangles before the end of a chain are as many as the splits ahead, where these are two or more.
-path-of-two : {k g t : ℕ} {w : Work} → Ahead (suc (suc k)) g t w
+pub path-of-two : {k g t : ℕ} {w : Work} → Ahead (suc (suc k)) g t w
     → Path (reached w) t (chainEnd (reached w) t) (suc (suc k))
 path-of-two {k} {t = t} {w = w} A =
     let L = A .rising .1 in
@@ -130,7 +130,7 @@ path-of-two {k} {t = t} {w = w} A =
     subst (Path (reached w) t (chainEnd (reached w) t)) e (L .path)
 
 -- After the next split the chain ends at an even triangle.
-path-after : {k g t : ℕ} {w : Work} → Ahead (suc (suc k)) g t w →
+pub path-after : {k g t : ℕ} {w : Work} → Ahead (suc (suc k)) g t w →
     let x = reached (splitAt (chainEnd (reached w) t) w) in
     Path x t (chainEnd x t) (suc k) × (generation x (chainEnd x t) % 2 ≡ 0)
 path-after {k} {t = t} {w = w} A =
@@ -149,7 +149,7 @@ path-after {k} {t = t} {w = w} A =
     )
 
 -- The places of those that a split leaves stay.
-ahead-stays : {g t : ℕ} {w : Work} (k : ℕ) → Ahead (suc k) g t w → (i : ℕ) → i < k
+pub ahead-stays : {g t : ℕ} {w : Work} (k : ℕ) → Ahead (suc k) g t w → (i : ℕ) → i < k
     → chainAt i (reached (splitAt (chainEnd (reached w) t) w)) t ≡ chainAt i (reached w) t
 ahead-stays zero A i b = absurd (omega arith)
 ahead-stays {t = t} {w = w} (suc k) A i b =
@@ -159,7 +159,7 @@ ahead-stays {t = t} {w = w} (suc k) A i b =
     (path-of-two A) (omega arith)
 
 -- The chain then ends across the base of the last of them.
-ahead-across : {k g t : ℕ} {w : Work} → Ahead (suc (suc k)) g t w →
+pub ahead-across : {k g t : ℕ} {w : Work} → Ahead (suc (suc k)) g t w →
     let x = reached (splitAt (chainEnd (reached w) t) w) in
     Across (chainAt k (reached w) t) (chainEnd x t) x
 unfolding chainAt
@@ -244,7 +244,7 @@ pub record NextSplit (v : ℕ) (w : Work) : Type 0 where
   pub room : RoomFor (1 + rimOf (reached w) v) 2 (w .mesh)
 
 module _ {t : ℕ} {m : Mesh} (R : RefineFound t m) where
-  ahead : Ahead (splitsOf (m .topology) t) (generation (m .topology) t) t (atFirst m)
+  pub ahead : Ahead (splitsOf (m .topology) t) (generation (m .topology) t) t (atFirst m)
   ahead = record {
     manifold = sound-manifold (R .sound);
     basesMeet = sound-bases (R .sound);

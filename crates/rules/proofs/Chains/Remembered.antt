@@ -19,7 +19,7 @@ module _ {m : Topology} where
   path-none (ends f) = refl
 
   -- A path of n odd triangles goes on from each of its places.
-  path-from : {t v n : ℕ} (i k : ℕ) → n ≡ i + k → Path m t v n → Path m (chainAt i m t) v k
+  pub path-from : {t v n : ℕ} (i k : ℕ) → n ≡ i + k → Path m t v n → Path m (chainAt i m t) v k
   unfolding chainAt
   path-from {t} {v} zero k e p = let q : 0 + k ≡ k = omega arith in subst (Path m t v) (e ∙ q) p
   path-from (suc i) k e p = path-next (path-from i (suc k) (omega arith) p)

@@ -7,15 +7,15 @@ use Prim.Native.Nat.{ℕ, zero, suc, _+_, _≤_, _<_}
 use native.Mathlib.Omega.{arith}
 use lib.Dec.{leb}
 use lib.ListN.{length, getD}
-use Rattle.rules.proofs.Calls.CallRefusals.{unused-is, refine-refusal-first}
-use Rattle.rules.proofs.Calls.Carried.{RefineFound, refine-found}
+use Rattle.rules.proofs.Calls.CallRefusals.{unused-is}
+use Rattle.rules.proofs.Calls.Carried.{RefineFound, Tried, cannot, can, refine-tried, fails-once, fails-positive}
+use Rattle.rules.proofs.Calls.Carried.{cannot-fail}
 use Rattle.rules.proofs.Chains.Going.{Going, going-begins, going-on, refine-rises}
 use Rattle.rules.proofs.Numbers.Decide.{Decides, is-lt, stable}
 use Rattle.rules.proofs.Splits.Bases.{reached}
 use Rattle.rules.proofs.Splits.Settled.{still-all, still-on}
-use Rattle.rules.specs.Conditions.{TooOld, TooFewSlots, Risen, EntryFails, notInUse, old, crowded, Handled}
-use Rattle.rules.specs.Conditions.{FailsAfter, allDone, passedOver, refined, First}
-use Rattle.rules.specs.Conditions.{this, later, none, refineConditions}
+use Rattle.rules.specs.Conditions.{TooOld, TooFewSlots, Risen, EntryFails, notInUse}
+use Rattle.rules.specs.Conditions.{notRefined, Handled, FailsAfter, allDone, passedOver, refined}
 use Rattle.rules.specs.Calls.{refineRefusal}
 use Rattle.rules.specs.Lists.{Progress, begun, goesOn, risen, entryRefusal}
 use Rattle.rules.specs.Lists.{entryWork, handleUnless, handle, handleAll, refineEach}
@@ -28,7 +28,7 @@ use Rattle.rules.specs.Tables.{Mesh, generation}
 
 -- Entry t at its turn, on the work w: it fails with n, or succeeds and leaves x.
 pub data Turn (start : Mesh) (t : ℕ) (w : Work) : ℕ → Work → Type 0 where
-  fails : {n : ℕ} {x : Work} → EntryFails start t (w .mesh) n → n ≢ 0 → Turn start t w n x
+  fails : {n : ℕ} {x : Work} → EntryFails start t (w .mesh) n → Turn start t w n x
   passes : t < start .topology .triangles → Risen start t (w .mesh) → Turn start t w 0 w
   refines : t < start .topology .triangles → ¬ Risen start t (w .mesh) → ¬ TooFewSlots t (w .mesh)
       → RefineFound t (w .mesh) → Turn start t w 0 (refine t w)
@@ -36,15 +36,10 @@ pub data Turn (start : Mesh) (t : ℕ) (w : Work) : ℕ → Work → Type 0 wher
 module _ (start : Mesh) (t : ℕ) (w : Work) (S : Sound (w .mesh))
     (grown : start .topology .triangles ≤ reached w .triangles) where
   -- The refine of a triangle that was in use at the start and has not risen.
-  refine-turn : t < start .topology .triangles → ¬ Risen start t (w .mesh) → {n : ℕ}
-      → refineRefusal t (w .mesh) ≡ n → First (refineConditions t (w .mesh)) n → Turn start t w n (refine t w)
-  refine-turn l r e (this p) = absurd (p (S .tables))
-  refine-turn l r e (later _ (this p)) = absurd (p S)
-  refine-turn l r e (later _ (later _ (this p))) = absurd (p (omega arith))
-  refine-turn l r e (later _ (later _ (later _ (this p)))) = fails (old l r p) (λ z. omega arith)
-  refine-turn l r e (later _ (later _ (later _ (later o (this p))))) = fails (crowded l r o p) (λ z. omega arith)
-  refine-turn l r e (later _ (later _ (later _ (later o (later f none))))) =
-      refines l r f (refine-found t (w .mesh) e)
+  refine-turn : t < start .topology .triangles → ¬ Risen start t (w .mesh) → {n : ℕ} → Tried t (w .mesh) n
+      → Turn start t w n (refine t w)
+  refine-turn l r (cannot F) = fails (notRefined l r F)
+  refine-turn l r (can f F) = refines l r f F
 
   pub entry-turn : Turn start t w (entryRefusal start t (w .mesh)) (entryWork start t w)
   unfolding entryRefusal entryWork
@@ -56,49 +51,44 @@ module _ (start : Mesh) (t : ℕ) (w : Work) (S : Sound (w .mesh))
           → Decides b (Risen start t (w .mesh))
           → Turn start t w (elim a [ true ↦ 8 | false ↦ elim b [ true ↦ 0 | false ↦ refineRefusal t (w .mesh) ] ])
           (elim b [ true ↦ w | false ↦ refine t w ])
-      go true d b e = fails (notInUse (d .holds tt)) (λ z. omega arith)
+      go true d b e = fails (notInUse (d .holds tt))
       go false d true e = passes (stable (is-lt t (start .topology .triangles)) (d .passes)) (e .holds tt)
       go false d false e =
-          refine-turn (stable (is-lt t (start .topology .triangles)) (d .passes)) (e .passes) refl
-          (refine-refusal-first t (w .mesh))
+          let l = stable (is-lt t (start .topology .triangles)) (d .passes) in
+          refine-turn l (e .passes) (refine-tried t (w .mesh) S (omega arith))
 
 -- An entry has one outcome.
-fails-once : {start m : Mesh} {t n k : ℕ} → EntryFails start t m n → EntryFails start t m k → n ≡ k
-fails-once (notInUse n) (notInUse k) = refl
-fails-once (notInUse n) (old l r o) = absurd (n l)
-fails-once (notInUse n) (crowded l r o f) = absurd (n l)
-fails-once (old l r o) (notInUse n) = absurd (n l)
-fails-once (old l r o) (old l′ r′ o′) = refl
-fails-once (old l r o) (crowded l′ r′ o′ f) = absurd (o′ o)
-fails-once (crowded l r o f) (notInUse n) = absurd (n l)
-fails-once (crowded l r o f) (old l′ r′ o′) = absurd (o o′)
-fails-once (crowded l r o f) (crowded l′ r′ o′ f′) = refl
+entry-fails-once : {start m : Mesh} {t n k : ℕ} → EntryFails start t m n → EntryFails start t m k → n ≡ k
+entry-fails-once (notInUse n) (notInUse k) = refl
+entry-fails-once (notInUse n) (notRefined l r F) = absurd (n l)
+entry-fails-once (notRefined l r F) (notInUse n) = absurd (n l)
+entry-fails-once (notRefined l r F) (notRefined l′ r′ K) = fails-once F K
+
+pub entry-fails-positive : {start m : Mesh} {t n : ℕ} → EntryFails start t m n → n ≢ 0
+entry-fails-positive (notInUse n) = λ z. omega arith
+entry-fails-positive (notRefined l r F) = fails-positive F
 
 module _ {start : Mesh} {t : ℕ} {w : Work} where
   turn-fails : {n k : ℕ} {x : Work} → Turn start t w n x → EntryFails start t (w .mesh) k → n ≡ k
-  turn-fails (fails F n) K = fails-once F K
+  turn-fails (fails F) K = entry-fails-once F K
   turn-fails (passes l r) (notInUse n) = absurd (n l)
-  turn-fails (passes l r) (old l′ n o) = absurd (n r)
-  turn-fails (passes l r) (crowded l′ n o f) = absurd (n r)
+  turn-fails (passes l r) (notRefined l′ n K) = absurd (n r)
   turn-fails (refines l r f F) (notInUse n) = absurd (n l)
-  turn-fails (refines l r f F) (old l′ n o) = absurd (F .young o)
-  turn-fails (refines l r f F) (crowded l′ n o few) = absurd (f few)
+  turn-fails (refines l r f F) (notRefined l′ n K) = absurd (cannot-fail (F .young) f K)
 
   -- It does not fail: it is passed over or refined.
   pub turn-passes : {n : ℕ} {x : Work} → Turn start t w n x → t < start .topology .triangles → Risen start t (w .mesh)
       → (n ≡ 0) × (x ≡ w)
-  turn-passes (fails (notInUse n) z) l r = absurd (n l)
-  turn-passes (fails (old l′ n o) z) l r = absurd (n r)
-  turn-passes (fails (crowded l′ n o f) z) l r = absurd (n r)
+  turn-passes (fails (notInUse n)) l r = absurd (n l)
+  turn-passes (fails (notRefined l′ n F)) l r = absurd (n r)
   turn-passes (passes l′ r′) l r = (refl, refl)
   turn-passes (refines l′ n f F) l r = absurd (n r)
 
   turn-refines : {n : ℕ} {x : Work} → Turn start t w n x → t < start .topology .triangles → ¬ Risen start t (w .mesh)
       → ¬ TooOld (w .mesh .topology) t → ¬ TooFewSlots t (w .mesh)
       → (n ≡ 0) × (x ≡ refine t w) × RefineFound t (w .mesh)
-  turn-refines (fails (notInUse n) z) l r o f = absurd (n l)
-  turn-refines (fails (old l′ n p) z) l r o f = absurd (o p)
-  turn-refines (fails (crowded l′ n p q) z) l r o f = absurd (f q)
+  turn-refines (fails (notInUse n)) l r o f = absurd (n l)
+  turn-refines (fails (notRefined l′ n F)) l r o f = absurd (cannot-fail o f F)
   turn-refines (passes l′ r′) l r o f = absurd (r r′)
   turn-refines (refines l′ n q F) l r o f = (refl, refl, F)
 
@@ -110,7 +100,7 @@ pub data Ends (m : Mesh) (list : List ℕ) (p q : Progress) : Type 0 where
       → ((i : ℕ) → i < length list → Risen m (getD list i 0) (q .work .mesh)) → Ends m list p q
   short : (before : List ℕ) (t : ℕ) (rest : List ℕ) → list ≡ before ++ (t ∷ rest)
       → q .handled ≡ p .handled + length before → Handled m before (p .work) (q .work)
-      → EntryFails m t (q .work .mesh) (q .refusal) → q .refusal ≢ 0 → Ends m list p q
+      → EntryFails m t (q .work .mesh) (q .refusal) → Ends m list p q
 
 pub record Fold (m : Mesh) (list : List ℕ) (p q : Progress) : Type 0 where
   pub going : Going m (q .work)
@@ -138,8 +128,8 @@ module _ {m : Mesh} {t : ℕ} {w x : Work}
       each : (i : ℕ) → i < length (t ∷ rest) → Risen m (getD (t ∷ rest) i 0) (q .work .mesh)
       each zero l = r
       each (suc i) l = R i (omega arith)
-  ends-after {q = q} r (short before y rest e h H F z) =
-      short (t ∷ before) y rest (ap (λ (l : List ℕ). t ∷ l) e) (omega arith) (first before (q .work) H) F z
+  ends-after {q = q} r (short before y rest e h H F) =
+      short (t ∷ before) y rest (ap (λ (l : List ℕ). t ∷ l) e) (omega arith) (first before (q .work) H) F
 
 pub fold : (m : Mesh) (list : List ℕ) (p : Progress) → p .refusal ≡ 0 → Going m (p .work)
     → Fold m list p (handleAll m list p)
@@ -156,12 +146,12 @@ fold m (t ∷ rest) p z G =
     go : {n : ℕ} {x : Work}
         → ((x : Work) → Going m x → Fold m rest (goesOn 0 x p) (handleAll m rest (goesOn 0 x p)))
         → Turn m t (p .work) n x → Fold m (t ∷ rest) p (handleAll m rest (goesOn n x p))
-    go f (fails {n = zero} F n) = absurd (n refl)
-    go f (fails {n = suc k} F n) =
-        rw (stopped m rest (goesOn (suc k) (p .work) p) n) (record {
+    go f (fails {n = zero} F) = absurd (entry-fails-positive F refl)
+    go f (fails {n = suc k} F) =
+        rw (stopped m rest (goesOn (suc k) (p .work) p) (entry-fails-positive F)) (record {
           going = G;
           still = still-all (reached (p .work));
-          ends = short [] t rest refl (omega arith) allDone F n;
+          ends = short [] t rest refl (omega arith) allDone F;
         })
     go f (passes l r) =
         let I = f (p .work) G in
@@ -217,11 +207,6 @@ unfolding handleAll
 handled-then start [] ys p = refl
 handled-then start (t ∷ xs) ys p = handled-then start xs ys (handle start t p)
 
-fails-positive : {start m : Mesh} {t n : ℕ} → EntryFails start t m n → n ≢ 0
-fails-positive (notInUse n) = λ z. omega arith
-fails-positive (old l r o) = λ z. omega arith
-fails-positive (crowded l r o f) = λ z. omega arith
-
 -- What a list fails with, and where, is computed.
 pub fails-computed : {list : List ℕ} {m : Mesh} {k n : ℕ} {w : Work} → Sound m → FailsAfter list m k w n
     → refineEach list m ≡ record { work = w; handled = k; refusal = n }
@@ -234,7 +219,7 @@ fails-computed {list} {m} {k} {n} {w} S F =
     ∙ handled-then m (F .before) (F .entry ∷ F .rest) (begun m)
     ∙ ap (λ (q : Progress). handleAll m (F .rest) (handle m (F .entry) q)) (I .0)
     ∙ ap (λ (j : ℕ). handleAll m (F .rest) (goesOn j (entryWork m (F .entry) w) p)) q
-    ∙ go n (fails-positive (F .fails))
+    ∙ go n (entry-fails-positive (F .fails))
   where
     go : (j : ℕ) → j ≢ 0 →
         let p : Progress = record { work = w; handled = k; refusal = 0 } in

@@ -6,11 +6,12 @@ use Prim.Native.Nat.{ℕ, zero, suc, _<_}
 use native.Mathlib.Decide.{ℕ-discrete}
 use native.Mathlib.Omega.{arith}
 use lib.ListN.{length, getD}
+use Rattle.rules.proofs.Lists.AllOrNothing.{work-refused, work-held}
 use Rattle.rules.proofs.Lists.Entries.{stopped, handled-then, fails-computed}
-use Rattle.rules.proofs.Lists.InSpares.{going-sizes}
-use Rattle.rules.proofs.Lists.ListCall.{spares-pass, spares-sound, folded, passed-again}
+use Rattle.rules.proofs.Lists.Holding.{going-sizes}
+use Rattle.rules.proofs.Lists.ListCall.{spares-pass, spares-sound, folded, passed-again, not-refused}
 use Rattle.rules.proofs.Spares.OverSpares.{over-sound}
-use Rattle.rules.specs.Calls.{spareRoom, refusedWith, unless}
+use Rattle.rules.specs.Calls.{spareRoom, refusedWith}
 use Rattle.rules.specs.Conditions.{FailsAfter}
 use Rattle.rules.specs.Lists.{Progress, begun, goesOn, entryRefusal, entryWork, handle, handleAll}
 use Rattle.rules.specs.Lists.{refineEach, sparesRefusal, allOrNothing, listCall}
@@ -24,20 +25,7 @@ use Rattle.rules.specs.Tables.{Mesh}
 pub refused-first : (list : List ℕ) (spares : Spares) (m : Mesh) → sparesRefusal spares m ≢ 0
     → listCall list spares m ≡ refusedWith (sparesRefusal spares m) m (spareRoom spares)
 unfolding listCall
-refused-first list spares m = go (sparesRefusal spares m)
-  where
-    go : (n : ℕ) → n ≢ 0 →
-        let p = refineEach list m in
-        unless n m (spareRoom spares) (allOrNothing (p .refusal) p spares m) ≡ refusedWith n m (spareRoom spares)
-    go zero x = absurd (x refl)
-    go (suc n) x = refl
-
--- Not refused with these.
-not-refused : (list : List ℕ) (spares : Spares) (m : Mesh) → sparesRefusal spares m ≡ 0 →
-    let p = refineEach list m in
-    listCall list spares m ≡ allOrNothing (p .refusal) p spares m
-unfolding listCall
-not-refused list spares m z = rw (listCall, z) refl
+refused-first list spares m = work-refused _ (refineEach list m) spares m
 
 pub empty-list : (spares : Spares) (m : Mesh) → SameSizes spares m → Sound m
     → listCall [] spares m ≡ allOrNothing 0 (begun m) spares m
@@ -48,17 +36,12 @@ empty-list spares m L S = not-refused [] spares m (spares-pass spares m L S)
 pub held-in-spares : (list : List ℕ) (spares : Spares) (m : Mesh) → SameSizes spares m → Sound m
     → let n = refineEach list m .work .mesh in
     (listCall list spares m .room ≡ spareRoom (copied n spares)) × Sound (meshIn (copied n spares) n)
+unfolding listCall
 held-in-spares list spares m L S =
     let G = folded list spares m S .going in (
-      rw (not-refused list spares m (spares-pass spares m L S)) (go (refineEach list m .refusal)),
+      work-held _ (refineEach list m) spares m (spares-pass spares m L S),
       over-sound (going-sizes L G) (G .sound),
     )
-  where
-    go : (n : ℕ) →
-        let p = refineEach list m in
-        allOrNothing n p spares m .room ≡ spareRoom (copied (p .work .mesh) spares)
-    go zero = refl
-    go (suc n) = refl
 
 -- A list fails at one place, with one number.
 pub one-failure : {list : List ℕ} {m : Mesh} {k k′ n n′ : ℕ} {w w′ : Work} → Sound m → FailsAfter list m k w n

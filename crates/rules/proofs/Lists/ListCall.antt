@@ -2,27 +2,28 @@
 use mathlib.Core.Path.{_≡_, refl, sym, ap, _∙_, subst}
 use mathlib.Core.Logic.{_≢_}
 use mathlib.Core.List.{List, [], _∷_}
-use Prim.Native.Nat.{ℕ, zero, suc, _<_}
+use Prim.Native.Nat.{ℕ, _<_}
 use native.Mathlib.Decide.{ℕ-discrete}
 use native.Mathlib.Omega.{arith}
 use lib.ListN.{length, getD}
-use Rattle.rules.proofs.Calls.FirstThatHolds.{Judged, carried, refused, judged, first-unless, none-hold}
-use Rattle.rules.proofs.Calls.FirstThatHolds.{first-before}
+use Rattle.rules.proofs.Calls.FirstThatHolds.{first-unless, none-hold}
+use Rattle.rules.proofs.Lists.AllOrNothing.{done-refusal, work-first, work-both, work-refused-is, work-keeps}
 use Rattle.rules.proofs.Lists.Entries.{Ends, whole, short, Fold, fold, fails-computed, entry-turn, turn-passes}
+use Rattle.rules.proofs.Lists.Entries.{entry-fails-positive}
 use Rattle.rules.proofs.Lists.Entries.{handled-used}
 use Rattle.rules.proofs.Chains.Going.{Going, going-begins, same-past}
 use Rattle.rules.proofs.Numbers.Decide.{Decides, is-eq, is-iff, is-and, is-true, is-same, stable}
 use Rattle.rules.proofs.Soundness.SoundTest.{tables-agree-is, sound-is}
-use Rattle.rules.specs.Calls.{Outcome, outcomeOf, spareRoom, refusedWith, _if_, unless}
-use Rattle.rules.specs.Conditions.{EntryFails, notInUse, old, crowded, FailsAfter, FailsWith}
+use Rattle.rules.specs.Calls.{Outcome, _if_}
+use Rattle.rules.specs.Conditions.{EntryFails, notInUse, notRefined, old, crowded, FailsAfter, FailsWith}
 use Rattle.rules.specs.Conditions.{Condition, _when_, First, this, later, none, entryConditions, listConditions}
 use Rattle.rules.specs.Lists.{Progress, begun, goesOn, risen}
 use Rattle.rules.specs.Lists.{handle, refineEach, sparesRefusal}
-use Rattle.rules.specs.Lists.{allOrNothing, sparesAnswer, listCall}
+use Rattle.rules.specs.Lists.{allOrNothing, listCall}
 use Rattle.rules.specs.Promises.{refusedList, ListMakes}
 use Rattle.rules.specs.Sound.{Sound}
-use Rattle.rules.specs.Spares.{Spares, copied, SameSizes, sameSizes}
-use Rattle.rules.specs.Tables.{Mesh, TablesAgree, generation}
+use Rattle.rules.specs.Spares.{Spares, SameSizes, sameSizes}
+use Rattle.rules.specs.Tables.{Mesh, TablesAgree}
 
 pub same-sizes-is : (s : Spares) (m : Mesh) → Decides (sameSizes s m) (SameSizes s m)
 unfolding sameSizes
@@ -62,15 +63,6 @@ module _ (list : List ℕ) (spares : Spares) (m : Mesh) where
   abbrev progress : Progress
   progress = refineEach list m
 
-  pub list-judged : Judged (sparesRefusal spares m) m (spareRoom spares)
-      (allOrNothing (progress .refusal) progress spares m) (listCall list spares m)
-  unfolding listCall
-  list-judged = judged _ m (spareRoom spares) _
-
-  done-refusal : (n : ℕ) → allOrNothing n progress spares m .answer .refusal ≡ n
-  done-refusal zero = refl
-  done-refusal (suc n) = refl
-
   -- No entry fails with another number than the one that is computed.
   fails-only : Sound m → (n : ℕ) → FailsWith n list m → progress .refusal ≡ n
   fails-only S n (k, w, F) = ap (λ (p : Progress). p .refusal) (fails-computed S F)
@@ -86,7 +78,7 @@ module _ (list : List ℕ) (spares : Spares) (m : Mesh) where
         go : Ends m list (begun m) progress
             → FailsAfter list m (progress .handled) (progress .work) (progress .refusal)
         go (whole z h H R) = absurd (n z)
-        go (short before t rest e h H F z) = record {
+        go (short before t rest e h H F) = record {
           before = before;
           entry = t;
           rest = rest;
@@ -105,8 +97,8 @@ module _ (list : List ℕ) (spares : Spares) (m : Mesh) where
         at : {x : Mesh} {t n : ℕ} → EntryFails m t x n → progress .refusal ≡ n → FailsWith n list m
             → First (entryConditions list m) n
         at (notInUse _) e f = this f
-        at (old _ _ _) e f = later (not-with 9 8 e (λ q. omega arith)) (this f)
-        at (crowded _ _ _ _) e f =
+        at (notRefined _ _ (old _)) e f = later (not-with 9 8 e (λ q. omega arith)) (this f)
+        at (notRefined _ _ (crowded _ _)) e f =
             later (not-with 11 8 e (λ q. omega arith)) (later (not-with 11 9 e (λ q. omega arith)) (this f))
 
         no-entry : progress .refusal ≡ 0 → First (entryConditions list m) 0
@@ -136,7 +128,7 @@ module _ (list : List ℕ) (spares : Spares) (m : Mesh) where
                 past = same-past G;
               },
             )
-        go (short _ _ _ _ _ _ _ n) = absurd (n z)
+        go (short _ _ _ _ _ _ F) = absurd (entry-fails-positive F z)
 
     -- Where none fails, each entry has risen, and is passed over when it comes again.
     pub passed-again : progress .refusal ≡ 0 → (i : ℕ) → i < length list
@@ -151,28 +143,15 @@ module _ (list : List ℕ) (spares : Spares) (m : Mesh) where
         rw (z, T .0, T .1) refl
 
   pub list-refusal : First (listConditions list spares m) (listCall list spares m .answer .refusal)
-  list-refusal = go list-judged (spares-refusal-first spares m)
-    where
-      go : {n : ℕ} {o : Outcome}
-          → Judged n m (spareRoom spares) (allOrNothing (progress .refusal) progress spares m) o
-          → First (firstConditions spares m) n → First (listConditions list spares m) (o .answer .refusal)
-      go (refused z) F = first-before (entryConditions list m) F z
-      go (carried z) F =
-          let (a, (b, (s, _))) = none-hold F z tt in
-          let E = entries-first (stable (sound-is m) s) in
-          later a (later b (later s
-          (subst (First (entryConditions list m)) (sym (done-refusal (progress .refusal))) E)))
+  unfolding listCall
+  list-refusal =
+      work-first _ progress spares m (spares-refusal-first spares m) tt (λ z.
+      entries-first (spares-sound spares m z .1))
 
   -- Where it is carried out, neither the mesh nor an entry is refused.
   pub both-zero : listCall list spares m .answer .refusal ≡ 0 → (sparesRefusal spares m ≡ 0) × (progress .refusal ≡ 0)
   unfolding listCall
-  both-zero = go (sparesRefusal spares m) (progress .refusal)
-    where
-      go : (n k : ℕ) → unless n m (spareRoom spares) (allOrNothing k progress spares m) .answer .refusal ≡ 0
-          → (n ≡ 0) × (k ≡ 0)
-      go zero zero z = (refl, refl)
-      go zero (suc k) z = absurd (omega arith)
-      go (suc n) k z = absurd (omega arith)
+  both-zero = work-both _ progress spares m
 
   module _ (z : listCall list spares m .answer .refusal ≡ 0) where
     sound : Sound m
@@ -187,50 +166,29 @@ module _ (list : List ℕ) (spares : Spares) (m : Mesh) where
         let M = makes sound q in
         (rw (listCall, a, q) refl, M .0, M .1)
 
+  -- Where neither 1 nor 17 nor 7 refuses.
+  pub not-refused : sparesRefusal spares m ≡ 0
+      → listCall list spares m ≡ allOrNothing (progress .refusal) progress spares m
+  unfolding listCall
+  not-refused z = rw (listCall, z) refl
+
   -- Where an entry fails, which and with what, and what is left.
   pub list-stops : SameSizes spares m → Sound m → listCall list spares m .answer .refusal ≢ 0
       → (listCall list spares m ≡ allOrNothing (progress .refusal) progress spares m)
       × FailsAfter list m (progress .handled) (progress .work) (progress .refusal)
-  list-stops L S n = go list-judged n
-    where
-      go : {o : Outcome}
-          → Judged (sparesRefusal spares m) m (spareRoom spares)
-          (allOrNothing (progress .refusal) progress spares m) o
-          → o .answer .refusal ≢ 0
-          → (o ≡ allOrNothing (progress .refusal) progress spares m)
-          × FailsAfter list m (progress .handled) (progress .work) (progress .refusal)
-      go (refused k) n = absurd (k (spares-pass spares m L S))
-      go (carried e) n = (refl, stops S (λ q. n (done-refusal (progress .refusal) ∙ q)))
+  list-stops L S n =
+      let e = not-refused (spares-pass spares m L S) in
+      (e, stops S (λ z. n (ap (λ (o : Outcome). o .answer .refusal) e ∙ done-refusal 0 progress spares m _ ∙ z)))
 
   -- Refused, it leaves the mesh, and spare tables that it worked in as the last entry that succeeded left them.
   pub list-refused-is : listCall list spares m .answer .refusal ≢ 0
       → listCall list spares m ≡ refusedList list spares (listCall list spares m .answer .refusal) m
   unfolding listCall
-  list-refused-is = go (sparesRefusal spares m) (progress .refusal)
-    where
-      go : (n k : ℕ) →
-          let o = unless n m (spareRoom spares) (allOrNothing k progress spares m) in
-          let r = o .answer .refusal in
-          r ≢ 0
-          → o ≡ elim n [
-            | zero ↦
-                let made = progress .work .mesh in
-                outcomeOf (sparesAnswer r 0 0 m (progress .handled) made) m (spareRoom (copied made spares))
-            | suc n ↦ refusedWith r m (spareRoom spares)
-          ]
-      go zero zero x = absurd (x refl)
-      go zero (suc k) x = refl
-      go (suc n) k x = refl
+  list-refused-is = work-refused-is (sparesRefusal spares m) progress spares m
 
   -- The mesh stands, or it is what the list made of a sound one.
   pub list-keeps : (P : Mesh → Type 0) → P m → (Going m (progress .work) → P (progress .work .mesh))
       → P (listCall list spares m .mesh)
   unfolding listCall
-  list-keeps P p f =
-      go (sparesRefusal spares m) (progress .refusal) (λ z. f (folded (spares-sound spares m z .1) .going))
-    where
-      go : (n k : ℕ) → (n ≡ 0 → P (progress .work .mesh))
-          → P (unless n m (spareRoom spares) (allOrNothing k progress spares m) .mesh)
-      go zero zero f = f refl
-      go zero (suc k) f = p
-      go (suc n) k f = p
+  list-keeps P q f =
+      work-keeps _ progress spares m P q (λ z. f (folded (spares-sound spares m z .1) .going))

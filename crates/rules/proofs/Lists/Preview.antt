@@ -5,14 +5,15 @@ use mathlib.Core.List.{List}
 use Prim.Native.Nat.{ℕ, zero, suc, _*_}
 use native.Mathlib.Omega.{arith}
 use lib.IntN.{pos}
-use Rattle.rules.proofs.Lists.InSpares.{going-sizes}
-use Rattle.rules.proofs.Lists.ListCall.{same-sizes-is, spares-sound, list-refusal, both-zero, folded}
+use Rattle.rules.proofs.Lists.Holding.{going-sizes}
+use Rattle.rules.proofs.Lists.ListCall.{same-sizes-is, spares-sound, list-refusal}
+use Rattle.rules.proofs.Lists.ListCall.{list-refused-is, both-zero, folded}
 use Rattle.rules.proofs.Numbers.Decide.{is-true, is-same}
 use Rattle.rules.proofs.Numbers.Fill.{length-fill, getD-fill, fill-again}
-use Rattle.rules.specs.Calls.{Outcome, outcomeOf, spareRoom, refusedWith, unless}
+use Rattle.rules.specs.Calls.{Outcome, outcomeOf, spareRoom, unless}
 use Rattle.rules.specs.Conditions.{First, listConditions}
-use Rattle.rules.specs.Lists.{refineEach, sparesRefusal, sparesAnswer, allOrNothing, listCall, previewCall}
-use Rattle.rules.specs.Promises.{refusedList, AgreeInUse}
+use Rattle.rules.specs.Lists.{refineEach, sparesRefusal, allOrNothing, listCall, previewCall}
+use Rattle.rules.specs.Promises.{refusedWork, refusedList, AgreeInUse}
 use Rattle.rules.specs.Sound.{Sound}
 use Rattle.rules.specs.Spares.{Spares, copied, SameSizes, sameSizes}
 use Rattle.rules.specs.Tables.{Mesh, sides}
@@ -60,24 +61,16 @@ module _ (list : List ℕ) (spares : Spares) (m : Mesh) where
 
   pub preview-refused-is : previewCall list spares m .answer .refusal ≢ 0
       → previewCall list spares m ≡ refusedList list spares (previewCall list spares m .answer .refusal) m
-  unfolding previewCall listCall
-  preview-refused-is = go (sparesRefusal spares m) (refineEach list m .refusal)
+  unfolding previewCall
+  preview-refused-is x =
+      ap (λ (o : Outcome). outcomeOf (o .answer) m (o .room)) (list-refused-is list spares m x)
+      ∙ stands _ (sparesRefusal spares m)
     where
-      go : (n k : ℕ) →
-          let p = refineEach list m in
-          let o = unless n m (spareRoom spares) (allOrNothing k p spares m) in
-          let r = o .answer .refusal in
-          r ≢ 0
-          → outcomeOf (o .answer) m (o .room)
-          ≡ elim n [
-            | zero ↦
-                let made = p .work .mesh in
-                outcomeOf (sparesAnswer r 0 0 m (p .handled) made) m (spareRoom (copied made spares))
-            | suc n ↦ refusedWith r m (spareRoom spares)
-          ]
-      go zero zero x = absurd (x refl)
-      go zero (suc k) x = refl
-      go (suc n) k x = refl
+      stands : (r n : ℕ) →
+          let o = refusedWork n (refineEach list m) spares r m in
+          outcomeOf (o .answer) m (o .room) ≡ o
+      stands r zero = refl
+      stands r (suc n) = refl
 
   pub preview-is : previewCall list spares m
       ≡ outcomeOf (listCall list spares m .answer) m (listCall list spares m .room)

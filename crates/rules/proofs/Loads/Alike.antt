@@ -23,7 +23,7 @@ unfolding all
 all-same zero p q e = refl
 all-same (suc n) p q e = ap₂ (λ (x y : Bool). x && y) (all-same n p q (λ h l. e h (omega arith))) (e n (omega arith))
 
-lowest-same : (n : ℕ) (p q : ℕ → Bool) → ((h : ℕ) → h < n → p h ≡ q h) → lowest n p ≡ lowest n q
+pub lowest-same : (n : ℕ) (p q : ℕ → Bool) → ((h : ℕ) → h < n → p h ≡ q h) → lowest n p ≡ lowest n q
 unfolding lowest
 lowest-same zero p q e = refl
 lowest-same (suc n) p q e =

@@ -4,6 +4,7 @@ use native.Mathlib.Omega.{arith}
 use mathlib.Core.List.{List, []}
 use mathlib.Core.Path.{_≡_, refl, ap, _∙_}
 use lib.IntN.{ℤ}
+use Rattle.rules.proofs.Mirrors.MirrorBoxes.{turns-mirror, box-refused}
 use Rattle.rules.proofs.Mirrors.MirrorLists.{mirrorProgress, handle-all-mirror, copied-mirror}
 use Rattle.rules.proofs.Mirrors.MirrorRefusals.{load-refused, refine-refused, step-refused, limit-refused}
 use Rattle.rules.proofs.Mirrors.MirrorRefusals.{ring-refused, position-refused, spares-refused, loaded-mirror}
@@ -11,16 +12,17 @@ use Rattle.rules.proofs.Mirrors.MirrorTables.{coordinate-mirror}
 use Rattle.rules.proofs.Mirrors.MirrorWork.{mirrorWork, refine-mirror, step-mirror, limits-mirror}
 use Rattle.rules.proofs.Mirrors.Opposites.{mirror-zero}
 use Rattle.rules.specs.Below.{fill}
+use Rattle.rules.specs.Boxes.{refineInBox, boxCall}
 use Rattle.rules.specs.Calls.{Room, Outcome, ringRoom, tableRoom, spareRoom, zeroPoint, worked, unless, loadCall}
 use Rattle.rules.specs.Calls.{refineCall, wholeStepCall, limitCall, ringCall, positionCall}
 use Rattle.rules.specs.History.{Call, outcome, after}
 use Rattle.rules.specs.Lists.{Progress, begun, refineEach, allOrNothing, listCall, previewCall}
 use Rattle.rules.specs.Mirror.{mirrorPoint, mirrorTable, mirror, mirrorSpares, mirrorRoom, mirrorOutcome}
-use Rattle.rules.specs.Mirror.{Mirrors, Rounds, load, refine, step, list, ring, position, limit, preview}
+use Rattle.rules.specs.Mirror.{Mirrors, Rounds, load, refine, step, list, box, ring, position, limit, preview}
 use Rattle.rules.specs.Mirror.{MirrorsEach, none, next}
 use Rattle.rules.specs.Spares.{Spares}
 use Rattle.rules.specs.Split.{Work, atFirst}
-use Rattle.rules.specs.Tables.{Mesh, withRule}
+use Rattle.rules.specs.Tables.{Mesh, triangleSlots, withRule}
 
 module _ (k : ℕ) (m : Mesh) where
   no-point : mirrorPoint k zeroPoint ≡ zeroPoint
@@ -59,17 +61,22 @@ module _ (k : ℕ) (m : Mesh) where
   done-mirror zero p spares = rw (no-point, copied-mirror)
   done-mirror (suc n) p spares = rw (no-point, copied-mirror)
 
+  -- A call that works in spare tables, by its refusal and its progress.
+  in-spares : {n n′ : ℕ} (p : Progress) {p′ : Progress} (spares : Spares) → n′ ≡ n → p′ ≡ mirrorProgress k p
+      → unless n′ (mirror k m) (spareRoom (mirrorSpares k spares))
+      (allOrNothing (p′ .refusal) p′ (mirrorSpares k spares) (mirror k m))
+      ≡ mirrorOutcome k (unless n m (spareRoom spares) (allOrNothing (p .refusal) p spares m))
+  in-spares p spares e f = unless-mirror _ _ e (spare-room spares) (rw f (done-mirror (p .refusal) p spares))
+
   list-mirror : (entries : List ℕ) (spares : Spares)
       → listCall entries (mirrorSpares k spares) (mirror k m) ≡ mirrorOutcome k (listCall entries spares m)
   unfolding listCall
   list-mirror entries spares =
-      unless-mirror _ _ (spares-refused k m spares) (spare-room spares)
-      (rw (handle-all-mirror k m entries (begun m))
-      (done-mirror (refineEach entries m .refusal) (refineEach entries m) spares))
+      in-spares (refineEach entries m) spares (spares-refused k m spares) (handle-all-mirror k m entries (begun m))
 
   pub call-mirror : {c c′ : Call} → Mirrors k c c′ → (Rounds c → m .rule ≡ 2)
       → outcome c′ (mirror k m) ≡ mirrorOutcome k (outcome c m)
-  unfolding loadCall refineCall wholeStepCall limitCall ringCall positionCall previewCall
+  unfolding loadCall refineCall wholeStepCall boxCall limitCall ringCall positionCall previewCall
   call-mirror (load {rule} C) two =
       unless-mirror _ _ (load-refused k m C rule) (ring-room [])
       (worked-mirror _ (ap (λ n. atFirst (withRule rule n)) (loaded-mirror k m C)))
@@ -78,6 +85,8 @@ module _ (k : ℕ) (m : Mesh) where
   call-mirror step two =
       unless-mirror _ _ (step-refused k m) (ring-room []) (worked-mirror _ (step-mirror k m (two step)))
   call-mirror (list {entries} {spares}) two = list-mirror entries spares
+  call-mirror (box {b} {spares}) two =
+      in-spares (refineInBox b m) spares (box-refused k b m spares) (turns-mirror k b (triangleSlots m) (begun m))
   call-mirror (ring {v} {buffer}) two =
       unless-mirror _ _ (ring-refused k m v buffer) (ring-room buffer) (rw (no-point, ring-room))
   call-mirror (position {v}) two =

@@ -18,11 +18,11 @@ use Rattle.rules.specs.Spares.{Spares, sameSizes}
 use Rattle.rules.specs.Tables.{Mesh, tablesAgree}
 
 module _ (k : ℕ) (m : Mesh) where
-  tables-mirror : tablesAgree (mirror k m) ≡ tablesAgree m
+  pub tables-mirror : tablesAgree (mirror k m) ≡ tablesAgree m
   unfolding tablesAgree
   tables-mirror = rw (length-mirror k (m .positions))
 
-  sound-mirror : isSound (mirror k m) ≡ isSound m
+  pub sound-mirror : isSound (mirror k m) ≡ isSound m
   unfolding isSound
   sound-mirror = simp (tables-mirror, length-mirror, getD-mirror, mirror-range)
 
@@ -46,11 +46,14 @@ module _ (k : ℕ) (m : Mesh) where
   unfolding positionRefusal
   position-refused v = rw (tables-mirror, sound-mirror)
 
+  pub same-sizes-mirror : (spares : Spares) → sameSizes (mirrorSpares k spares) (mirror k m) ≡ sameSizes spares m
+  unfolding sameSizes
+  same-sizes-mirror spares = rw (length-mirror k (m .positions), length-mirror k (spares .positions))
+
   pub spares-refused : (spares : Spares)
       → sparesRefusal (mirrorSpares k spares) (mirror k m) ≡ sparesRefusal spares m
-  unfolding sparesRefusal sameSizes
-  spares-refused spares =
-      rw (tables-mirror, sound-mirror, length-mirror k (m .positions), length-mirror k (spares .positions))
+  unfolding sparesRefusal
+  spares-refused spares = rw (tables-mirror, same-sizes-mirror, sound-mirror)
 
   module _ {those these : List ℕ} (C : MirrorCage k those these) where
     same-corners : SameCorners (cageOf these) (cageOf those)

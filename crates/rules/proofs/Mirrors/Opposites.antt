@@ -1,4 +1,5 @@
--- The opposites of numbers have the opposite thirds and, under rule 2, the opposite moves and limits.
+-- The opposites of numbers have the opposite order, the opposite thirds and, under rule 2, the opposite moves and
+-- limits.
 use Prim.Native.Nat.{ℕ, zero, suc, _+_, _-_, _*_, _/_}
 use native.Mathlib.Nat.{div-eq-of-lt}
 use native.Mathlib.Omega.{arith}
@@ -6,14 +7,24 @@ use mathlib.Core.Bool.{Bool, true, false}
 use mathlib.Core.Path.{_≡_, refl, sym}
 use lib.Dec.{eqb}
 use lib.IntN.{ℤ, pos, negsuc, negℤ, negℤ-negℤ, negℤ-+ℤ, _+ℤ_, _*ℤ_}
+use lib.Signed.{leZ}
 use Rattle.rules.proofs.Numbers.Decide.{is-same, is-iff}
 use Rattle.rules.proofs.Numbers.Differences.{its, nat, add, neg, sub, scale, equal, at-most, at-most-gives, near}
 use Rattle.rules.proofs.Numbers.Differences.{near-gives}
 use Rattle.rules.proofs.Numbers.Rounding.{nearest-third, nearest-third-only, mean, moved-is, limit-is}
-use Rattle.rules.proofs.Soundness.SoundTest.{in-range-is}
+use Rattle.rules.proofs.Soundness.SoundTest.{le-is, in-range-is}
 use Rattle.rules.specs.Mirror.{mirrorAt}
 use Rattle.rules.specs.Numbers.{InRange, inRange, maxCoordinate, floorDiv, nearestThird, halfUp, rounded, weight}
 use Rattle.rules.specs.Numbers.{moved, limit}
+
+pub order-opposite : (x y : ℤ) → leZ (negℤ y) (negℤ x) ≡ leZ x y
+order-opposite x y =
+    is-same
+    (is-iff
+    (λ h. at-most (its x) (its y) (omega (arith, at-most-gives (neg (its y)) (neg (its x)) h)))
+    (λ h. at-most (neg (its y)) (neg (its x)) (omega (arith, at-most-gives (its x) (its y) h)))
+    (le-is (negℤ y) (negℤ x)))
+    (le-is x y)
 
 third-opposite : (s : ℤ) → nearestThird (negℤ s) ≡ negℤ (nearestThird s)
 third-opposite s =

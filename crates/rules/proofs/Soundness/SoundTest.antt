@@ -18,7 +18,7 @@ use Rattle.rules.specs.Sound.{Linked, OneFan, Sound, role, fiveKinds, is
 use Rattle.rules.specs.Tables.{Topology, Mesh, TablesAgree, sides, origin, target, boundary, link, generation}
 use Rattle.rules.specs.Tables.{vertexSlots, triangleSlots, tablesAgree}
 
-le-is : (a b : ℤ) → Decides (leZ a b) (a ≤ℤ b)
+pub le-is : (a b : ℤ) → Decides (leZ a b) (a ≤ℤ b)
 le-is a b = record { holds = λ t. record { le = t }; passes = λ x. x .le }
 
 pub in-range-is : (z : ℤ) → Decides (inRange z) (InRange z)

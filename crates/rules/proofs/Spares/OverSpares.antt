@@ -3,7 +3,7 @@ use mathlib.Core.Path.{_≡_, refl, sym, _∙_, subst}
 use mathlib.Core.Logic.{_⊎_, inl, inr}
 use mathlib.Core.Bool.{not}
 use mathlib.Core.List.{List, [], _∷_}
-use Prim.Native.Nat.{ℕ, _*_, _/_, _<_}
+use Prim.Native.Nat.{ℕ, _+_, _*_, _/_, _<_}
 use native.Mathlib.Omega.{arith}
 use native.Mathlib.Decide.{decLt}
 use lib.Dec.{leb}
@@ -23,7 +23,7 @@ use Rattle.rules.specs.Sound.{Linked, Sound, here, turn}
 use Rattle.rules.specs.Spares.{Spares, copied, meshIn, SameSizes}
 use Rattle.rules.specs.Split.{Work, atFirst, withMesh, chainEndWithin, chainOdd, refine}
 use Rattle.rules.specs.Tables.{Mesh, topologyOf, meshOf, sides, next, previous, origin, link, boundary}
-use Rattle.rules.specs.Tables.{generation}
+use Rattle.rules.specs.Tables.{generation, coordinate}
 
 -- The mesh m, copied into the tables s.
 abbrev pub over : Spares → Mesh → Mesh
@@ -63,7 +63,7 @@ module _ {s : Spares} {m : Mesh} (L : SameSizes s m) (S : Sound m) where
     generations = begun .tables .generations .copySize ∙ L .generations;
   }
 
-  corner-same : (h : ℕ) → h < sides (m .topology) → origin (over s m .topology) h ≡ origin (m .topology) h
+  pub corner-same : (h : ℕ) → h < sides (m .topology) → origin (over s m .topology) h ≡ origin (m .topology) h
   corner-same h l = begun .tables .corners .used h l .0
 
   link-same : (h : ℕ) → h < sides (m .topology) → link (over s m .topology) h ≡ link (m .topology) h
@@ -72,6 +72,10 @@ module _ {s : Spares} {m : Mesh} (L : SameSizes s m) (S : Sound m) where
   pub generation-same : (t : ℕ) → t < m .topology .triangles
       → generation (over s m .topology) t ≡ generation (m .topology) t
   generation-same t l = begun .tables .generations .used t l .0
+
+  pub coordinate-same : (v k : ℕ) → v < m .topology .vertices → k < 3
+      → coordinate (over s m) v k ≡ coordinate m v k
+  coordinate-same v k l i = begun .positions .used (3 * v + k) (omega arith) .0
 
   -- ---- soundness
 

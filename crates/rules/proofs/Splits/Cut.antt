@@ -17,7 +17,7 @@ use Rattle.rules.proofs.Splits.Settled.{Settled, nowhere, Among, Childr
 use Rattle.rules.proofs.Splits.Settled.{settled-same, settled-boundary, settled-bases, settled-past}
 use Rattle.rules.proofs.Splits.Settled.{settled-generation}
 use Rattle.rules.proofs.Splits.Settled.{settled-spread, settled-flips, settled-moved, settled-follow}
-use Rattle.rules.proofs.Splits.Settled.{unchanged-not}
+use Rattle.rules.proofs.Splits.Settled.{unchanged-not, NewCorner, settled-new-corner}
 use Rattle.rules.proofs.Splits.Settled.{still-on, settled-still}
 use Rattle.rules.proofs.Splits.Settling.{Same, Follow}
 use Rattle.rules.specs.Promises.{Still, Written}
@@ -55,6 +55,7 @@ pub record Cut (v g : ℕ) (cs : List ℕ) (p r : ℕ) (m n : Topology) : Type 0
   pub links : (h : ℕ) → h < sides m → h / 3 ≢ v → link m h / 3 ≢ v → link n h ≡ link m h
   pub into : (h : ℕ) → h < sides m → h / 3 ≢ v → link m h / 3 ≡ v → Onto cs (link n h)
   pub bases : (h : ℕ) → h < sides n → Base n h → ((h < sides m) × (h / 3 ≢ v)) ⊎ Among cs (h / 3)
+  pub newCorner : (x : ℕ) → x < n .triangles → Written m n x → NewCorner (m .vertices) n x
   pub past : (b : ℕ) → n .triangles ≤ b → Past b m n
 
 -- ---- lists of children
@@ -97,6 +98,7 @@ pub record CutResult (v g p r : ℕ) (m n : Topology) : Type 0 where
   pub moved : (x : ℕ) → x < m .triangles → x ≢ v → generation n x ≢ generation m x
       → (link m (3 * x) ≢ boundary) × (link m (3 * x) / 3 ≡ v) × (generation m x ≡ g) × (generation n x ≡ suc g)
   pub still : Still m n
+  pub newCorner : (x : ℕ) → x < n .triangles → Written m n x → NewCorner (m .vertices) n x
   pub past : (b : ℕ) → n .triangles ≤ b → Past b m n
 
 module _ (v g : ℕ) (cs : List ℕ) (p r : ℕ) (m one n : Topology) (F : Manifold m) (b : v < m .triangles)
@@ -283,6 +285,16 @@ module _ (v g : ℕ) (cs : List ℕ) (p r : ℕ) (m one n : Topology) (F : Manif
       away h (inl e) = omega (arith, F .slots, F .generationRoom)
       away h (inr e) = not-v (link m h / 3) (e .1)
 
+  -- Every triangle that is written anew has a new corner.
+  new-corner : (x : ℕ) → x < n .triangles → Written m n x → NewCorner (m .vertices) n x
+  new-corner x l w =
+      settled-new-corner (m .vertices) g x S (C .children) (C .distinct)
+      (λ e. C .newCorner x (omega (arith, settled-same S .triangles)) (by-cut e w))
+    where
+      by-cut : generation n x ≡ generation one x → Written m n x → Written m one x
+      by-cut e (inl q) = inl q
+      by-cut e (inr q) = inr (λ z. q (e ∙ z))
+
   pub cut-settled : CutResult v g p r m n
   cut-settled =
       let E : Same one n = settled-same S in
@@ -305,6 +317,7 @@ module _ (v g : ℕ) (cs : List ℕ) (p r : ℕ) (m one n : Topology) (F : Manif
         spread = spread;
         moved = moved;
         still = still-on m one n cut-still T;
+        newCorner = new-corner;
         past = λ b i.
             past-on (C .past b (omega (arith, E .triangles))) (settled-past b S (omega (arith, E .triangles)));
       }

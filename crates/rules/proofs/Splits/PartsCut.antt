@@ -11,7 +11,8 @@ use Rattle.rules.proofs.Splits.Bases.{Child, boundary-not-base}
 use Rattle.rules.proofs.Splits.Cut.{Cut, Onto, Spread}
 use Rattle.rules.proofs.Splits.Edges.{boundarySides}
 use Rattle.rules.proofs.Splits.Parts.{Parts, Parted}
-use Rattle.rules.proofs.Splits.Settled.{Among, Children, Distinct}
+use Rattle.rules.proofs.Splits.Settled.{Among, Children, Distinct, NewCorner}
+use Rattle.rules.specs.Promises.{Written}
 use Rattle.rules.specs.Tables.{Topology, sides, origin, boundary, link, generation}
 
 -- A triangle of the odd generation g is one of cs; or it is one generation above, and even.
@@ -30,6 +31,8 @@ pub record Leaves (v g r : ℕ) (rest : List ℕ) (p : Parts) (m n : Topology) :
   pub onto₁ : Onto (v ∷ rest) (p .place₁)
   pub onto₂ : Onto (v ∷ rest) (p .place₂)
   pub boundaryCount : boundarySides n ≡ boundarySides m + r
+  pub newCorner₁ : NewCorner (m .vertices) n (m .triangles)
+  pub newCorner₂ : NewCorner (m .vertices) n (m .triangles + 1)
 
 -- A new triangle is no old one.
 not-later : (x f : ℕ) (cs : List ℕ) → x < f → Each (λ c. f ≤ c) cs → Among cs x → ⊥
@@ -90,6 +93,9 @@ module _ (v : ℕ) (p : Parts) (m n : Topology) (F : Manifold m) (b : v < m .tri
         bases = λ h l x. by-slot v (m .triangles) (n .triangles) (Among-or h) (S .triangles) (λ e. inr (inl e))
             (based h x (L .second)) (based h x (L .third)) (λ y i j e. inl (omega arith, omega arith)) (h / 3)
             (omega arith) refl;
+        newCorner = by-slot v (m .triangles) (n .triangles) (λ x. Written m n x → NewCorner (m .vertices) n x)
+            (S .triangles) (λ w. (3 * v + 2, omega arith, L .children .0 .fresh)) (λ w. L .newCorner₁)
+            (λ w. L .newCorner₂) old;
         past = λ c i. S .past c (omega (arith, S .triangles));
       }
     where
@@ -100,6 +106,10 @@ module _ (v : ℕ) (p : Parts) (m n : Topology) (F : Manifold m) (b : v < m .tri
       made : {x : ℕ} → Waits (v ∷ rest) g n x → Spread v g m n x
       made (inl e) = inr (inl (e .0))
       made (inr e) = inr (inr e)
+
+      old : (x : ℕ) → x < m .triangles → x ≢ v → Written m n x → NewCorner (m .vertices) n x
+      old x l i (inl q) = absurd (omega arith)
+      old x l i (inr q) = absurd (q (S .generations x l i))
 
       -- A side of v at its new place is the base of a child.
       onto : (h : ℕ) → h / 3 ≡ v

@@ -2,7 +2,7 @@
 use mathlib.Core.Path.{_≡_, refl, sym, ap, _∙_, subst}
 use mathlib.Core.Logic.{_≢_, _⊎_, inl, inr}
 use mathlib.Core.List.{List, [], _∷_}
-use Prim.Native.Nat.{ℕ, suc, _*_, _/_, _%_, _≤_, _<_}
+use Prim.Native.Nat.{ℕ, suc, _+_, _*_, _/_, _%_, _≤_, _<_}
 use native.Mathlib.Omega.{arith}
 use native.Mathlib.Decide.{ℕ-discrete, decLe}
 use Rattle.rules.proofs.Splits.Bases.{Child, Settling, kept, flipped, settling-manifold}
@@ -17,7 +17,7 @@ use Rattle.rules.proofs.Splits.Settling.{settling-generation, settling-
 use Rattle.rules.proofs.Splits.Settling.{settling-follow}
 use Rattle.rules.proofs.Splits.Settling.{settling-spread, settling-meets}
 use Rattle.rules.specs.Promises.{Still, Written}
-use Rattle.rules.specs.Tables.{Topology, sides, boundary, link, generation}
+use Rattle.rules.specs.Tables.{Topology, sides, origin, boundary, link, generation}
 
 -- The children cs, settled in this order.
 pub data Settled : List ℕ → Topology → Topology → Type 0 where
@@ -339,3 +339,29 @@ pub settled-still : {cs : List ℕ} {m n : Topology} → Settled cs m n → Mani
 settled-still (done {m = m}) F = still-all m
 settled-still (then {c = c} {m = m} {k = k} {n = n} o s) F =
     still-on m k n (settling-still c m k F o) (settled-still s (settling-manifold c m k F o))
+
+-- ---- new corners
+
+-- Triangle x has a corner that is not among the first p vertices.
+abbrev pub NewCorner : ℕ → Topology → ℕ → Type 0
+NewCorner p m x = (h : ℕ) × (h / 3 ≡ x) × (p ≤ origin m h)
+
+-- A flip gives the new corner of the child to both triangles.
+new-corner-on : (p g c x : ℕ) (m k n : Topology) → Child p g c m → Settling c m k
+    → (generation n x ≡ generation m x → NewCorner p m x) → generation n x ≡ generation k x → NewCorner p k x
+new-corner-on p g c x m k n C (kept y) f e = f e
+new-corner-on p g c x m k n C (flipped u B S) f e = go (ℕ-discrete x c) (ℕ-discrete x u)
+  where
+    go : Dec (x ≡ c) → Dec (x ≡ u) → NewCorner p k x
+    go (yes q) d = (3 * c + 2, omega arith, omega (arith, S .cornersS .2, C .fresh))
+    go (no q) (yes r) = (3 * u + 1, omega arith, omega (arith, S .cornersU .1, C .fresh))
+    go (no q) (no r) =
+        let (h, i, j) = f (e ∙ S .generations x q r) in
+        (h, i, omega (arith, S .corners h (omega arith) (omega arith)))
+
+pub settled-new-corner : (p g x : ℕ) {cs : List ℕ} {m n : Topology} → Settled cs m n → Children p g m cs → Distinct cs
+    → (generation n x ≡ generation m x → NewCorner p m x) → NewCorner p n x
+settled-new-corner p g x done K D f = f refl
+settled-new-corner p g x (then {c = c} {cs = cs} {m = m} {k = k} {n = n} o s) K D f =
+    settled-new-corner p g x s (children-on p g c m k cs o (K .0) (K .1) (D .0)) (D .1)
+    (new-corner-on p g c x m k n (K .0) o f)

@@ -69,6 +69,8 @@ module _ (v : ℕ) (m n : Topology) (F : Manifold m) (b : v < m .triangles) (eve
         onto₁ = inr (inl refl);
         onto₂ = inr (inr (inl refl));
         boundaryCount = split-boundary v m n F b S;
+        newCorner₁ = (3 * f + 2, omega arith, omega (arith, S .second .corners .2));
+        newCorner₂ = (3 * e + 2, omega arith, omega (arith, S .third .corners .2));
       })
 
 -- ---- the rim split
@@ -101,6 +103,8 @@ module _ (v : ℕ) (m n : Topology) (F : Manifold m) (b : v < m .triangles) (odd
         onto₁ = inr (inl refl);
         onto₂ = inl refl;
         boundaryCount = rim-boundary v m n F b edge S;
+        newCorner₁ = (3 * f, omega arith, omega (arith, S .second .corners .0));
+        newCorner₂ = (3 * e + 2, omega arith, omega (arith, S .third .corners .2));
       })
 
 -- ---- with the flips

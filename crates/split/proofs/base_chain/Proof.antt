@@ -5,7 +5,7 @@ use native.Mathlib.Omega.{arith}
 use mathlib.Core.List.{List}
 use mathlib.Core.Logic.{⊎-elim}
 use mathlib.Core.Path.{_≡_, sym, _∙_, ap}
-use lib.ListN.{length, getD}
+use lib.ListN.{length, getD, length-set}
 use Rattle.rules.specs.Tables.{Topology}
 use Rattle.tables.specs.declared.Counts.{Counts}
 use Rattle.tables.specs.Lent.{topologyNow}
@@ -104,6 +104,15 @@ walked c n corners =
     (walk-boundary _ (walking at n corners) odd-here (omega arith) (sym (w .3 .ensures) ∙ w .4 .taken))))
     (c .loop-test .came)
 
+-- The array is as long as it was.
+held : (c : tie.Left-loop Inv-loop μ-loop) → length (c .loop-test .slots) ≡ 20
+held c =
+    let l = c .before .loop in
+    let long = l .inv .2 in
+    ⊎-elim (λ w. rw (w .1) long)
+    (⊎-elim (λ w. rw (w .3) long) (λ w. rw (w .5) (length-set (l .slots) (l .odd) (l .end) ∙ long)))
+    (c .loop-test .came)
+
 generation-at-requires-3 : tie.Need-generation-at-requires-3 Inv-loop μ-loop
 generation-at-requires-3 c κs = search needs
 
@@ -111,7 +120,8 @@ cast-rim : tie.Need-cast-rim Inv-loop μ-loop
 cast-rim c = search needs
 
 returns : tie.Need-returns Inv-loop μ-loop
-returns c n corners = walk-tells _ (walked (c .before) n corners) (ap (λ g. g % 2) (c .generation-at3 .ensures))
+returns c n corners =
+    walk-tells _ (walked (c .before) n corners) (held (c .before)) (ap (λ g. g % 2) (c .generation-at3 .ensures))
 
 pub base-chain-spec : {M : Type 1} → statement M
 base-chain-spec =

@@ -5,8 +5,8 @@ use Rattle.mesh.proofs.InSpares.{may-work, preview-refused, preview-car
 use Rattle.mesh.proofs.lists.preview.Statement.{statement}
 use Rattle.mesh.proofs.lists.preview.Tie as tie
 
-spares-refusal-requires : tie.Need-spares-refusal-requires
-spares-refusal-requires c κs = search needs
+refusal-requires : tie.Need-refusal-requires
+refusal-requires c κs = search needs
 
 same-length : tie.Need-same-length
 same-length c = search needs
@@ -21,12 +21,12 @@ same-length-4 : tie.Need-same-length-4
 same-length-4 c = search needs
 
 returns : tie.Need-returns
-returns c = preview-refused _ _ _ (c .before .spares-refusal .ensures) _ (c .if1 .taken)
+returns c = preview-refused _ _ _ (c .before .refusal .ensures) _ (c .if1 .taken)
 
 preview-requires : tie.Need-preview-requires
 preview-requires c κs =
     let at-if1 = c .before .before .before .before in
-    may-work _ _ _ (at-if1 .before .spares-refusal .ensures) (at-if1 .if1 .left)
+    may-work _ _ _ (at-if1 .before .refusal .ensures) (at-if1 .if1 .left)
 
 same-length-5 : tie.Need-same-length-5
 same-length-5 c = search needs
@@ -45,13 +45,13 @@ returns-2 c =
     let at-preview = c .before .before .before .before .before .before .before in
     let at-if1 = at-preview .before .before .before .before .before in
     at-preview .preview .ensures
-    ∙ preview-carried _ _ _ (at-if1 .before .spares-refusal .ensures) _ (at-if1 .if1 .left)
+    ∙ preview-carried _ _ _ (at-if1 .before .refusal .ensures) _ (at-if1 .if1 .left)
 
 pub preview-spec : {M : Type 1} → statement M
 preview-spec =
     tie.close
     (tie.spec
-    spares-refusal-requires
+    refusal-requires
     same-length
     same-length-2
     same-length-3

@@ -5,8 +5,11 @@ use Rattle.mesh.proofs.InSpares.{may-work, list-refused, list-carried}
 use Rattle.mesh.proofs.lists.refine_list.Statement.{statement}
 use Rattle.mesh.proofs.lists.refine_list.Tie as tie
 
-spares-refusal-requires : tie.Need-spares-refusal-requires
-spares-refusal-requires c κs = search needs
+refusal-requires : tie.Need-refusal-requires
+refusal-requires c κs = search needs
+
+refused-requires : tie.Need-refused-requires
+refused-requires c κs = search needs
 
 same-length : tie.Need-same-length
 same-length c = search needs
@@ -33,12 +36,14 @@ same-length-8 : tie.Need-same-length-8
 same-length-8 c = search needs
 
 returns : tie.Need-returns
-returns c = list-refused _ _ _ (c .before .spares-refusal .ensures) _ (c .if1 .taken)
+returns c =
+    let at-refusal = c .before .before in
+    rw (c .refused .ensures) (list-refused _ _ _ (at-refusal .refusal .ensures) _ (c .before .if1 .taken))
 
 refine-list-requires : tie.Need-refine-list-requires
 refine-list-requires c κs =
     let at-if1 = c .before .before .before .before .before .before .before .before in
-    may-work _ _ _ (at-if1 .before .spares-refusal .ensures) (at-if1 .if1 .left)
+    may-work _ _ _ (at-if1 .before .refusal .ensures) (at-if1 .if1 .left)
 
 same-length-9 : tie.Need-same-length-9
 same-length-9 c = search needs
@@ -70,13 +75,14 @@ returns-2 c =
     let at-list = to-list .before .before .before .before .before .before .before in
     let at-if1 = at-list .before .before .before .before .before .before .before .before .before in
     at-list .refine-list .ensures
-    ∙ list-carried _ _ _ (at-if1 .before .spares-refusal .ensures) _ (at-if1 .if1 .left)
+    ∙ list-carried _ _ _ (at-if1 .before .refusal .ensures) _ (at-if1 .if1 .left)
 
 pub refine-list-spec : {M : Type 1} → statement M
 refine-list-spec =
     tie.close
     (tie.spec
-    spares-refusal-requires
+    refusal-requires
+    refused-requires
     same-length
     same-length-2
     same-length-3

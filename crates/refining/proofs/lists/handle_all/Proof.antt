@@ -5,8 +5,8 @@ use mathlib.Core.Logic.{_≢_}
 use Prim.Native.Nat.{_+_, _-_, _≤_, _<_}
 use native.Mathlib.Omega.{arith}
 use lib.ListN.{length}
-use Rattle.rules.proofs.Lists.InSpares.{Done, Doing, doing-sound, doing-few, doing-on, doing-stops}
-use Rattle.rules.proofs.Lists.InSpares.{doing-ends}
+use Rattle.rules.proofs.Lists.Holding.{Done, holding-sound, holding-few}
+use Rattle.rules.proofs.Lists.InSpares.{Doing, doing-on, doing-stops, doing-ends}
 use Rattle.rules.proofs.Soundness.Relaxed.{SameSlots}
 use Rattle.rules.specs.Calls.{Outcome}
 use Rattle.rules.specs.Lists.{refineEach}
@@ -76,7 +76,7 @@ module _ (c : tie.After-handle Inv-loop μ-loop) where
   few : c .handle .result .refusal ≡ 0
       → (at-loop .loop .splits + c .handle .result .splits ≤ 32768)
       × (at-loop .loop .flips + c .handle .result .flips ≤ 98304)
-  few z = let (m, s, B) = start .pre in doing-few (goes-on m s B z)
+  few z = let (m, s, B) = start .pre in holding-few (goes-on m s B z .held)
 
 -- The entry handled, where it fails.
 abbrev handled : tie.Then1 Inv-loop μ-loop → tie.After-handle Inv-loop μ-loop
@@ -93,7 +93,7 @@ ended-slots c =
     let start = c .before .before .before .before .before .before .before in
     let (m, s, B) = start .pre in
     let D = c .before .loop .inv .1 m s B in
-    over-slots s m (D .work .mesh) (B .tables) (D .tables)
+    over-slots s m (D .work .mesh) (B .tables) (D .held .tables)
 
 loop-holds : tie.Need-loop-holds Inv-loop μ-loop
 loop-holds c = (omega arith, λ m s B. begins-doing B _)
@@ -108,7 +108,7 @@ handle-requires : tie.Need-handle-requires Inv-loop μ-loop
 handle-requires c κs =
     let at-loop = c .before .before .before .before .before .before in
     let (m, s, B) = at-loop .before .before .before .before .before .before .pre in
-    sound-standing (doing-sound (at-loop .loop .inv .1 m s B))
+    sound-standing (holding-sound (at-loop .loop .inv .1 m s B .held))
 
 same-length : tie.Need-same-length Inv-loop μ-loop
 same-length c = failed-slots (handled c) (c .if1 .taken) .positions

@@ -31,12 +31,14 @@ pub record Walked (m : Topology) (t odd end : ℕ) (slots : List ℕ) : Type 0 w
 
 -- How it ends is told by the generation of its last triangle.
 pub walk-tells : {m : Topology} {t odd end : ℕ} {slots : List ℕ} (rim : ℕ) → Walked m t odd end slots
-    → rim ≡ generation m end % 2 → BaseChain m t (record { odd = odd; end = end; rim = rim; slots = slots })
-walk-tells {m} rim w e = record {
+    → length slots ≡ 20 → rim ≡ generation m end % 2
+    → BaseChain m t (record { odd = odd; end = end; rim = rim; slots = slots })
+walk-tells {m} rim w long e = record {
   odd = w .odds;
   end = w .ends;
   rim = e ∙ ap (λ (v : ℕ). generation m v % 2) (w .ends);
   slots = w .before;
+  room = long;
 }
 
 module _ {m : Topology} {t : ℕ} where

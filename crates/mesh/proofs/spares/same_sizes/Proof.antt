@@ -1,10 +1,10 @@
--- `mesh::lists::same_sizes` meets its contract.
+-- `mesh::spares::same_sizes` meets its contract.
 use Rattle.rules.specs.Spares.{Spares}
 use Rattle.rules.specs.Tables.{Mesh}
 use Rattle.tables.specs.Lent.{meshNow, sparesNow}
 use Rattle.mesh.proofs.InSpares.{positions-differ, corners-differ, links-differ, generations-decide}
-use Rattle.mesh.proofs.lists.same_sizes.Statement.{statement}
-use Rattle.mesh.proofs.lists.same_sizes.Tie as tie
+use Rattle.mesh.proofs.spares.same_sizes.Statement.{statement}
+use Rattle.mesh.proofs.spares.same_sizes.Tie as tie
 
 abbrev mesh-of : tie.Start → Mesh
 mesh-of c =

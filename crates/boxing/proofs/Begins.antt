@@ -1,0 +1,25 @@
+-- A box begins with the copy of a sound mesh, and what it made is what its definition says.
+use mathlib.Core.List.{List}
+use Rattle.rules.proofs.Boxes.BoxCall.{box-run}
+use Rattle.rules.proofs.Boxes.InSpares.{Boxing, boxing-begins}
+use Rattle.rules.proofs.Spares.OverSpares.{over-sound}
+use Rattle.rules.specs.Boxes.{Box, refineInBox}
+use Rattle.rules.specs.Sound.{Sound}
+use Rattle.rules.specs.Spares.{Spares}
+use Rattle.rules.specs.Tables.{Mesh}
+use Rattle.refining.proofs.Batching.{may-sound}
+use Rattle.refining.specs.Batches.{Begins, Made, MayWork}
+use Rattle.refining.specs.declared.spares.Batch.{Batch}
+use Rattle.boxing.specs.Boxing.{Boxes}
+use Prim.Native.Nat.{ℕ}
+
+module _ {m x : Mesh} {s : Spares} {g : List ℕ} (B : Begins m s g x) where
+  pub begins-sound : Sound x
+  begins-sound = rw (B .tables) (over-sound (B .sizes) (B .sound))
+
+  pub begins-boxing : (b : Box) → Boxing b m s 0 0 0 x
+  begins-boxing b = rw (B .tables) (boxing-begins b (B .sizes) (B .sound))
+
+pub box-made : (b : Box) {m : Mesh} {s : Spares} {r : Batch} {x : Mesh} → MayWork m s → Boxes b m s r x
+    → Made (refineInBox b m) s m r x
+box-made b {m} W D = record { sizes = W .sizes; going = box-run b m (may-sound W) .going; done = D }

@@ -1,0 +1,65 @@
+-- `boxing::refine_box` meets its contract.
+use borrow.Author.Needs.{needs}
+use Rattle.boxing.proofs.Begins.{box-made}
+use Rattle.boxing.proofs.refine_box.Statement.{statement}
+use Rattle.boxing.proofs.refine_box.Tie as tie
+
+work-in-spares-requires : tie.Need-work-in-spares-requires
+work-in-spares-requires c κs = search needs
+
+carry-back-requires : tie.Need-carry-back-requires
+carry-back-requires c κs =
+    let to-work = c .before .before .before .before .before .before .before .before in
+    let at-work = to-work .before .before .before .before .before .before .before in
+    let to-start = at-work .before .before .before .before .before .before .before .before in
+    let start = to-start .before .before .before .before .before .before .before in
+    (_, _, box-made _ (start .pre) (at-work .work-in-spares .ensures))
+
+same-length : tie.Need-same-length
+same-length c = search needs
+
+same-length-2 : tie.Need-same-length-2
+same-length-2 c = search needs
+
+same-length-3 : tie.Need-same-length-3
+same-length-3 c = search needs
+
+same-length-4 : tie.Need-same-length-4
+same-length-4 c = search needs
+
+same-length-5 : tie.Need-same-length-5
+same-length-5 c = search needs
+
+same-length-6 : tie.Need-same-length-6
+same-length-6 c = search needs
+
+same-length-7 : tie.Need-same-length-7
+same-length-7 c = search needs
+
+same-length-8 : tie.Need-same-length-8
+same-length-8 c = search needs
+
+returns : tie.Need-returns
+returns c =
+    let at-carry = c .before .before .before .before .before .before .before in
+    let to-work = at-carry .before .before .before .before .before .before .before .before in
+    let at-work = to-work .before .before .before .before .before .before .before .before in
+    let to-start = at-work .before .before .before .before .before .before .before .before in
+    let start = to-start .before .before .before .before .before .before .before in
+    at-carry .carry-back .ensures _ _ (box-made _ (start .pre) (at-work .work-in-spares .ensures))
+
+pub refine-box-spec : {M : Type 1} → statement M
+refine-box-spec =
+    tie.close
+    (tie.spec
+    work-in-spares-requires
+    carry-back-requires
+    same-length
+    same-length-2
+    same-length-3
+    same-length-4
+    same-length-5
+    same-length-6
+    same-length-7
+    same-length-8
+    returns)

@@ -1,0 +1,2 @@
+-- What the contracts of boxes cite beside the rules.
+pub mod Boxing

@@ -1,0 +1,3 @@
+-- Laws of bits and of tables of marks.
+pub mod Bits
+pub mod Tables

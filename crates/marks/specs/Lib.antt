@@ -1,0 +1,2 @@
+-- What the contracts of marks cite beside the rules.
+pub mod Marks

@@ -1,0 +1,75 @@
+// The call that refines what has a corner in a box.
+use points::Point;
+use refining::spares::BatchWorked;
+use tables::Counts;
+ghost use mathlib.Core.Path.{_≡_};
+ghost use Rattle.refining.specs.Batches.{batchOutcome};
+ghost use Rattle.boxing.specs.Boxing.{boxOf};
+ghost use Rattle.rules.specs.Boxes.{boxFits, boxCall};
+ghost use Rattle.tables.specs.Lent.{meshNow, sparesNow};
+
+// Whether the generation is at most 20 and no low coordinate is above the high one, so that the box has its low corner.
+fn box_fits(low: Point, high: Point, below: u32) -> bool
+    ensures { λ r. ⌜ r ≡ boxFits (boxOf low high below) ⌝ }
+{
+    if 20 < below {
+        return false;
+    }
+    low.in_box(low, high)
+}
+
+// Refines the triangles that have a corner in the box, the lowest slot first, until none of them is below the
+// generation: all of it, or nothing of the mesh. The work is done in the spare tables.
+pub fn refine_box(
+    positions: &mut [i32],
+    corners: &mut [u32],
+    links: &mut [u32],
+    generations: &mut [u8],
+    counts: Counts,
+    low: Point,
+    high: Point,
+    below: u32,
+    spare_positions: &mut [i32],
+    spare_corners: &mut [u32],
+    spare_links: &mut [u32],
+    spare_generations: &mut [u8],
+) -> BatchWorked
+    ensures { λ r. ⌜
+        batchOutcome r (now (positions .exit)) (now (corners .exit)) (now (links .exit)) (now (generations .exit))
+        (sparesNow (now («spare_positions» .exit)) (now («spare_corners» .exit)) (now («spare_links» .exit))
+        (now («spare_generations» .exit)))
+        ≡ boxCall (boxOf low high below) (sparesNow (now («spare_positions» .entry)) (now («spare_corners» .entry))
+        (now («spare_links» .entry)) (now («spare_generations» .entry)))
+        (meshNow counts (now (positions .entry)) (now (corners .entry)) (now (links .entry))
+        (now (generations .entry))) ⌝ }
+{
+    let refusal = crate::spares::refusal(
+        positions,
+        corners,
+        links,
+        generations,
+        counts,
+        box_fits(low, high, below),
+        spare_positions,
+        spare_corners,
+        spare_links,
+        spare_generations,
+    );
+    if refusal != 0 {
+        return BatchWorked::refused(refusal, counts);
+    }
+    boxing::refine_box(
+        positions,
+        corners,
+        links,
+        generations,
+        counts,
+        low,
+        high,
+        below,
+        spare_positions,
+        spare_corners,
+        spare_links,
+        spare_generations,
+    )
+}

@@ -1,0 +1,88 @@
+// What a call that works in spare tables is refused with before the work.
+use tables::Counts;
+ghost use mathlib.Core.Path.{_≡_};
+ghost use Rattle.rules.specs.Spares.{sameSizes};
+ghost use Rattle.tables.specs.Lent.{meshNow, sparesNow};
+ghost use Rattle.mesh.specs.Working.{workRefusal};
+
+// Whether the spare tables are as long as those of the mesh.
+fn same_sizes(
+    positions: &[i32],
+    corners: &[u32],
+    links: &[u32],
+    generations: &[u8],
+    counts: Counts,
+    spare_positions: &[i32],
+    spare_corners: &[u32],
+    spare_links: &[u32],
+    spare_generations: &[u8],
+) -> bool
+    ensures { λ r. ⌜
+        r ≡ sameSizes (sparesNow (now («spare_positions» .entry)) (now («spare_corners» .entry))
+        (now («spare_links» .entry)) (now («spare_generations» .entry)))
+        (meshNow counts (now (positions .entry)) (now (corners .entry)) (now (links .entry))
+        (now (generations .entry))) ⌝ }
+{
+    if spare_positions.len() != positions.len() {
+        return false;
+    }
+    if spare_corners.len() != corners.len() {
+        return false;
+    }
+    if spare_links.len() != links.len() {
+        return false;
+    }
+    spare_generations.len() == generations.len()
+}
+
+// The first refusal of a call that works in spare tables: 1, 17, 18 where its arguments do not fit, 7 or none.
+pub fn refusal(
+    positions: &[i32],
+    corners: &[u32],
+    links: &[u32],
+    generations: &[u8],
+    counts: Counts,
+    fits: bool,
+    spare_positions: &[i32],
+    spare_corners: &[u32],
+    spare_links: &[u32],
+    spare_generations: &[u8],
+) -> u32
+    ensures { λ r. ⌜
+        r ≡ workRefusal fits (sparesNow (now («spare_positions» .entry)) (now («spare_corners» .entry))
+        (now («spare_links» .entry)) (now («spare_generations» .entry)))
+        (meshNow counts (now (positions .entry)) (now (corners .entry)) (now (links .entry))
+        (now (generations .entry))) ⌝ }
+{
+    if !soundness::tables_agree(positions, corners, links, generations) {
+        return 1;
+    }
+    if !same_sizes(
+        positions,
+        corners,
+        links,
+        generations,
+        counts,
+        spare_positions,
+        spare_corners,
+        spare_links,
+        spare_generations,
+    ) {
+        return 17;
+    }
+    if !fits {
+        return 18;
+    }
+    if !soundness::is_sound(
+        positions,
+        corners,
+        links,
+        generations,
+        counts.vertices,
+        counts.triangles,
+        counts.rule,
+    ) {
+        return 7;
+    }
+    0
+}

@@ -1,0 +1,336 @@
+-- Which slots a refine writes anew, known before the work.
+use mathlib.Core.Path.{_≡_, refl, sym, ap, _∙_, subst}
+use mathlib.Core.Logic.{_≢_, _⊎_, inl, inr}
+use Prim.Native.Nat.{ℕ, zero, suc, _+_, _-_, _*_, _/_, _%_, _≤_, _<_}
+use native.Mathlib.Omega.{arith}
+use native.Mathlib.Decide.{ℕ-discrete}
+use Rattle.rules.proofs.Calls.Carried.{RefineFound}
+use Rattle.rules.proofs.Chains.Chain.{Path, ends, across, path-odd, path-meets, path-next, falls, shortens}
+use Rattle.rules.proofs.Chains.Refine.{chain-path}
+use Rattle.rules.proofs.Chains.RefineLoop.{splitEnds, Leads, Ahead, End, ahead-end, ahead-splitting, ahead-on}
+use Rattle.rules.proofs.Chains.RefineLoop.{path-of-two, path-after, ahead-stays, ahead-across, ahead}
+use Rattle.rules.proofs.Chains.RefineLoop.{refine-is-split-ends}
+use Rattle.rules.proofs.Chains.Remembered.{chainAt, path-none, path-from, path-within}
+use Rattle.rules.proofs.Chains.Runs.{Splittable, not-splittable}
+use Rattle.rules.proofs.Links.Manifold.{Partnered, Manifold, BasesMeetIn, partnered, target₀}
+use Rattle.rules.proofs.Soundness.Relaxed.{sound-manifold}
+use Rattle.rules.proofs.Splits.Bases.{reached}
+use Rattle.rules.proofs.Splits.Cut.{CutResult}
+use Rattle.rules.proofs.Splits.Settled.{nowhere, unchanged-not}
+use Rattle.rules.specs.Calls.{splitsOf}
+use Rattle.rules.specs.Promises.{Written}
+use Rattle.rules.specs.Sound.{Sound}
+use Rattle.rules.specs.Split.{Work, atFirst, chainEnd, chainOdd, splitAt, refine}
+use Rattle.rules.specs.Tables.{Topology, Mesh, next, origin, target, boundary, link, generation}
+
+-- Refining t writes slot x anew: x is the triangle split first, at the end of the base chain of t; or an odd triangle
+-- whose base meets that one; or an odd triangle of the chain before it.
+pub data Alters (m : Topology) : ℕ → ℕ → Type 0 where
+  splitFirst : {t x : ℕ} → Splittable m t → x ≡ t → Alters m t x
+  meetsFirst : {t x : ℕ} → Splittable m t → generation m x % 2 ≡ 1 → link m (3 * x) ≢ boundary
+      → link m (3 * x) / 3 ≡ t → Alters m t x
+  inChain : {t x : ℕ} → generation m t % 2 ≡ 1 → link m (3 * t) ≢ boundary → x ≡ t → Alters m t x
+  further : {t x : ℕ} → generation m t % 2 ≡ 1 → link m (3 * t) ≢ boundary → Alters m (link m (3 * t) / 3) x
+      → Alters m t x
+
+-- ---- the places of the chain
+
+-- The same, where the base chain of t leads over k odd triangles to v.
+data AltersFrom (m : Topology) (v k t x : ℕ) : Type 0 where
+  atEnd : x ≡ v → AltersFrom m v k t x
+  meetsEnd : generation m x % 2 ≡ 1 → link m (3 * x) ≢ boundary → link m (3 * x) / 3 ≡ v → AltersFrom m v k t x
+  atPlace : (i : ℕ) → i < k → x ≡ chainAt i m t → AltersFrom m v k t x
+
+-- The places after the first are those from the next triangle on.
+place-on : (i : ℕ) (m : Topology) (t : ℕ) → chainAt (suc i) m t ≡ chainAt i m (link m (3 * t) / 3)
+unfolding chainAt
+place-on zero m t = refl
+place-on (suc i) m t = ap (λ (y : ℕ). link m (3 * y) / 3) (place-on i m t)
+
+module _ {m : Topology} where
+  place-here : {v k t x : ℕ} → x ≡ t → AltersFrom m v (suc k) t x
+  unfolding chainAt
+  place-here e = atPlace 0 (omega arith) e
+
+  place-further : {v k t x : ℕ} → AltersFrom m v k (link m (3 * t) / 3) x → AltersFrom m v (suc k) t x
+  place-further (atEnd e) = atEnd e
+  place-further (meetsEnd o r e) = meetsEnd o r e
+  place-further {t = t} (atPlace i l e) = atPlace (suc i) (omega arith) (e ∙ sym (place-on i m t))
+
+  alters-from : {t v k x : ℕ} → Path m t v k → Alters m t x → AltersFrom m v k t x
+  alters-from (ends f) (splitFirst _ e) = atEnd e
+  alters-from (ends f) (meetsFirst _ o r e) = meetsEnd o r e
+  alters-from (ends f) (inChain o r _) = not-splittable f o r
+  alters-from (ends f) (further o r _) = not-splittable f o r
+  alters-from (across o r p) (splitFirst f _) = not-splittable f o r
+  alters-from (across o r p) (meetsFirst f _ _ _) = not-splittable f o r
+  alters-from (across o r p) (inChain _ _ e) = place-here e
+  alters-from (across o r p) (further _ _ a) = place-further (alters-from p a)
+
+  -- What the end of a chain alters, the chain does.
+  from-end : {t v k x : ℕ} → Path m t v k → Alters m v x → Alters m t x
+  from-end (ends f) a = a
+  from-end (across o r p) a = further o r (from-end p a)
+
+  -- Each odd triangle before the end is altered.
+  at-place : {t v k x : ℕ} (i : ℕ) → i < k → Path m t v k → x ≡ chainAt i m t → Alters m t x
+  unfolding chainAt
+  at-place i l (ends f) e = absurd (omega arith)
+  at-place zero l (across o r p) e = inChain o r e
+  at-place (suc i) l (across {t = t} o r p) e = further o r (at-place i (omega arith) p (e ∙ place-on i m t))
+
+-- ---- one split
+
+-- A side that neither starts nor ends at corner i of its triangle lies across from it.
+opposite : (h i : ℕ) → i / 3 ≡ h / 3 → i ≢ h → i ≢ next h → h ≡ next i
+opposite h i e x y = omega arith
+
+module _ {v g p r : ℕ} {m n : Topology} (S : CutResult v g p r m n) (F : Manifold m) (fit : Splittable m v) where
+  -- A split of v writes anew what v alters, and this rises.
+  split-alters : (x : ℕ) → x < m .triangles → generation n x ≢ generation m x → Alters m v x
+  split-alters x l d = go (ℕ-discrete x v)
+    where
+      go : Dec (x ≡ v) → Alters m v x
+      go (yes e) = splitFirst fit e
+      go (no e) =
+          let w = S .moved x l e d in
+          let w₂ = w .2 in
+          meetsFirst {x = x} fit (omega (arith, S .odd)) (w .0) (w .1)
+
+  split-raises : (x : ℕ) → x < m .triangles → Alters m v x → generation m x < generation n x
+  split-raises x l (splitFirst _ e) = rw e (S .own)
+  split-raises x l (meetsFirst _ o q e) =
+      let d : x ≢ v = λ z. not-splittable (subst (Splittable m) (sym z) fit) o q in
+      omega (arith, S .turns x l d o q e)
+  split-raises x l (inChain o q _) = not-splittable fit o q
+  split-raises x l (further o q _) = not-splittable fit o q
+
+  -- The base of a triangle that is left runs between old vertices.
+  between-old : (x : ℕ) → x < m .triangles → generation n x ≡ generation m x → link n (3 * x) ≢ boundary
+      → (origin n (link n (3 * x)) < m .vertices) × (target n (link n (3 * x)) < m .vertices)
+  between-old x l e q =
+      let w = S .triangles in
+      let M : Partnered n (3 * x) = partnered (S .manifold .linked (3 * x) (omega arith)) q in
+      let a : 3 * x / 3 ≡ x = omega arith in
+      let b : (3 * x + 1) / 3 ≡ x = omega arith in
+      let c : origin n (3 * x) ≡ origin m (3 * x) = S .still .corners (3 * x) (omega arith) (rw a e) in
+      let d : origin n (3 * x + 1) ≡ origin m (3 * x + 1) =
+      S .still .corners (3 * x + 1) (omega arith) (rw b e) in (
+        omega (arith, M .from, target₀ n x, F .corner (3 * x + 1) (omega arith)),
+        omega (arith, M .onto, F .corner (3 * x) (omega arith)),
+      )
+
+  -- A side between old vertices lies across from the new corner.
+  across-new : (h i : ℕ) → i / 3 ≡ h / 3 → m .vertices ≤ origin n i
+      → (origin n h < m .vertices) × (target n h < m .vertices) → h ≡ next i
+  across-new h i e o b =
+      opposite h i e (λ q. omega (arith, b .0, ap (origin n) q)) (λ q. omega (arith, b .1, ap (origin n) q))
+
+  -- Of the triangles that are left, the base of one at most meets a triangle that is written anew.
+  only-one : (x y : ℕ) → x < m .triangles → y < m .triangles → generation n x ≡ generation m x
+      → generation n y ≡ generation m y → link n (3 * x) ≢ boundary → link n (3 * y) ≢ boundary
+      → link n (3 * x) / 3 ≡ link n (3 * y) / 3 → Written m n (link n (3 * y) / 3) → x ≡ y
+  only-one x y lx ly ex ey qx qy e w =
+      let s = S .triangles in
+      let X : Partnered n (3 * x) = partnered (S .manifold .linked (3 * x) (omega arith)) qx in
+      let Y : Partnered n (3 * y) = partnered (S .manifold .linked (3 * y) (omega arith)) qy in
+      let (i, j, o) = S .newCorner (link n (3 * y) / 3) (omega (arith, Y .inUse)) w in
+      let a = across-new (link n (3 * x)) i (j ∙ sym e) o (between-old x lx ex qx) in
+      let b = across-new (link n (3 * y)) i j o (between-old y ly ey qy) in
+      let d : 3 * x ≡ 3 * y = sym (X .back) ∙ ap (link n) (a ∙ sym b) ∙ Y .back in
+      omega arith
+
+  -- From two odd triangles before v on, the chain then meets a triangle that is written anew.
+  meets-written : BasesMeetIn nowhere m → v < m .triangles → (y : ℕ) → y < m .triangles → Path m y v 2
+      → (generation n y ≡ generation m y) × (link n (3 * y) ≢ boundary) × Written m n (link n (3 * y) / 3)
+  meets-written K b y l P =
+      let a = shortens v g p r m n F K b fit S l refl P in
+      let u = falls m F K y l (path-odd P) (path-meets P) .0 in
+      let z : 3 * y / 3 ≡ y = omega arith in (
+        a .0,
+        path-meets (a .1 .2),
+        go (shortens v g p r m n F K b fit S u refl (path-next P))
+            (S .still .shift (3 * y) (omega arith) (rw z (a .0))),
+      )
+    where
+      go : generation n (link m (3 * y) / 3) ≡ suc (generation m (link m (3 * y) / 3))
+          → (link n (3 * y) ≡ link m (3 * y)) ⊎ Written m n (link n (3 * y) / 3) → Written m n (link n (3 * y) / 3)
+      go c (inr w) = w
+      go c (inl e) =
+          inr (λ q. omega (arith, subst (λ (h : ℕ). generation n (h / 3) ≡ generation m (h / 3)) e q))
+
+-- ---- all splits
+
+-- What the next split of the refinement of t makes.
+abbrev afterNext : ℕ → Work → Topology
+afterNext t w = reached (splitAt (chainEnd (reached w) t) w)
+
+-- A triangle that is left is none that is written anew.
+left-not : (m n : Topology) {x y : ℕ} → x < m .triangles → generation n x ≡ generation m x → Written m n y → x ≢ y
+left-not m n l e (inl w) q = omega arith
+left-not m n l e (inr w) q = unchanged-not m n w e q
+
+next-alters : {k g t : ℕ} {w : Work} → Ahead (suc k) g t w → (x : ℕ) → x < reached w .triangles
+    → generation (afterNext t w) x ≢ generation (reached w) x → Alters (reached w) t x
+next-alters A x l d =
+    from-end (A .rising .1 .path) (split-alters (ahead-splitting A .result) (A .manifold) (ahead-end A .fit) x l d)
+
+still-in-use : {k g t : ℕ} {w : Work} {x : ℕ} → Ahead (suc k) g t w → x < reached w .triangles
+    → x < afterNext t w .triangles
+still-in-use A l = omega (arith, ahead-splitting A .result .triangles)
+
+module _ {k g t : ℕ} {w : Work} (A : Ahead (suc (suc k)) g t w) (x : ℕ) (l : x < reached w .triangles) where
+  -- What the splits after the next alter, of the triangles that this leaves, are places of the chain.
+  alters-before : generation (afterNext t w) x ≡ generation (reached w) x → Alters (afterNext t w) t x
+      → Alters (reached w) t x
+  alters-before left a = go (alters-from (path-after A .0) a)
+    where
+      m : Topology
+      m = reached w
+
+      n : Topology
+      n = afterNext t w
+
+      y : ℕ
+      y = chainAt k m t
+
+      in-use : y < m .triangles
+      in-use = path-within k 2 (A .manifold) (A .basesMeet) (A .inUse) (omega arith) (path-of-two A)
+
+      met : (generation n y ≡ generation m y) × (link n (3 * y) ≢ boundary) × Written m n (link n (3 * y) / 3)
+      met =
+          let E = ahead-end A in
+          meets-written (ahead-splitting A .result) (A .manifold) (E .fit) (A .basesMeet) (E .inUse) y in-use
+          (path-from k 2 (omega arith) (path-of-two A))
+
+      go : AltersFrom n (chainEnd n t) (suc k) t x → Alters m t x
+      go (atEnd e) = absurd (left-not m n l left (met .2) (e ∙ ahead-across A .next))
+      go (meetsEnd o q e) =
+          at-place k (omega arith) (path-of-two A)
+          (only-one (ahead-splitting A .result) (A .manifold) (ahead-end A .fit) x y l in-use left (met .0) q (met .1)
+          (e ∙ ahead-across A .next) (met .2))
+      go (atPlace i b e) = at-place i (omega arith) (path-of-two A) (e ∙ ahead-stays (suc k) A i b)
+
+  alters-on : {h : ℕ} → h ≢ generation (reached w) x
+      → (h ≢ generation (afterNext t w) x → Alters (afterNext t w) t x) → Alters (reached w) t x
+  alters-on d later = go (ℕ-discrete (generation (afterNext t w) x) (generation (reached w) x))
+    where
+      go : Dec (generation (afterNext t w) x ≡ generation (reached w) x) → Alters (reached w) t x
+      go (no e) = next-alters A x l e
+      go (yes e) = alters-before e (later (λ z. d (z ∙ e)))
+
+ends-alter : {g t : ℕ} (k : ℕ) (w : Work) → Ahead (suc k) g t w → (x : ℕ) → x < reached w .triangles
+    → generation (reached (splitEnds (suc k) t w)) x ≢ generation (reached w) x → Alters (reached w) t x
+unfolding splitEnds
+ends-alter zero w A x l d = next-alters A x l d
+ends-alter (suc k) w A x l d =
+    alters-on A x l d (ends-alter k _ (ahead-on A) x (still-in-use A l))
+
+-- No split lowers a generation.
+ends-mono : {g t : ℕ} (k : ℕ) (w : Work) → Ahead k g t w → (x : ℕ) → x < reached w .triangles
+    → generation (reached w) x ≤ generation (reached (splitEnds k t w)) x
+unfolding splitEnds
+ends-mono zero w A x l = omega arith
+ends-mono (suc k) w A x l =
+    let a = ahead-splitting A .result .still .mono x l in
+    let b = ends-mono k _ (ahead-on A) x (still-in-use A l) in
+    omega arith
+
+-- What is altered rises with the next split, or is a place of the chain that this leaves.
+rises-on : {k g t h : ℕ} {w : Work} (A : Ahead (suc k) g t w) (x : ℕ) → x < reached w .triangles
+    → generation (afterNext t w) x ≤ h
+    → ((i : ℕ) → i < k → x ≡ chainAt i (reached w) t → generation (afterNext t w) x < h)
+    → Alters (reached w) t x → generation (reached w) x < h
+rises-on {k} {g} {t} {h} {w} A x l up later a = go (alters-from (L .path) a)
+  where
+    m : Topology
+    m = reached w
+
+    L : Leads (suc k) t m
+    L = A .rising .1
+
+    E : End g (chainEnd m t) m
+    E = ahead-end A
+
+    raises : Alters m (chainEnd m t) x → generation m x < h
+    raises c = omega (arith, split-raises (ahead-splitting A .result) (A .manifold) (E .fit) x l c)
+
+    place : (i : ℕ) → i < L .steps → x ≡ chainAt i m t → Dec (L .steps ≡ i + 1) → generation m x < h
+    place i b e (yes q) =
+        let p = path-from i 1 q (L .path) in
+        raises
+        (meetsFirst {x = x} (E .fit) (rw e (path-odd p)) (rw e (path-meets p)) (rw e (sym (path-none (path-next p)))))
+    place i b e (no q) =
+        omega (arith, later i (omega (arith, L .splits)) e, ahead-splitting A .result .still .mono x l)
+
+    go : AltersFrom m (chainEnd m t) (L .steps) t x → generation m x < h
+    go (atEnd e) = raises (splitFirst (E .fit) e)
+    go (meetsEnd o q e) = raises (meetsFirst (E .fit) o q e)
+    go (atPlace i b e) = place i b e (ℕ-discrete (L .steps) (i + 1))
+
+ends-rise : {g t : ℕ} (k : ℕ) (w : Work) → Ahead (suc k) g t w → (x : ℕ) → x < reached w .triangles
+    → Alters (reached w) t x → generation (reached w) x < generation (reached (splitEnds (suc k) t w)) x
+unfolding splitEnds
+ends-rise zero w A x l = rises-on A x l (omega arith) (λ i b e. absurd (omega arith))
+ends-rise (suc k) w A x l =
+    rises-on A x l (ends-mono (suc k) _ (ahead-on A) x (still-in-use A l))
+    (λ i b e. ends-rise k _ (ahead-on A) x (still-in-use A l)
+    (at-place i b (path-after A .0) (e ∙ sym (ahead-stays (suc k) A i b))))
+
+-- ---- refine
+
+-- A refine that is carried out makes one split at least.
+refine-splits : {t : ℕ} {m : Mesh} → RefineFound t m
+    → (k : ℕ) × Ahead (suc k) (generation (m .topology) t) t (atFirst m)
+    × (refine t (atFirst m) ≡ splitEnds (suc k) t (atFirst m))
+refine-splits {t} {m} R = go (splitsOf (m .topology) t) refl (ahead R) (refine-is-split-ends R)
+  where
+    go : (s : ℕ) → splitsOf (m .topology) t ≡ s → Ahead s (generation (m .topology) t) t (atFirst m)
+        → refine t (atFirst m) ≡ splitEnds s t (atFirst m)
+        → (k : ℕ) × Ahead (suc k) (generation (m .topology) t) t (atFirst m)
+        × (refine t (atFirst m) ≡ splitEnds (suc k) t (atFirst m))
+    go zero e A q = absurd (omega arith)
+    go (suc k) e A q = (k, A, q)
+
+-- A refine writes no old slots anew but these.
+pub refine-alters : {t : ℕ} {m : Mesh} → RefineFound t m → (x : ℕ) → x < m .topology .triangles
+    → generation (reached (refine t (atFirst m))) x ≢ generation (m .topology) x → Alters (m .topology) t x
+refine-alters {m = m} R x l d =
+    let (k, A, e) = refine-splits R in
+    ends-alter k (atFirst m) A x l (λ z. d (ap (λ (y : Work). generation (reached y) x) e ∙ z))
+
+-- Each of them rises.
+pub alters-rise : {t : ℕ} {m : Mesh} → RefineFound t m → (x : ℕ) → x < m .topology .triangles
+    → Alters (m .topology) t x → generation (m .topology) x < generation (reached (refine t (atFirst m))) x
+alters-rise {m = m} R x l a =
+    let (k, A, e) = refine-splits R in
+    rw e (ends-rise k (atFirst m) A x l a)
+
+-- ---- where they are found
+
+-- Slot x is that of an odd triangle of the base chain of t, of its end, or of a triangle beside its end.
+pub data AlteredAt (m : Topology) (t x : ℕ) : Type 0 where
+  onChain : (i : ℕ) → i < chainOdd m t → x ≡ chainAt i m t → AlteredAt m t x
+  isEnd : x ≡ chainEnd m t → AlteredAt m t x
+  besideEnd : (i : ℕ) → i < 3 → x ≡ link m (3 * chainEnd m t + i) / 3 → AlteredAt m t x
+
+-- A triangle whose base meets v lies beside v.
+beside : {m : Topology} {v x : ℕ} → Partnered m (3 * x) → link m (3 * x) / 3 ≡ v
+    → x ≡ link m (3 * v + link m (3 * x) % 3) / 3
+beside {m} {v} {x} M e =
+    let h : 3 * v + link m (3 * x) % 3 ≡ link m (3 * x) = omega arith in
+    let b : link m (3 * v + link m (3 * x) % 3) ≡ 3 * x = ap (link m) h ∙ M .back in
+    omega arith
+
+pub alters-known : {m : Mesh} {t x : ℕ} → Sound m → t < m .topology .triangles → x < m .topology .triangles
+    → Alters (m .topology) t x → AlteredAt (m .topology) t x
+alters-known {m} {t} {x} S b l a = go (alters-from (chain-path t m S b) a)
+  where
+    go : AltersFrom (m .topology) (chainEnd (m .topology) t)
+        (chainOdd (m .topology) t - generation (m .topology) (chainEnd (m .topology) t) % 2) t x
+        → AlteredAt (m .topology) t x
+    go (atEnd e) = isEnd e
+    go (meetsEnd o q e) =
+        besideEnd (link (m .topology) (3 * x) % 3) (omega arith)
+        (beside (partnered (sound-manifold S .linked (3 * x) (omega arith)) q) e)
+    go (atPlace i j e) = onChain i (omega arith) e
