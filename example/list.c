@@ -1,4 +1,5 @@
-/* Loads an octahedron, and previews lists of its triangles: one that is then carried out, and two that would fail. */
+/* Loads an octahedron, and previews lists of its triangles: one that is then carried out, and two that would fail. Then
+   refines what is inside of a box. */
 #include "rawplinth.h"
 
 #include <stdio.h>
@@ -51,6 +52,19 @@ static rawplinth_counts refine_each(rawplinth_counts counts, const uint32_t *lis
     return done.counts;
 }
 
+/* Refines the triangles of a panel, which is marked by two corners, until none of them is below a generation. */
+static rawplinth_counts refine_panel(rawplinth_counts counts, rawplinth_point low, rawplinth_point high, uint32_t below)
+{
+    rawplinth_batch_worked done = rawplinth_refine_box(LENT(mesh), counts, low, high, below, LENT(spares));
+    printf("panel to generation %u: ", below);
+    if (done.refusal != RAWPLINTH_OK)
+        printf("refused with %u after %zu refines; ", done.refusal, done.handled);
+    else
+        printf("%zu refines, %u splits, %u flips; ", done.handled, done.splits, done.flips);
+    printf("the mesh: %u vertices, %u triangles\n", done.counts.vertices, done.counts.triangles);
+    return done.counts;
+}
+
 int main(void)
 {
     rawplinth_counts counts = {0, 0, RAWPLINTH_HALF_UP};
@@ -67,5 +81,13 @@ int main(void)
     refine_each(counts, (const uint32_t[]){3, 4, 5, 6}, 4);
     /* Triangle 14 comes into use by the first entry, but was not when the call began. */
     refine_each(counts, (const uint32_t[]){3, 14}, 2);
+
+    /* A lettered panel. It holds vertex 3, which lies on a face of its box. */
+    rawplinth_point low = {-1024, -9216, -1024}, high = {1024, -6144, 1024};
+    /* There are no slots for generation 3: what was made on the way is undone. */
+    counts = refine_panel(counts, low, high, 3);
+    counts = refine_panel(counts, low, high, 2);
+    /* With its corners exchanged it is no box. */
+    refine_panel(counts, high, low, 2);
     return 0;
 }

@@ -14,7 +14,7 @@ extern "C" {
 
 /* Raised by every new call and every change of a signature, a struct or an answer; docs/changes/README.md has a line
    for each. */
-#define RAWPLINTH_VERSION 7
+#define RAWPLINTH_VERSION 8
 
 /* What a side without a partner links to. */
 #define RAWPLINTH_BOUNDARY UINT32_C(4294967295)
@@ -24,8 +24,9 @@ extern "C" {
 #define RAWPLINTH_MAX_TRIANGLE_SLOTS 65536
 
 /* The rules by which whole step and limit round what lies half-way between two whole numbers. Rule 2 keeps mirror
-   images: with one coordinate negated everywhere, in the tables, in other lent tables and in the cage of a load, a call
-   leaves and answers the same but for this coordinate, which is negated. */
+   images: with one coordinate negated everywhere, in the tables, in other lent tables, in the cage of a load and in the
+   corners of a box, where low and high then change places, a call leaves and answers the same but for this coordinate,
+   which is negated. (-2147483648, which a box may have, has no opposite.) */
 enum {
     RAWPLINTH_HALF_UP = 1,  /* 2.5 to 3, -2.5 to -2 */
     RAWPLINTH_HALF_AWAY = 2 /* 2.5 to 3, -2.5 to -3 */
@@ -33,17 +34,23 @@ enum {
 
 /* How many vertices and triangles are in use, and the rule that the mesh was loaded by. In a fresh store none are in
    use, and the rule may be any number. Every call takes the counts, and every answer but preview's has those for the
-   next call; after a preview they are the same as before. Counts that were saved before version 4 have no rule: their mesh goes on with
-   RAWPLINTH_HALF_UP. */
+   next call; after a preview they are the same as before. Counts that were saved before version 4 have no rule: their
+   mesh goes on with RAWPLINTH_HALF_UP. */
 typedef struct {
     uint32_t vertices;
     uint32_t triangles;
     uint32_t rule;
 } rawplinth_counts;
 
+/* A point, in units of 1/1024 mm. */
+typedef struct {
+    int32_t x, y, z;
+} rawplinth_point;
+
 /* The refusals. A refused call answers with the number, the counts that it was given and zeros, and writes nothing.
-   There is one exception: refine_list and preview, where an entry fails, leave the work that they have done in the
-   spare tables, and answer how many entries they handled and the counts of what the spare tables hold. */
+   There is one exception: refine_list and preview, where an entry fails, and refine_box, where a refine fails, leave
+   the work that they have done in the spare tables, and answer how many entries they handled or refines they made and
+   the counts of what the spare tables hold. */
 enum {
     RAWPLINTH_OK = 0,
     RAWPLINTH_TABLES_DISAGREE = 1, /* lengths that do not fit each other, or more slots than allowed */
@@ -62,7 +69,9 @@ enum {
     RAWPLINTH_BUFFER_SHORT = 14,   /* a buffer shorter than the ring */
     RAWPLINTH_TABLE_LENGTH = 15,   /* a table that has not exactly three entries for each vertex in use */
     RAWPLINTH_RULE = 16,           /* a load by a rule that is neither 1 nor 2 */
-    RAWPLINTH_SPARES = 17          /* a spare table of another length than the mesh's */
+    RAWPLINTH_SPARES = 17,         /* a spare table of another length than the mesh's */
+    RAWPLINTH_BOX = 18             /* a box whose low corner is above its high one in a coordinate, or a generation
+                                      above 20 */
 };
 
 /* The answer of load, refine and whole step. */
@@ -73,15 +82,16 @@ typedef struct {
     rawplinth_counts counts;
 } rawplinth_worked;
 
-/* The answer of refine_list. */
+/* The answer of refine_list and refine_box. */
 typedef struct {
     uint32_t refusal;
-    uint32_t splits; /* splits and flips made for all entries together */
+    uint32_t splits; /* splits and flips made for all entries, or in all refines, together */
     uint32_t flips;
     rawplinth_counts counts;
     size_t handled;          /* entries handled: all of them, or those before the one that fails, so its place;
-                                0 where 1, 17 or 7 refuses */
-    rawplinth_counts spares; /* of the mesh in the spare tables; zeros where 1, 17 or 7 refuses */
+                                of a box the refines made, or those before the one that fails;
+                                0 where 1, 17, 18 or 7 refuses */
+    rawplinth_counts spares; /* of the mesh in the spare tables; zeros where 1, 17, 18 or 7 refuses */
 } rawplinth_batch_worked;
 
 /* The answer of preview: what refine_list would answer. It has no counts of the mesh: those stand and go on to the next
@@ -195,6 +205,33 @@ rawplinth_batch_foreseen rawplinth_preview(
     const uint8_t *generations, size_t generations_length,
     rawplinth_counts counts,
     const uint32_t *list, size_t list_length,
+    int32_t *spare_positions, size_t spare_positions_length,
+    uint32_t *spare_corners, size_t spare_corners_length,
+    uint32_t *spare_links, size_t spare_links_length,
+    uint8_t *spare_generations, size_t spare_generations_length);
+
+/* Refines inside a box, all or nothing: as long as some triangle in use is of a generation below `below` and has a
+   corner in the box, the one in the lowest slot is refined. A corner on a face of the box is in it, and a triangle that
+   a refine makes counts like any other. So when the call is carried out, no triangle below that generation has a corner
+   in the box. A triangle that reaches into the box without a corner there does not count: a box inside one large
+   triangle refines nothing. A refine may have to split triangles outside of the box, too.
+   The box has all points from `low` to `high` in each coordinate, which may be any 32-bit numbers, and `below` is from
+   0 to 20. Where there is no such triangle, the call is carried out with zeros.
+   A triangle that cannot be refined is not passed over: the call fails with it.
+   The work is done in four spare tables, lent as refine_list's. Unless 1, 17, 18 or 7 refuses, they are left with the
+   mesh after the last refine that was made, or as it was given if none was, in the slots which that mesh has in use;
+   their other slots keep their content. So it is where a refine fails, too, and `spares` of the answer are the counts
+   of what they hold.
+   Refuses with 1, 17, 18, 7, in this order, then with what the first refine that fails is refused with: 9, which takes
+   a `below` of 20 and a triangle of generation 19 with its base on the boundary, or 11. Writes the spare tables, and if
+   no refine fails the mesh: slots in use and those that it takes. Needs 0.15 MB of stack. */
+rawplinth_batch_worked rawplinth_refine_box(
+    int32_t *positions, size_t positions_length,
+    uint32_t *corners, size_t corners_length,
+    uint32_t *links, size_t links_length,
+    uint8_t *generations, size_t generations_length,
+    rawplinth_counts counts,
+    rawplinth_point low, rawplinth_point high, uint32_t below,
     int32_t *spare_positions, size_t spare_positions_length,
     uint32_t *spare_corners, size_t spare_corners_length,
     uint32_t *spare_links, size_t spare_links_length,

@@ -3,7 +3,7 @@
 
 /// Raised with that of the header. A program may go without it.
 #[allow(dead_code)]
-pub const RAWPLINTH_VERSION: u32 = 7;
+pub const RAWPLINTH_VERSION: u32 = 8;
 
 /// The rules by which a mesh rounds halves: up, or away from zero.
 pub const RAWPLINTH_HALF_UP: u32 = 1;
@@ -16,6 +16,15 @@ pub struct Counts {
     pub vertices: u32,
     pub triangles: u32,
     pub rule: u32,
+}
+
+/// A point, in units of 1/1024 mm.
+#[repr(C)]
+#[derive(Clone, Copy, Debug, Default, PartialEq, Eq)]
+pub struct Point {
+    pub x: i32,
+    pub y: i32,
+    pub z: i32,
 }
 
 /// The answer of load, refine and whole step. Refine splits at the boundary, too, and no call returns 10.
@@ -56,9 +65,9 @@ pub struct LimitRead {
     pub counts: Counts,
 }
 
-/// The answer of a list: also the entries handled, all of them where none failed, and the counts of the mesh in the
-/// spare tables, zeros where 1, 17 or 7 refuses. Where an entry fails, the mesh stands, and the spare tables are
-/// written.
+/// The answer of a list or a box: also the entries handled, or the refines made, all of them where none failed, and the
+/// counts of the mesh in the spare tables, zeros where 1, 17, 18 or 7 refuses. Where one fails, the mesh stands, and
+/// the spare tables are written.
 #[repr(C)]
 #[derive(Clone, Copy, Debug, Default, PartialEq, Eq)]
 pub struct BatchWorked {
@@ -210,4 +219,27 @@ unsafe extern "C" {
         spare_generations: *mut u8,
         spare_generations_length: usize,
     ) -> BatchForeseen;
+
+    pub fn rawplinth_refine_box(
+        positions: *mut i32,
+        positions_length: usize,
+        corners: *mut u32,
+        corners_length: usize,
+        links: *mut u32,
+        links_length: usize,
+        generations: *mut u8,
+        generations_length: usize,
+        counts: Counts,
+        low: Point,
+        high: Point,
+        below: u32,
+        spare_positions: *mut i32,
+        spare_positions_length: usize,
+        spare_corners: *mut u32,
+        spare_corners_length: usize,
+        spare_links: *mut u32,
+        spare_links_length: usize,
+        spare_generations: *mut u8,
+        spare_generations_length: usize,
+    ) -> BatchWorked;
 }

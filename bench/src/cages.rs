@@ -44,6 +44,9 @@ fn icosahedron() -> ([[i64; 3]; 12], Vec<[usize; 3]>) {
     (corners, faces)
 }
 
+/// The radius of spheres.
+pub const RADIUS: i32 = 1_000_000;
+
 /// A sphere of 20 × parts² triangles: each face of an icosahedron cut into rows, and its points moved out to the
 /// sphere.
 pub fn sphere(parts: i64) -> Cage {
@@ -56,7 +59,7 @@ pub fn sphere(parts: i64) -> Cage {
                 .map(|i| (parts - row) * corners[a][i] + (row - column) * corners[b][i] + column * corners[c][i]);
             *numbers.entry(flat).or_insert_with(|| {
                 let radius = flat.iter().map(|&x| (x * x) as f64).sum::<f64>().sqrt();
-                cage.points.push(flat.map(|x| (x as f64 / radius * 1_000_000.0).round() as i32));
+                cage.points.push(flat.map(|x| (x as f64 / radius * f64::from(RADIUS)).round() as i32));
                 cage.points.len() as u32 - 1
             })
         };

@@ -1,8 +1,8 @@
 //! What is measured: each call on each cage.
 
-use crate::cages::{self, Cage};
+use crate::cages::{self, Cage, RADIUS};
 use crate::fast;
-use crate::tables::{Answer, BOUNDARY, Call, HALF_AWAY, HALF_UP, Lent, Tables};
+use crate::tables::{Answer, BOUNDARY, Call, HALF_AWAY, HALF_UP, Lent, Panel, Point, Tables};
 
 /// The refine that makes the most splits.
 pub const LONGEST: &str = "refine, chain of 10";
@@ -17,8 +17,11 @@ pub const LIMITS: [&str; 2] = ["limit", "limit, rule 2"];
 pub const LISTS: [&str; 4] = ["list of 1", "list of 100", "list of 10,000", "list of 10,000 times one"];
 /// The same lists previewed.
 pub const PREVIEWS: [&str; 4] = ["preview of 1", "preview of 100", "preview of 10,000", "preview of 10,000 times one"];
+/// Boxes to generation 4: one that holds no vertex, one with about a twentieth of the triangles, and one that holds
+/// all, which is refused with 11 when no slots are left.
+pub const BOXES: [&str; 3] = ["box of nothing", "box of a twentieth", "box of all, refused"];
 
-const NAMES: [&str; 21] = [
+const NAMES: [&str; 24] = [
     "load",
     "soundness",
     "refine even",
@@ -40,6 +43,9 @@ const NAMES: [&str; 21] = [
     PREVIEWS[1],
     PREVIEWS[2],
     PREVIEWS[3],
+    BOXES[0],
+    BOXES[1],
+    BOXES[2],
 ];
 
 pub struct Case {
@@ -58,6 +64,14 @@ impl Case {
         list.len()
     }
 
+    /// The splits that a box makes in the spare tables, be they undone: each takes two triangles.
+    pub fn splits_in_spares(&self) -> usize {
+        match fast::answer(&mut self.lent.clone(), self.call) {
+            Answer::List(worked) => (worked.spares.triangles - self.lent.counts.triangles) as usize / 2,
+            _ => 0,
+        }
+    }
+
     /// A refine of a triangle not in use, which is refused once the tables are found sound.
     pub fn soundness(&self) -> Call {
         Call::Refine(self.lent.counts.triangles)
@@ -72,7 +86,7 @@ pub fn all() -> Vec<Case> {
     let mut list = Vec::new();
     for name in NAMES {
         let (small, large) = match name {
-            name if is_listed(name) => (&[] as &[Cage], &list_sphere),
+            name if is_listed(name) || BOXES.contains(&name) => (&[] as &[Cage], &list_sphere),
             name if STEPS.contains(&name) => (&small[..], &step_sphere),
             _ => (&small[..], &sphere),
         };
@@ -114,6 +128,8 @@ fn case(name: &'static str, cage: &Cage, shuffled: bool) -> Case {
     }
     if is_listed(name) {
         lent.list = listed(name, lent.counts.triangles);
+    }
+    if is_listed(name) || BOXES.contains(&name) {
         lent.spares = Tables::with_slots(lent.tables.positions.len() / 3, lent.tables.generations.len());
     }
     let call = match name {
@@ -125,6 +141,7 @@ fn case(name: &'static str, cage: &Cage, shuffled: bool) -> Case {
         name if LIMITS.contains(&name) => Call::Limit,
         name if LISTS.contains(&name) => Call::RefineList,
         name if PREVIEWS.contains(&name) => Call::Preview,
+        name if BOXES.contains(&name) => boxed(name),
         _ => Call::Refine(triangle),
     };
     Case { name, triangles: cage.triangles(), shuffled, lent, call }
@@ -145,6 +162,17 @@ fn listed(name: &str, triangles: u32) -> Vec<u32> {
     };
     let first = (triangles - entries) / 2;
     if kind == Some(3) { vec![triangles / 2; entries as usize] } else { (first..first + entries).collect() }
+}
+
+/// A box from a height on, to generation 4. A sphere has as much of its surface above a height as of its diameter.
+fn boxed(name: &str) -> Call {
+    let from = match BOXES.iter().position(|of| *of == name) {
+        Some(0) => 2 * RADIUS,
+        Some(1) => 9 * RADIUS / 10,
+        _ => -RADIUS,
+    };
+    let [low, high] = [(-RADIUS, from), (RADIUS, 2 * RADIUS)].map(|(side, z)| Point { x: side, y: side, z });
+    Call::RefineBox(Panel { low, high, below: 4 })
 }
 
 /// A triangle of generation 1 whose base is on the boundary: a child of the first triangle there.

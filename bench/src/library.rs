@@ -1,7 +1,7 @@
 //! The library's calls, through its C interface.
 
 use crate::rawplinth::*;
-use crate::tables::{Answer, Call, Lent};
+use crate::tables::{Answer, Call, Lent, Panel};
 
 /// A call of the function named, with the four tables as pointers and lengths, then the counts, then what follows, and
 /// the spare tables after a semicolon.
@@ -51,6 +51,9 @@ pub fn answer(lent: &mut Lent, call: Call) -> Answer {
         }
         Call::Preview => {
             Answer::Preview(call!(rawplinth_preview, lent, lent.list.as_ptr(), lent.list.len(); lent.spares))
+        }
+        Call::RefineBox(Panel { low, high, below }) => {
+            Answer::List(call!(rawplinth_refine_box, lent, low, high, below; lent.spares))
         }
     }
 }

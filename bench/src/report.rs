@@ -1,6 +1,6 @@
 //! The table.
 
-use crate::cases::{Case, LIMITS, LISTS, PREVIEWS, is_listed};
+use crate::cases::{BOXES, Case, LIMITS, LISTS, PREVIEWS, is_listed};
 use crate::measure::{Counted, Timed};
 
 /// Instructions of a C program without proofs, written by an expert, for closed meshes in order.
@@ -23,6 +23,9 @@ const MOST_OF_SMALL: u64 = 3_500;
 const MOST_TO_COPY: u64 = 75;
 const MOST_TO_SPLIT: u64 = 450;
 const MOST_TO_HANDLE: u64 = 60;
+/// A box, beside the copies: for each triangle in use, to look at it, and for each split.
+const MOST_TO_LOOK: u64 = 40;
+const MOST_TO_SPLIT_IN_BOX: u64 = 1_200;
 
 const HEADS: [&str; 13] = [
     "call",
@@ -55,22 +58,34 @@ pub fn print(cases: &[Case], counts: Option<&[Counted]>, times: &[Timed]) {
     if let Some(counts) = counts {
         println!("\n{}", shares("Lists", LISTS, cases, counts));
         println!("{}", shares("Previews", PREVIEWS, cases, counts));
+        println!("{}", shares_of_boxes(cases, counts));
     }
 }
 
 /// What lists take beyond soundness, by triangle in use, by split and by entry that is passed over: the differences of
 /// the list of one triangle, that of as many as there are entries, and that of one triangle as often, in order.
 fn shares(title: &str, names: [&str; 4], cases: &[Case], counts: &[Counted]) -> String {
-    let beyond = |name: &str| {
-        let place = cases.iter().position(|case| case.name == name && !case.shuffled).expect("each list is a case");
-        let [library, soundness, ..] = counts[place];
-        (library as f64 - soundness as f64, &cases[place])
-    };
-    let [(one, case), (many, long), (again, _)] = [names[0], names[2], names[3]].map(beyond);
+    let [(one, case), (many, long), (again, _)] =
+        [names[0], names[2], names[3]].map(|name| beyond(name, cases, counts));
     let more = long.lent.list.len() as f64 - 1.0;
     let (entry, split) = ((again - one) / more, (many - again) / more);
     let copies = (one - split - entry) / case.triangles as f64;
     format!("{title}: {copies:.1} for each triangle in use, {split:.1} for each split, {entry:.1} for each entry.")
+}
+
+/// What boxes take beyond soundness, by triangle in use and by split: the box of nothing, and the difference of that of
+/// a twentieth to it, in order.
+fn shares_of_boxes(cases: &[Case], counts: &[Counted]) -> String {
+    let [(nothing, case), (some, boxed)] = [BOXES[0], BOXES[1]].map(|name| beyond(name, cases, counts));
+    let (triangle, split) = (nothing / case.triangles as f64, (some - nothing) / boxed.splits_in_spares() as f64);
+    format!("Boxes: {triangle:.1} for each triangle in use, {split:.1} for each split.")
+}
+
+/// What a case takes in order beyond soundness, and the case.
+fn beyond<'a>(name: &str, cases: &'a [Case], counts: &[Counted]) -> (f64, &'a Case) {
+    let place = cases.iter().position(|case| case.name == name && !case.shuffled).expect("each name is a case");
+    let [library, soundness, ..] = counts[place];
+    (library as f64 - soundness as f64, &cases[place])
 }
 
 fn count_columns(case: &Case, [library, soundness, fast, scan]: Counted) -> [String; 7] {
@@ -104,6 +119,10 @@ fn most_beyond(case: &Case, soundness: u64) -> Option<u64> {
         name if is_listed(name) => {
             let [splits, entries] = [case.listed_once(), case.lent.list.len()].map(|count| count as u64);
             Some(MOST_TO_COPY * case.triangles as u64 + MOST_TO_SPLIT * splits + MOST_TO_HANDLE * entries)
+        }
+        name if BOXES.contains(&name) => {
+            let splits = case.splits_in_spares() as u64;
+            Some((MOST_TO_COPY + MOST_TO_LOOK) * case.triangles as u64 + MOST_TO_SPLIT_IN_BOX * splits)
         }
         "ring" | "position" => Some(MOST_BEYOND),
         name => name.starts_with("refine").then_some(MOST_BEYOND),

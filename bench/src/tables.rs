@@ -1,6 +1,6 @@
 //! What a call is lent and what it answers.
 
-pub use crate::rawplinth::{BatchForeseen, BatchWorked, Counts, LimitRead, PositionRead, RingRead, Worked};
+pub use crate::rawplinth::{BatchForeseen, BatchWorked, Counts, LimitRead, Point, PositionRead, RingRead, Worked};
 pub use crate::rawplinth::{RAWPLINTH_HALF_AWAY as HALF_AWAY, RAWPLINTH_HALF_UP as HALF_UP};
 
 /// The link of a boundary side.
@@ -28,12 +28,12 @@ pub struct Lent {
     pub buffer: Vec<u32>,
     /// The table of a limit query.
     pub table: Vec<i32>,
-    /// A list of triangles, and the tables that it is worked off in.
+    /// A list of triangles, and the tables that it or a box is worked off in.
     pub list: Vec<u32>,
     pub spares: Tables,
 }
 
-/// A call with the number it is given, which for a load is the rule.
+/// A call with the numbers it is given, which for a load is the rule.
 #[derive(Clone, Copy, Debug)]
 pub enum Call {
     Load(u32),
@@ -44,8 +44,18 @@ pub enum Call {
     Limit,
     RefineList,
     Preview,
+    RefineBox(Panel),
 }
 
+/// A box by its low and its high corner, and the generation to which it is refined.
+#[derive(Clone, Copy, Debug)]
+pub struct Panel {
+    pub low: Point,
+    pub high: Point,
+    pub below: u32,
+}
+
+/// The answer of a list is that of a box, too.
 #[derive(Clone, Copy, Debug, PartialEq)]
 pub enum Answer {
     Worked(Worked),

@@ -6,7 +6,7 @@ use std::fs;
 use std::path::PathBuf;
 
 use crate::case::Case;
-use crate::claims::{violated_by_list, violated_by_preview, violated_by_refine};
+use crate::claims::{violated_by_box, violated_by_list, violated_by_preview, violated_by_refine};
 use crate::coverage::Coverage;
 use crate::mirror;
 use crate::tables::{Answer, Call, Counts, HALF_AWAY, HALF_UP, Service, Store, Tables};
@@ -112,8 +112,11 @@ impl<'a> Bench<'a> {
             return self.compare_mirrored(&before, call, &answer, &after);
         }
         for axis in mirror::AXES {
+            let Some(image_of_call) = mirror::of_call(call, axis) else {
+                continue;
+            };
             let mut image = mirror::of_store(before, axis);
-            let of_image = self.other.answer(&mut image, &mirror::of_call(call, axis))?;
+            let of_image = self.other.answer(&mut image, &image_of_call)?;
             self.mirrored += 1;
             let image_after = mirror::of_store(after, axis);
             let expected = (&mirror::of_answer(answer, axis), &image_after);
@@ -173,11 +176,15 @@ pub fn difference(what: String, store: Store, call: &Call) -> Box<Difference> {
     Box::new(Difference { what, case: Case { store, call: call.clone() } })
 }
 
-/// The fourth claim of demand 3, for every refine that is carried out, and what every list that is carried out adds.
+/// The fourth claim of demand 3, for every refine that is carried out; what every list and every box that is carried
+/// out adds; and that a box leaves none.
 fn claim_violated(before: &Store, call: &Call, answer: &Answer, after: &Store) -> Option<String> {
     match (call, answer.refusal) {
         (&Call::Refine { triangle }, 0) => violated_by_refine(before, triangle as usize, answer, after),
         (Call::RefineList { .. }, 0) => violated_by_list(before, answer, after),
+        (Call::RefineBox { bounds, below }, 0) => {
+            violated_by_list(before, answer, after).or_else(|| violated_by_box(bounds, *below, after))
+        }
         _ => None,
     }
 }

@@ -4,7 +4,7 @@ use crate::bench::{Bench, Outcome};
 use crate::claims::read_chain;
 use crate::coverage::LONGEST_LIST;
 use crate::rng::Rng;
-use crate::tables::{BOUNDARY, Call, HALF_AWAY, HALF_UP, LAST_GENERATION, NO_RULES, Store, Tables};
+use crate::tables::{BOUNDARY, Bounds, Call, FARTHEST, HALF_AWAY, HALF_UP, LAST_GENERATION, NO_RULES, Store, Tables};
 
 /// Three times this number is 2 in 32 bits.
 pub const WRAPPING: u32 = 0x5555_5556;
@@ -12,11 +12,15 @@ pub const WRAPPING: u32 = 0x5555_5556;
 /// One call of any kind but load, for which the store gets room.
 pub fn random_call(store: &mut Store, rng: &mut Rng) -> Call {
     match rng.below(100) {
-        0..46 => Call::Refine { triangle: some_triangle(store, rng) },
-        46..56 => {
+        0..42 => Call::Refine { triangle: some_triangle(store, rng) },
+        42..51 => {
             store.room.spares = some_spares(store, rng);
             let list = some_list(store, rng);
             if rng.percent(80) { Call::RefineList { list } } else { Call::Preview { list } }
+        }
+        51..56 => {
+            store.room.spares = some_spares(store, rng);
+            some_box(store, rng)
         }
         56..64 => Call::WholeStep,
         64..72 => limit(store, rng),
@@ -26,7 +30,7 @@ pub fn random_call(store: &mut Store, rng: &mut Rng) -> Call {
 }
 
 /// One call of each kind but load, for which the store gets room, its spare tables of fitting sizes.
-pub fn one_of_each(store: &mut Store, rng: &mut Rng) -> [Call; 6] {
+pub fn one_of_each(store: &mut Store, rng: &mut Rng) -> [Call; 7] {
     store.room.spares = fitting_spares(store, rng);
     [
         Call::Refine { triangle: some_triangle(store, rng) },
@@ -35,6 +39,7 @@ pub fn one_of_each(store: &mut Store, rng: &mut Rng) -> [Call; 6] {
         ring(store, rng),
         Call::Position { vertex: some_number(store.counts.vertices, rng) },
         Call::RefineList { list: some_list(store, rng) },
+        Call::RefineBox { bounds: some_bounds(store, rng), below: some_generation(store, rng) },
     ]
 }
 
@@ -127,6 +132,56 @@ pub fn entries_in_use(store: &Store, length: usize, rng: &mut Rng) -> Vec<u32> {
     let in_use = store.triangles().max(1);
     let (first, reach) = (rng.below(in_use), rng.pick(&[3, 30, in_use]));
     (0..length).map(|_| ((first + rng.below(reach)) % in_use) as u32).collect()
+}
+
+/// A box; some with a low corner above the high one, or with no generation.
+fn some_box(store: &Store, rng: &mut Rng) -> Call {
+    let (mut bounds, mut below) = (some_bounds(store, rng), some_generation(store, rng));
+    match rng.below(20) {
+        0 => below = rng.pick(&NO_GENERATIONS),
+        1 => {
+            let axis = rng.below(3);
+            let Bounds { low, high } = &mut bounds;
+            (low[axis], high[axis]) = rng.pick(&[(1, 0), (high[axis], low[axis]), (i32::MAX, i32::MIN)]);
+        }
+        _ => {}
+    }
+    Call::RefineBox { bounds, below }
+}
+
+/// Numbers above the last generation: close to it, far off, and a generation in their low bits.
+pub const NO_GENERATIONS: [u32; 6] = [21, 22, 258, 65_539, 1 << 31 | 4, u32::MAX];
+
+/// A box in order: about one vertex, between two, from one on in some direction, everywhere or anywhere.
+pub fn some_bounds(store: &Store, rng: &mut Rng) -> Bounds {
+    let (one, other) = (some_point(store, rng), some_point(store, rng));
+    match rng.below(8) {
+        0 => Bounds::about(one, one),
+        1 => Bounds::EVERYWHERE,
+        2 => Bounds::about([-i32::MAX; 3], [i32::MAX; 3]),
+        3 => Bounds::about(one, [(); 3].map(|()| rng.pick(&[-i32::MAX, i32::MAX, -FARTHEST, FARTHEST]))),
+        4 => Bounds::about([(); 3].map(|()| rng.word() as i32), other),
+        5 => Bounds::about(one.map(|coordinate| coordinate.saturating_add(rng.between(-1, 1))), other),
+        _ => Bounds::about(one, other),
+    }
+}
+
+/// Where a vertex in use is, if there is one.
+fn some_point(store: &Store, rng: &mut Rng) -> [i32; 3] {
+    match store.vertices() {
+        0 => [0; 3],
+        vertices => store.point(rng.below(vertices)),
+    }
+}
+
+/// A generation, mostly one that a triangle in use is a little below.
+fn some_generation(store: &Store, rng: &mut Rng) -> u32 {
+    let last = u32::from(LAST_GENERATION);
+    match (rng.below(8), store.triangles()) {
+        (0, _) => last,
+        (1, _) | (_, 0) => rng.below(LAST_GENERATION as usize + 1) as u32,
+        (_, in_use) => last.min(u32::from(store.tables.generations[rng.below(in_use)]) + rng.below(4) as u32),
+    }
 }
 
 /// Rule 1 or 2.

@@ -5,7 +5,7 @@
 use std::fmt::{self, Display, Write};
 use std::str::FromStr;
 
-use crate::tables::{Call, Counts, Room, Store, Tables};
+use crate::tables::{Bounds, Call, Counts, Room, Store, Tables};
 
 #[derive(Clone, Debug, PartialEq, Eq)]
 pub struct Case {
@@ -30,6 +30,9 @@ impl Display for Case {
             Call::Limit => writeln!(out, "limit"),
             Call::RefineList { list } => writeln!(out, "refine-list{}", numbers(list)),
             Call::Preview { list } => writeln!(out, "preview{}", numbers(list)),
+            Call::RefineBox { bounds: Bounds { low, high }, below } => {
+                writeln!(out, "refine-box {below}{}{}", numbers(low), numbers(high))
+            }
         }
     }
 }
@@ -116,6 +119,14 @@ fn parsed_call(words: &[&str]) -> Result<Call, String> {
         "limit" => Ok(Call::Limit),
         "refine-list" => Ok(Call::RefineList { list: parsed(&words[1..])? }),
         "preview" => Ok(Call::Preview { list: parsed(&words[1..])? }),
+        "refine-box" => Ok(Call::RefineBox { below: number()?, bounds: parsed_bounds(&words[2..])? }),
         other => Err(format!("no call `{other}`")),
+    }
+}
+
+fn parsed_bounds(words: &[&str]) -> Result<Bounds, String> {
+    match parsed(words)?[..] {
+        [a, b, c, d, e, f] => Ok(Bounds { low: [a, b, c], high: [d, e, f] }),
+        _ => Err("the corners of a box are six numbers".to_string()),
     }
 }

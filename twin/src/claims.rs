@@ -1,6 +1,6 @@
 //! The four claims of demand 3, read from the tables themselves.
 
-use crate::tables::{Answer, BOUNDARY, Counts, Store, Tables};
+use crate::tables::{Answer, BOUNDARY, Bounds, Counts, Store, Tables};
 
 /// What the tables say of a triangle's base chain.
 pub struct ChainReading {
@@ -99,11 +99,20 @@ pub fn violated_by_refine(before: &Store, triangle: usize, answer: &Answer, afte
     wrongly_added(before, answer, after, i64::from(chain.ends_at_boundary))
 }
 
-/// What is wrong with what the splits of a list that was carried out add. Of rim splits there are as many as vertices
-/// beyond one for each split.
+/// What is wrong with what the splits of a list or a box that was carried out add. Of rim splits there are as many as
+/// vertices beyond one for each split.
 pub fn violated_by_list(before: &Store, answer: &Answer, after: &Store) -> Option<String> {
     let vertices = i64::from(after.counts.vertices) - i64::from(before.counts.vertices);
     wrongly_added(before, answer, after, vertices - i64::from(answer.splits))
+}
+
+/// A triangle that a box which was carried out has left: below the generation, with a corner in the box.
+pub fn violated_by_box(bounds: &Bounds, below: u32, after: &Store) -> Option<String> {
+    let corners =
+        |slot: usize| after.tables.corners[3 * slot..][..3].iter().map(|&corner| after.point(corner as usize));
+    let below = |slot: &usize| u32::from(after.tables.generations[*slot]) < below;
+    let left = (0..after.triangles()).filter(below).find(|&slot| corners(slot).any(|point| bounds.holds(point)))?;
+    Some(format!("triangle {left} is left in the box"))
 }
 
 /// What is wrong with a preview beside the list carried out from the same: the list is answered what was foreseen, and

@@ -1,10 +1,11 @@
 //! What a run has met: each refusal of each call, each rule, each kind of linked pair, each chain length over an even
 //! triangle and over the boundary, each ring length of a whole step and of a limit query, halves in these, sides linked
-//! to themselves, what becomes of the entries of lists, and foils.
+//! to themselves, what becomes of the entries of lists, foils, and boxes.
 
 use std::collections::{BTreeMap, BTreeSet};
 use std::fmt::{self, Display};
 
+use crate::box_coverage::BoxCoverage;
 use crate::claims::read_chain;
 use crate::fault::Seeded;
 use crate::load::linked_mesh;
@@ -24,6 +25,7 @@ const CALLS: &[(&str, &[u32])] = &[
     ("limit", &[0, 1, 7, 12, 13, 15]),
     ("refine list", &[0, 1, 7, 8, 9, 11, 17]),
     ("preview", &[0, 1, 7, 8, 9, 11, 17]),
+    ("refine box", &[0, 1, 7, 9, 11, 17, 18]),
 ];
 
 /// The longest of the lists that have to be met in every length.
@@ -69,6 +71,7 @@ pub struct Coverage {
     sixes: [u64; 4],
     /// Calls carried out where two triangles are a fan, as `TWOS` lists them.
     twos: [u64; 2],
+    boxes: BoxCoverage,
 }
 
 /// What a load is refused with 6 for.
@@ -98,6 +101,7 @@ fn row(call: &Call) -> usize {
         Call::Limit => 5,
         Call::RefineList { .. } => 6,
         Call::Preview { .. } => 7,
+        Call::RefineBox { .. } => 8,
     }
 }
 
@@ -158,8 +162,10 @@ impl Coverage {
             (Call::Load { rule, cage }, 6) => self.note_six(before, *rule, cage),
             (Call::Load { rule, cage }, 0) => self.note_load(before, *rule, cage),
             (_, 7) => self.note_self_linked(before),
-            (Call::RefineList { .. }, 17) => self.note_spare_sizes(before),
+            (Call::RefineList { .. } | Call::RefineBox { .. }, 17) => self.note_spare_sizes(before),
             (Call::RefineList { list }, 0 | 8 | 9 | 11) => self.note_list(before, list, answer),
+            (Call::RefineBox { bounds, below }, 18) => self.boxes.note_refused(bounds, *below),
+            (Call::RefineBox { bounds, below }, 0 | 9 | 11) => self.boxes.note(before, bounds, *below, answer),
             _ => {}
         }
     }
@@ -194,8 +200,8 @@ impl Coverage {
     fn note_list(&mut self, before: &Store, list: &[u32], answer: &Answer) {
         let start = Mesh::read(&before.tables, before.counts, Seeded(None));
         let done = handle(&start, list, before.tables.slots());
-        self.entries[0] += (done.entries - done.passed_over) as u64;
-        self.entries[1] += done.passed_over as u64;
+        self.entries[0] += done.refined.len() as u64;
+        self.entries[1] += (done.entries - done.refined.len()) as u64;
         if answer.refusal == 0 {
             *self.list_lengths.entry(list.len()).or_default() += 1;
             return;
@@ -274,6 +280,7 @@ impl Coverage {
         expect("ring in a limit query, length", &self.limit_rings, 2);
         expect("call by rule", &self.rules, 1);
         expect("side linked to itself, number", &self.self_linked, 0);
+        expect("box carried out, generation", &self.boxes.generations, 0);
         expect("list carried out, length", &first_of(&self.list_lengths, LONGEST_LIST + 1), 0);
         expect("entry of a list that fails, place", &first_of(&self.failing_places, LONGEST_LIST), 0);
         for (title, names, met) in self.named() {
@@ -284,15 +291,17 @@ impl Coverage {
     }
 
     /// The counts of what has names, with their titles.
-    fn named(&self) -> [(&str, &[&str], &[u64]); 6] {
-        [
+    fn named(&self) -> Vec<(&str, &[&str], &[u64])> {
+        let mut named: Vec<(&str, &[&str], &[u64])> = vec![
             ("loads refused with 6", &SIXES, &self.sixes),
             ("fans of two triangles", &TWOS, &self.twos),
             ("halves in whole steps", &HALVES, &self.step_halves),
             ("halves in limit queries", &HALVES, &self.limit_halves),
             ("entries of lists", &ENTRIES, &self.entries),
             ("spare tables of other lengths", &TABLES, &self.spare_sizes),
-        ]
+        ];
+        named.extend(self.boxes.named());
+        named
     }
 }
 
@@ -327,6 +336,7 @@ impl Display for Coverage {
         list("rings in limit queries", &self.limit_rings, 2)?;
         list("calls carried out by rule", &self.rules, 1)?;
         list("sides linked to themselves in tables refused with 7", &self.self_linked, 0)?;
+        list("boxes carried out by generation", &self.boxes.generations, 0)?;
         for (title, names, met) in self.named() {
             let shown: Vec<String> = names.iter().zip(met).map(|(name, met)| format!("{name}: {met}")).collect();
             writeln!(out, "{title}  {}", shown.join("  "))?;

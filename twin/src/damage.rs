@@ -155,8 +155,10 @@ fn compare_lengths(bench: &mut Bench, store: &Store, lengths: [usize; 4], rng: &
     for call in of_each.iter().chain([&load]) {
         bench.compare_only(&changed, call)?;
     }
-    // Spare tables that agree, or do not, with each other, but not with the mesh's.
+    // Spare tables that agree, or do not, with each other, but not with the mesh's: for the list and the box.
     changed.room.spares = store.tables.clone();
-    bench.compare_only(&changed, &of_each[5])?;
+    for call in &of_each[5..] {
+        bench.compare_only(&changed, call)?;
+    }
     Ok(())
 }

@@ -5,9 +5,9 @@ use crate::bench::{Bench, Outcome, difference};
 use crate::cages::{self, Cage};
 use crate::calls::fitting_spares;
 use crate::damage::{at_generation, refined};
-use crate::handmade::{chain, foil};
+use crate::handmade::{Gluing, chain, foil};
 use crate::rng::Rng;
-use crate::tables::{Call, FARTHEST, HALF_AWAY, HALF_UP, LAST_GENERATION, Store};
+use crate::tables::{Bounds, Call, FARTHEST, HALF_AWAY, HALF_UP, LAST_GENERATION, Store};
 
 pub struct Example {
     pub refusal: u32,
@@ -49,6 +49,12 @@ fn list(refusal: u32, mut store: Store, entries: &[u32], rng: &mut Rng) -> Examp
     example(refusal, store, Call::RefineList { list: entries.to_vec() })
 }
 
+/// A box from one corner to the other, with spare tables of the mesh's sizes.
+fn boxed(refusal: u32, mut store: Store, [low, high]: [[i32; 3]; 2], below: u32, rng: &mut Rng) -> Example {
+    store.room.spares = fitting_spares(&store, rng);
+    example(refusal, store, Call::RefineBox { bounds: Bounds { low, high }, below })
+}
+
 /// The same store with another rule in its counts.
 fn ruled(mut store: Store, rule: u32) -> Store {
     store.counts.rule = rule;
@@ -88,6 +94,56 @@ pub fn refusals(rng: &mut Rng) -> Vec<Example> {
         example(16, roomy, load_by(3, tetrahedron.bytes())),
         // No spare tables at all.
         example(17, refined(&tetrahedron, &[], 0, rng), Call::RefineList { list: vec![] }),
+        boxed(18, refined(&tetrahedron, &[], 0, rng), [[0; 3], [9, -1, 9]], 1, rng),
+    ]
+}
+
+/// Boxes on the tetrahedron, whose vertices are 0 and at 9 on each axis, and on hand-made tables.
+pub fn boxes(rng: &mut Rng) -> Vec<Example> {
+    let tetrahedron = cages::tetrahedron();
+    let some = |spare: usize, rng: &mut Rng| refined(&tetrahedron, &[], spare, rng);
+    let grown = refined(&tetrahedron, &[0, 0, 0], 9, rng);
+    let far = [[FARTHEST + 1; 3], [i32::MAX; 3]];
+    let all = [[i32::MIN; 3], [i32::MAX; 3]];
+    let just_all = [[0; 3], [9; 3]];
+    let apex = [[0, 0, 9]; 2];
+    let ripe = |generations: &[u8], rng: &mut Rng| Gluing::new(generations.to_vec()).store(4, 8, rng);
+    vec![
+        // Nothing in it, between the vertices, and the generation that all have.
+        boxed(0, some(0, rng), far, 20, rng),
+        boxed(0, some(0, rng), [[1; 3], [8; 3]], 20, rng),
+        boxed(0, some(0, rng), all, 0, rng),
+        // One vertex on all six faces: its three triangles, and without room for the last of them.
+        boxed(0, some(9, rng), apex, 1, rng),
+        boxed(0, some(3, rng), apex, 1, rng),
+        boxed(11, some(2, rng), apex, 1, rng),
+        boxed(0, some(9, rng), [[-5, -5, 9], [5, 5, 10]], 2, rng),
+        boxed(0, some(9, rng), [[-5, -5, 8], [5, 5, 9]], 2, rng),
+        boxed(0, some(9, rng), [[0, 0, 10], [5, 5, 11]], 2, rng),
+        boxed(0, some(9, rng), [[9, -1, -1], [9, 1, 1]], 2, rng),
+        boxed(0, some(40, rng), just_all, 3, rng),
+        boxed(0, some(40, rng), all, 4, rng),
+        boxed(11, some(40, rng), all, 20, rng),
+        boxed(11, some(0, rng), just_all, 1, rng),
+        // Slot 2 gets a corner in the box by a flip, when a higher slot is refined.
+        boxed(0, some(20, rng), [[0; 3], [3, 0, 3]], 3, rng),
+        // Of triangles of several generations those below, some of them in chains.
+        boxed(0, grown.clone(), all, 1, rng),
+        boxed(0, grown.clone(), all, 2, rng),
+        boxed(0, refined(&tetrahedron, &[0, 3, 7], 9, rng), [[0; 3], [0, 9, 0]], 4, rng),
+        boxed(0, refined(&cages::strip(1), &[0], 20, rng), all, 5, rng),
+        // A base of generation 19 on the boundary: left by a box to 19, failing at once, after another, by a refine.
+        boxed(0, ripe(&[19, 18], rng), all, 19, rng),
+        boxed(9, ripe(&[19, 18], rng), all, 20, rng),
+        boxed(9, ripe(&[20, 17, 19], rng), all, 20, rng),
+        boxed(9, ripe(&[20, 18], rng), all, 20, rng),
+        boxed(0, ripe(&[20, 20], rng), all, 20, rng),
+        // No boxes, by a coordinate or the generation.
+        boxed(18, some(9, rng), [[10, 0, 0], [9; 3]], 1, rng),
+        boxed(18, some(9, rng), [[0, 0, 10], [9; 3]], 1, rng),
+        boxed(18, some(9, rng), [all[1], all[0]], 1, rng),
+        boxed(18, grown.clone(), all, 21, rng),
+        boxed(18, grown, far, u32::MAX, rng),
     ]
 }
 
@@ -123,7 +179,8 @@ pub fn orders(rng: &mut Rng) -> Vec<Example> {
     last_corner_first_coordinate.triangles[3] = [2, 3, 4];
     let mut unequal = Store::junk(9, 9, rng);
     unequal.tables.generations.pop();
-    let unequal_tables = unequal.clone();
+    let (unequal_tables, unequal_again) = (unequal.clone(), unequal.clone());
+    let no_box = Call::RefineBox { bounds: Bounds::EVERYWHERE, below: 21 };
     let mut counts_above_slots = refined(&tetrahedron, &[], 0, rng);
     counts_above_slots.counts.triangles = 5;
     let mut exact = refined(&tetrahedron, &[], 1, rng);
@@ -200,6 +257,13 @@ pub fn orders(rng: &mut Rng) -> Vec<Example> {
         example(1, unequal_tables, Call::RefineList { list: vec![0] }),
         example(17, Store::fresh(20, 40), Call::RefineList { list: vec![0] }),
         list(7, Store::fresh(20, 40), &[99], rng),
+        // What is no box is refused after these two, and before 7.
+        boxed(1, unequal_again, [[1; 3], [0; 3]], 21, rng),
+        example(17, Store::fresh(20, 40), no_box.clone()),
+        example(17, refined(&tetrahedron, &[], 0, rng), no_box),
+        boxed(18, Store::fresh(20, 40), [[1; 3], [0; 3]], 1, rng),
+        boxed(18, Store::fresh(20, 40), [[0; 3], [0; 3]], 21, rng),
+        boxed(7, Store::fresh(20, 40), [[0; 3], [0; 3]], 0, rng),
     ]
 }
 
@@ -216,7 +280,8 @@ pub fn request_lists() -> Vec<(Cage, Vec<u32>)> {
 
 /// All examples on both services; the numbers that the papers give are tested here as well.
 pub fn run(bench: &mut Bench, rng: &mut Rng) -> Outcome {
-    for Example { refusal, mut store, call } in refusals(rng).into_iter().chain(orders(rng)).chain(lists(rng)) {
+    let of_one_call = lists(rng).into_iter().chain(boxes(rng));
+    for Example { refusal, mut store, call } in refusals(rng).into_iter().chain(orders(rng)).chain(of_one_call) {
         let before = store.clone();
         let answer = bench.compare(&mut store, &call)?;
         if answer.refusal != refusal {

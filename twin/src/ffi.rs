@@ -1,7 +1,7 @@
 //! The library under test, through its C interface.
 
 use crate::rawplinth::*;
-use crate::tables::{Answer, Call, Service, Store, Tables};
+use crate::tables::{Answer, Bounds, Call, Service, Store, Tables};
 
 /// Entries on each side of a lent buffer that the library must not write.
 const GUARD: usize = 64;
@@ -191,6 +191,13 @@ impl Service for Library {
                 entries.unwritten(list)?;
                 spares.give_back(&mut room.spares)?;
                 answer
+            }
+            Call::RefineBox { bounds: Bounds { low, high }, below } => {
+                let mut spares = LentTables::new(SPARES, &room.spares);
+                let [low, high] = [low, high].map(|&[x, y, z]| Point { x, y, z });
+                let worked = call!(rawplinth_refine_box, lent, *counts, low, high, *below; spares);
+                spares.give_back(&mut room.spares)?;
+                worked.into()
             }
         };
         lent.give_back(tables)?;

@@ -9,7 +9,7 @@ use crate::handmade;
 use crate::malformed;
 use crate::random_cages::random_cage;
 use crate::rng::Rng;
-use crate::tables::{BOUNDARY, Call, Counts, LAST_GENERATION, Store};
+use crate::tables::{BOUNDARY, Bounds, Call, Counts, LAST_GENERATION, Store};
 
 /// A mesh in the course of a history, with V − E + F of the cage of the last accepted load.
 struct History {
@@ -270,7 +270,7 @@ fn all_lists_from(bench: &mut Bench, store: &Store, length: usize) -> Outcome {
     Ok(())
 }
 
-/// Cages that fill the largest tables, a whole step that nearly does, and rings and lists of tens of thousands.
+/// Cages that fill the largest tables, a whole step that nearly does, and rings, lists and boxes of tens of thousands.
 pub fn largest(bench: &mut Bench, rng: &mut Rng) -> Outcome {
     let fans = [cages::double_pyramid(32_700), cages::open_fan(32_766)];
     for cage in [cages::torus(128, 256), cages::torus(106, 103)].into_iter().chain(fans) {
@@ -279,6 +279,8 @@ pub fn largest(bench: &mut Bench, rng: &mut Rng) -> Outcome {
         history.store.room.spares = calls::fitting_spares(&history.store, rng);
         let every_other = (0..history.store.counts.triangles).step_by(2).collect();
         bench.compare_only(&history.store, &Call::RefineList { list: every_other })?;
+        let half_space = Bounds { low: [0, i32::MIN, i32::MIN], ..Bounds::EVERYWHERE };
+        bench.compare_only(&history.store, &Call::RefineBox { bounds: half_space, below: 1 })?;
         for _ in 0..2 {
             history.store.room.table = vec![7; 3 * history.store.vertices()];
             bench.compare(&mut history.store, &Call::Limit)?;

@@ -14,7 +14,8 @@ fn compare_list(bench: &mut Bench, store: &Store, list: &[u32]) -> Outcome {
     Ok(())
 }
 
-fn with_spares(mut store: Store, rng: &mut Rng) -> Store {
+/// The same with spare tables of its sizes.
+pub fn with_spares(mut store: Store, rng: &mut Rng) -> Store {
     store.room.spares = calls::fitting_spares(&store, rng);
     store
 }
@@ -52,8 +53,9 @@ pub fn lengths(bench: &mut Bench, rng: &mut Rng) -> Outcome {
     Ok(())
 }
 
-/// Tables with slots for so many splits, and with one vertex or triangle slot fewer: the list ends there.
-pub fn without_room(bench: &mut Bench, rng: &mut Rng) -> Outcome {
+/// Tables with slots for so many splits, and with one vertex or triangle slot fewer.
+pub fn tight_stores(rng: &mut Rng) -> Vec<Store> {
+    let mut stores = Vec::new();
     for cage in [cages::torus(3, 4), cages::double_pyramid(8), cages::disc(9), cages::strip(10)] {
         for spare in 0..24 {
             let store = refined(&cage.shuffled(rng).scattered(rng), &[], spare, rng);
@@ -64,18 +66,24 @@ pub fn without_room(bench: &mut Bench, rng: &mut Rng) -> Outcome {
             triangle_less.tables.corners.truncate(3 * slots);
             triangle_less.tables.links.truncate(3 * slots);
             triangle_less.tables.generations.truncate(slots);
-            for store in [store, vertex_less, triangle_less] {
-                let store = with_spares(store, rng);
-                compare_list(bench, &store, &calls::entries_in_use(&store, LONGEST_LIST, rng))?;
-            }
+            stores.extend([store, vertex_less, triangle_less].map(|store| with_spares(store, rng)));
         }
+    }
+    stores
+}
+
+/// Lists that end where there are no slots left.
+pub fn without_room(bench: &mut Bench, rng: &mut Rng) -> Outcome {
+    for store in tight_stores(rng) {
+        compare_list(bench, &store, &calls::entries_in_use(&store, LONGEST_LIST, rng))?;
     }
     Ok(())
 }
 
 /// Each spare table of another length, and all of them, for a sound mesh, one that is not sound, and tables that
 /// disagree.
-pub fn spare_sizes(bench: &mut Bench, rng: &mut Rng) -> Outcome {
+pub fn with_other_spares(rng: &mut Rng) -> Vec<Store> {
+    let mut stores = Vec::new();
     let sound = refined(&cages::tetrahedron(), &[0, 0], 3, rng);
     let mut unsound = sound.clone();
     unsound.tables.links.swap(0, 4);
@@ -93,9 +101,17 @@ pub fn spare_sizes(bench: &mut Bench, rng: &mut Rng) -> Outcome {
         }
         for lengths in tried {
             store.room.spares = Tables::junk(lengths, rng);
-            for list in [&[] as &[u32], &[1, 0, 1], &[0, 99]] {
-                compare_list(bench, &store, list)?;
-            }
+            stores.push(store.clone());
+        }
+    }
+    stores
+}
+
+/// Lists with such spare tables.
+pub fn spare_sizes(bench: &mut Bench, rng: &mut Rng) -> Outcome {
+    for store in with_other_spares(rng) {
+        for list in [&[] as &[u32], &[1, 0, 1], &[0, 99]] {
+            compare_list(bench, &store, list)?;
         }
     }
     Ok(())

@@ -1,6 +1,8 @@
 //! The differential run: the twin beside the library under test, entry for entry.
 
 mod bench;
+mod box_coverage;
+mod boxes;
 mod cages;
 mod calls;
 mod case;
@@ -146,7 +148,7 @@ fn run_faults(options: &Options, other: &dyn Service) -> bool {
             Err(_) => "caught by a panic",
         };
         missed += u32::from(result.starts_with("NOT"));
-        println!("fault {:>2}: {meaning:<58} {result} after {} comparisons", index + 1, bench.comparisons);
+        println!("fault {:>3}: {meaning:<58} {result} after {} comparisons", index + 1, bench.comparisons);
     }
     println!("faults: {} seeded, {missed} missed, beside {}", Fault::ALL.len(), other.name());
     missed == 0

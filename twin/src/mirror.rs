@@ -1,7 +1,7 @@
-//! Mirror images: one coordinate negated everywhere, in slots that are not in use, in what is lent for work and results
-//! and in the cage of a load, too.
+//! Mirror images: one coordinate negated everywhere, in slots that are not in use, in what is lent for work and
+//! results, in the cage of a load and in the corners of a box, too.
 
-use crate::tables::{Answer, Call, Store};
+use crate::tables::{Answer, Bounds, Call, Store};
 
 /// The three coordinates, each of which may be negated.
 pub const AXES: [usize; 3] = [0, 1, 2];
@@ -19,10 +19,16 @@ pub fn of_store(store: &Store, axis: usize) -> Store {
     image
 }
 
-pub fn of_call(call: &Call, axis: usize) -> Call {
+/// The mirror image of a call. A box has none where a bound is the least number of all, which has no opposite.
+pub fn of_call(call: &Call, axis: usize) -> Option<Call> {
     match call {
-        Call::Load { rule, cage } => Call::Load { rule: *rule, cage: of_cage(cage, axis) },
-        other => other.clone(),
+        Call::Load { rule, cage } => Some(Call::Load { rule: *rule, cage: of_cage(cage, axis) }),
+        &Call::RefineBox { mut bounds, below } => {
+            let Bounds { low, high } = &mut bounds;
+            (low[axis], high[axis]) = (high[axis].checked_neg()?, low[axis].checked_neg()?);
+            Some(Call::RefineBox { bounds, below })
+        }
+        other => Some(other.clone()),
     }
 }
 

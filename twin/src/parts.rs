@@ -4,7 +4,7 @@ use std::time::Instant;
 
 use crate::bench::{Bench, Outcome};
 use crate::rng::Rng;
-use crate::{damage, examples, halves, handmade, histories, limits, lists, malformed, surgery, unsound};
+use crate::{boxes, damage, examples, halves, handmade, histories, limits, lists, malformed, surgery, unsound};
 
 type Part = fn(&mut Bench, &mut Rng) -> Outcome;
 
@@ -32,6 +32,13 @@ const PARTS: &[(&str, Part)] = &[
     ("lists without room", lists::without_room),
     ("spare tables of other sizes", lists::spare_sizes),
     ("all short lists", lists::all_short),
+    ("boxes of all generations", boxes::generations),
+    ("boxes with faces at vertices", boxes::faces),
+    ("boxes between vertices", boxes::between),
+    ("boxes with all refusals", boxes::orders),
+    ("boxes without room", boxes::without_room),
+    ("boxes of last generations", boxes::ripe),
+    ("all small boxes", boxes::all_small),
     ("whole steps", histories::whole_steps),
     ("shells with boundary", |bench, rng| histories::shells(bench, 150, rng)),
     ("deep histories", |bench, rng| histories::deep(bench, 120, rng)),

@@ -1,41 +1,109 @@
-//! Refining with its conditions: one triangle, and the triangles of a list.
+//! Refining with its conditions: one triangle, the triangles of a list, and those with a corner in a box.
 
 use crate::fault::Fault;
-use crate::mesh::{Mesh, Side};
+use crate::mesh::{Mesh, Side, Triangle};
 use crate::split::Work;
-use crate::tables::{LAST_GENERATION, refuse_unless};
+use crate::tables::{Bounds, LAST_GENERATION, refuse_unless};
 
-/// A list of triangles, as far as it was handled.
+/// A list of triangles or a box, as far as it was handled.
 pub struct Handled {
-    /// The mesh after the last entry that succeeded.
+    /// The mesh after the last entry or refine that succeeded.
     pub mesh: Mesh,
     /// All splits and flips on the way there.
     pub work: Work,
-    /// The entries that succeeded, and those of them that were passed over.
+    /// The entries that succeeded, refined or passed over; of a box the refines.
     pub entries: usize,
-    pub passed_over: usize,
-    /// What the next entry fails with, 0 for nothing.
+    /// The triangles refined, in order.
+    pub refined: Vec<usize>,
+    /// What the next entry or refine fails with, 0 for nothing.
     pub refusal: u32,
+}
+
+impl Handled {
+    fn begun(start: &Mesh) -> Handled {
+        Handled { mesh: start.clone(), work: Work::default(), entries: 0, refined: Vec::new(), refusal: 0 }
+    }
+
+    /// One triangle more refined.
+    fn add(&mut self, t: usize, work: Work) {
+        let before = self.mesh.fault.unless(Fault::LastEntryReported, self.work, Work::default());
+        self.work = before.and(work);
+        self.refined.push(t);
+    }
+
+    /// The lowest triangle below a generation that has a corner in a box.
+    fn next_inside(&self, start: &Mesh, bounds: &Bounds, below: u32, slots: [usize; 2]) -> Option<usize> {
+        let (mesh, fault) = (&self.mesh, self.mesh.fault);
+        let first = self.refined.last().filter(|_| fault.has(Fault::BoxNeverGoesBack)).copied().unwrap_or(0);
+        let in_use = fault.unless(Fault::MadeInBoxLeft, mesh.triangles.len(), start.triangles.len());
+        let mut wanted = (first..in_use).filter(|&t| mesh.is_inside(t, bounds, below));
+        match fault.0 {
+            Some(Fault::HighestInBoxFirst) => wanted.next_back(),
+            Some(Fault::BoxStopsOneShort) => wanted.next().filter(|_| wanted.next().is_some()),
+            Some(Fault::FailingInBoxSkipped) => wanted.find(|&t| mesh.clone().refine_in(slots, t).is_ok()),
+            _ => wanted.next(),
+        }
+    }
 }
 
 /// Handles a list in its order, up to the first entry that fails, on a sound mesh in tables of these slots.
 pub fn handle(start: &Mesh, list: &[u32], slots: [usize; 2]) -> Handled {
-    let mut done = Handled { mesh: start.clone(), work: Work::default(), entries: 0, passed_over: 0, refusal: 0 };
+    let mut done = Handled::begun(start);
     for &t in list {
         match done.mesh.handle_entry(start, t as usize, slots) {
             Err(refusal) => return Handled { refusal, ..done },
-            Ok(None) => done.passed_over += 1,
-            Ok(Some(work)) => {
-                let before = start.fault.unless(Fault::LastEntryReported, done.work, Work::default());
-                done.work = before.and(work);
-            }
+            Ok(None) => {}
+            Ok(Some(work)) => done.add(t as usize, work),
         }
         done.entries += 1;
     }
     done
 }
 
+/// While some triangle below a generation has a corner in a box, refines the lowest such slot, up to the first that
+/// fails, on a sound mesh in tables of these slots.
+pub fn refine_inside(start: &Mesh, bounds: &Bounds, below: u32, slots: [usize; 2]) -> Handled {
+    let mut done = Handled::begun(start);
+    while let Some(t) = done.next_inside(start, bounds, below, slots) {
+        match done.mesh.refine_in(slots, t) {
+            Err(refusal) => return Handled { refusal, ..done },
+            Ok(work) => {
+                done.entries += start.fault.unless(Fault::BoxCountsSplits, 1, work.splits as usize);
+                done.add(t, work);
+            }
+        }
+    }
+    done
+}
+
 impl Mesh {
+    /// Whether a triangle is below a generation and has a corner in a box.
+    fn is_inside(&self, t: usize, bounds: &Bounds, below: u32) -> bool {
+        let Triangle { corners, generation, .. } = self.triangles[t];
+        let is_below = u32::from(generation) < self.fault.unless(Fault::BelowIncluded, below, below + 1);
+        let mut held = corners.iter().map(|&corner| self.is_held(self.points[corner], bounds));
+        is_below
+            && match self.fault.0 {
+                Some(Fault::FirstCornerAlone) => held.next() == Some(true),
+                Some(Fault::AllCornersWanted) => held.all(|held| held),
+                _ => held.any(|held| held),
+            }
+    }
+
+    /// Whether a box holds a point.
+    fn is_held(&self, point: [i32; 3], &Bounds { low, high }: &Bounds) -> bool {
+        let all = |inside: fn(i32, i32, i32) -> bool| (0..3).all(|axis| inside(low[axis], point[axis], high[axis]));
+        match self.fault.0 {
+            Some(Fault::LowFacesLeftOut) => all(|low, coordinate, high| low < coordinate && coordinate <= high),
+            Some(Fault::HighFacesLeftOut) => all(|low, coordinate, high| low <= coordinate && coordinate < high),
+            Some(Fault::BoxDifferencesWrap) => {
+                all(|low, coordinate, high| coordinate.wrapping_sub(low) >= 0 && high.wrapping_sub(coordinate) >= 0)
+            }
+            Some(Fault::BoxTakesXForY) => Bounds { low, high }.holds([point[0], point[0], point[2]]),
+            _ => Bounds { low, high }.holds(point),
+        }
+    }
+
     /// An entry of a list at its turn: one that was not in use at the call's start fails with 8, one whose generation
     /// is above what it was there is passed over, any other is refined.
     fn handle_entry(&mut self, start: &Mesh, t: usize, slots: [usize; 2]) -> Result<Option<Work>, u32> {

@@ -62,7 +62,7 @@ pub struct Room {
     pub ring: Vec<u32>,
     /// The table of a limit query.
     pub table: Vec<i32>,
-    /// The tables that a list is worked off in.
+    /// The tables that a list or a box is worked off in.
     pub spares: Tables,
 }
 
@@ -114,6 +114,32 @@ impl Store {
     pub fn triangles(&self) -> usize {
         (self.counts.triangles as usize).min(self.triangle_slots())
     }
+
+    /// The position in a vertex slot.
+    pub fn point(&self, vertex: usize) -> [i32; 3] {
+        std::array::from_fn(|axis| self.tables.positions[3 * vertex + axis])
+    }
+}
+
+/// A box: all points from its low corner to its high one in each coordinate, its faces included.
+#[derive(Clone, Copy, Debug, PartialEq, Eq)]
+pub struct Bounds {
+    pub low: [i32; 3],
+    pub high: [i32; 3],
+}
+
+impl Bounds {
+    pub const EVERYWHERE: Bounds = Bounds { low: [i32::MIN; 3], high: [i32::MAX; 3] };
+
+    /// The smallest box with these two points in it.
+    pub fn about(one: [i32; 3], other: [i32; 3]) -> Bounds {
+        let corner = |pick: fn(i32, i32) -> i32| std::array::from_fn(|axis| pick(one[axis], other[axis]));
+        Bounds { low: corner(i32::min), high: corner(i32::max) }
+    }
+
+    pub fn holds(&self, point: [i32; 3]) -> bool {
+        (0..3).all(|axis| self.low[axis] <= point[axis] && point[axis] <= self.high[axis])
+    }
 }
 
 /// One call with its arguments, apart from what it is lent.
@@ -127,6 +153,7 @@ pub enum Call {
     Limit,
     RefineList { list: Vec<u32> },
     Preview { list: Vec<u32> },
+    RefineBox { bounds: Bounds, below: u32 },
 }
 
 /// What a call answers, with zeros for what it does not speak of.
@@ -140,7 +167,8 @@ pub struct Answer {
     pub length: u32,
     pub point: [i32; 3],
     pub counts: Counts,
-    /// The entries of a list that were handled, and the counts of the mesh that is in the spare tables by it.
+    /// The entries of a list that were handled or the refines of a box, and the counts of the mesh that is in the spare
+    /// tables by it.
     pub handled: usize,
     pub spares: Counts,
     /// The vertices and triangles that a preview foresees, while the counts stand.

@@ -3,14 +3,20 @@
 use crate::fault::{Fault, Seeded};
 use crate::load::mesh_of_cage;
 use crate::mesh::Mesh;
-use crate::refine::{Handled, handle};
+use crate::refine::{Handled, handle, refine_inside};
 use crate::smooth::{LONGEST_RING, limit_points, whole_step};
 use crate::sound::{is_rule, is_sound};
 use crate::split::Work;
 use crate::tables::{
-    Answer, Call, Counts, HALF_UP, LAST_GENERATION, MOST_TRIANGLE_SLOTS, MOST_VERTEX_SLOTS, Service, Store, Tables,
-    refuse_unless,
+    Answer, Bounds, Call, Counts, FARTHEST, HALF_UP, LAST_GENERATION, MOST_TRIANGLE_SLOTS, MOST_VERTEX_SLOTS, Service,
+    Store, Tables, refuse_unless,
 };
+
+/// What is refined in spare tables: the triangles of a list, or those below a generation with a corner in a box.
+enum Job<'a> {
+    List(&'a [u32]),
+    Box(&'a Bounds, u32),
+}
 
 /// The rules of documents 01 and 02, with one seeded fault or none.
 pub struct Twin {
@@ -35,8 +41,11 @@ impl Service for Twin {
             Call::Ring { vertex } => self.ring(tables, *counts, *vertex as usize, &mut room.ring),
             Call::Position { vertex } => self.position(tables, *counts, *vertex as usize),
             Call::Limit => self.limit(tables, *counts, &mut room.table),
-            Call::RefineList { list } => self.refine_list(tables, *counts, list, &mut room.spares),
+            Call::RefineList { list } => self.refine_each(tables, *counts, Job::List(list), &mut room.spares),
             Call::Preview { list } => Ok(self.preview(tables, *counts, list, &mut room.spares)),
+            Call::RefineBox { bounds, below } => {
+                self.in_box().refine_each(tables, *counts, Job::Box(bounds, *below), &mut room.spares)
+            }
         };
         let rule = self.fault.unless(Fault::RefusedWithoutRule, counts.rule, 0);
         let kept = Counts { rule, ..*counts };
@@ -87,15 +96,10 @@ impl Twin {
         Ok(Answer { splits: work.splits, flips: work.flips, counts: mesh.counts(), ..Answer::default() })
     }
 
-    /// Refine list: 1, 17, 7, then what the first entry that fails fails with. The mesh is written if none does.
-    fn refine_list(
-        &self,
-        tables: &mut Tables,
-        counts: Counts,
-        list: &[u32],
-        spares: &mut Tables,
-    ) -> Result<Answer, u32> {
-        let done = self.work_in_spares(tables, counts, list, spares)?;
+    /// Refine list and refine box: 1, 17, for a box 18, 7, then what the first entry or refine that fails fails with.
+    /// The mesh is written if none does.
+    fn refine_each(&self, tables: &mut Tables, counts: Counts, job: Job, spares: &mut Tables) -> Result<Answer, u32> {
+        let done = self.work_in_spares(tables, counts, job, spares)?;
         let failed = done.refusal != 0;
         if !failed || self.fault.has(Fault::FailedListWrites) {
             done.mesh.write(tables);
@@ -115,7 +119,7 @@ impl Twin {
     /// The mesh stands, and its counts.
     fn preview(&self, tables: &mut Tables, counts: Counts, list: &[u32], spares: &mut Tables) -> Answer {
         let (mut meanwhile, lent) = (tables.clone(), spares.clone());
-        let made = self.in_preview().refine_list(&mut meanwhile, counts, list, spares);
+        let made = self.in_preview().refine_each(&mut meanwhile, counts, Job::List(list), spares);
         let worked = made.is_ok();
         let made = made.unwrap_or_else(|refusal| Answer { refusal, counts, ..Answer::default() });
         if self.fault.has(Fault::PreviewWrites) {
@@ -139,24 +143,39 @@ impl Twin {
         Twin { fault: Seeded(fault) }
     }
 
-    /// Handles a list, after 1, 17 and 7. The slots in use of the spare tables then hold the mesh after the last entry
-    /// that succeeded, whether or not another failed, and their other slots keep their content.
-    fn work_in_spares(
-        &self,
-        tables: &Tables,
-        counts: Counts,
-        list: &[u32],
-        spares: &mut Tables,
-    ) -> Result<Handled, u32> {
-        let sizes_fit = self.sizes_fit(spares, tables);
+    /// The twin that boxes are refined with: the same, but for faults of boxes alone.
+    fn in_box(&self) -> Twin {
+        let fault = match self.fault.0 {
+            Some(Fault::LastRefineReported) => Some(Fault::LastEntryReported),
+            Some(Fault::FailedBoxWrites) => Some(Fault::FailedListWrites),
+            Some(Fault::FailedBoxKeepsSpares) => Some(Fault::FailedListKeepsSpares),
+            Some(Fault::FailedBoxReports) => Some(Fault::FailedListReports),
+            Some(Fault::FailingRefineCounted) => Some(Fault::FailingEntryCounted),
+            Some(Fault::EmptyBoxKeepsSpares) => Some(Fault::EmptyListKeepsSpares),
+            fault => fault,
+        };
+        Twin { fault: Seeded(fault) }
+    }
+
+    /// Handles a list or a box, after 1, 17, 18 and 7. The slots in use of the spare tables then hold the mesh after
+    /// the last entry or refine that succeeded, whether or not another failed, and their other slots keep their content.
+    fn work_in_spares(&self, tables: &Tables, counts: Counts, job: Job, spares: &mut Tables) -> Result<Handled, u32> {
+        let (sizes_fit, job_fits) = (self.sizes_fit(spares, tables), self.job_fits(&job));
         refuse_unless(sizes_fit || !self.fault.has(Fault::SparesBeforeTables), 17)?;
+        refuse_unless(job_fits || !self.fault.has(Fault::BoxBeforeTables), 18)?;
         refuse_unless(self.tables_agree(tables), 1)?;
+        refuse_unless(job_fits || !self.fault.has(Fault::BoxBeforeSpares), 18)?;
         refuse_unless(sizes_fit || self.fault.has(Fault::SoundBeforeSpares), 17)?;
+        refuse_unless(job_fits || self.fault.has(Fault::SoundBeforeBox), 18)?;
         let start = self.sound_mesh(tables, counts)?;
         refuse_unless(sizes_fit, 17)?;
-        let done = handle(&start, list, tables.slots());
+        refuse_unless(job_fits, 18)?;
+        let done = match job {
+            Job::List(list) => handle(&start, list, tables.slots()),
+            Job::Box(bounds, below) => refine_inside(&start, bounds, below, tables.slots()),
+        };
         let left_alone = done.refusal != 0 && self.fault.has(Fault::FailedListKeepsSpares)
-            || list.is_empty() && self.fault.has(Fault::EmptyListKeepsSpares);
+            || done.refusal == 0 && done.entries == 0 && self.fault.has(Fault::EmptyListKeepsSpares);
         if self.fault.has(Fault::SparesFilledWhole) {
             spares.clone_from(tables);
         }
@@ -171,6 +190,20 @@ impl Twin {
         let ([p, c, l, g], lengths) = (spares.lengths(), tables.lengths());
         let links = self.fault.unless(Fault::SpareLinksUntested, l, lengths[2]);
         [p, c, links, g] == lengths
+    }
+
+    /// The opposite of condition 18: the low corner of a box is nowhere above the high one, nor the generation above
+    /// the last.
+    fn job_fits(&self, job: &Job) -> bool {
+        let &Job::Box(&Bounds { low, high }, below) = job else {
+            return true;
+        };
+        let (axes, last) = (self.fault.unless(Fault::BoundsOfZUntested, 3, 2), u32::from(LAST_GENERATION));
+        let refused_too = self.fault.has(Fault::PointRefused) && low == high
+            || self.fault.has(Fault::FarBoxRefused) && low.iter().any(|&coordinate| coordinate > FARTHEST);
+        (0..axes).all(|axis| low[axis] <= high[axis])
+            && below <= self.fault.unless(Fault::GenerationAbovePassed, last, last + 1)
+            && !refused_too
     }
 
     /// Whole step: 1, 7, 12, 9, 13, 11.

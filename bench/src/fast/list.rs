@@ -1,7 +1,7 @@
-//! A list of triangles, worked off in spare tables.
+//! Work in spare tables, and a list of triangles so worked off.
 
 use super::split::refine;
-use crate::tables::{BatchForeseen, BatchWorked, Counts, Tables};
+use crate::tables::{BatchForeseen, BatchWorked, Counts, Tables, Worked};
 
 /// Whether the spare tables are as long as the mesh's.
 pub fn sizes_fit(tables: &Tables, spares: &Tables) -> bool {
@@ -13,16 +13,13 @@ pub fn sizes_fit(tables: &Tables, spares: &Tables) -> bool {
 
 /// Refines the triangles of a list in order. What is done in the spare tables is copied back if no entry fails.
 pub fn refine_list(tables: &mut Tables, counts: Counts, list: &[u32], spares: &mut Tables) -> BatchWorked {
-    let worked = work_off(tables, counts, list, spares);
-    if worked.refusal == 0 {
-        copy(spares, tables, worked.counts);
-    }
-    worked
+    make(tables, counts, spares, |tables, spares, done| refine_each(tables, list, spares, done))
 }
 
 /// What a list would be answered, with the mesh that it would make in the spare tables.
 pub fn preview(tables: &Tables, counts: Counts, list: &[u32], spares: &mut Tables) -> BatchForeseen {
-    let BatchWorked { refusal, splits, flips, counts, handled, spares } = work_off(tables, counts, list, spares);
+    let worked = work_off(tables, counts, spares, |tables, spares, done| refine_each(tables, list, spares, done));
+    let BatchWorked { refusal, splits, flips, counts, handled, spares } = worked;
     BatchForeseen { refusal, splits, flips, handled, spares, ..standing(counts) }
 }
 
@@ -41,10 +38,38 @@ fn copy(from: &Tables, to: &mut Tables, counts: Counts) {
     to.generations[..triangles].copy_from_slice(&from.generations[..triangles]);
 }
 
-/// Refines in the spare tables, all that is in use being copied there first, and answers for it.
-fn work_off(tables: &Tables, start: Counts, list: &[u32], spares: &mut Tables) -> BatchWorked {
+impl BatchWorked {
+    /// One refine more in the spare tables.
+    pub fn add(&mut self, worked: Worked) {
+        self.spares = worked.counts;
+        self.splits += worked.splits;
+        self.flips += worked.flips;
+    }
+}
+
+/// Works in the spare tables, and copies what is done there back if nothing fails.
+pub fn make(
+    tables: &mut Tables,
+    start: Counts,
+    spares: &mut Tables,
+    work: impl FnOnce(&Tables, &mut Tables, BatchWorked) -> BatchWorked,
+) -> BatchWorked {
+    let worked = work_off(tables, start, spares, work);
+    if worked.refusal == 0 {
+        copy(spares, tables, worked.counts);
+    }
+    worked
+}
+
+/// Works in the spare tables, all that is in use being copied there first, and answers for it.
+fn work_off(
+    tables: &Tables,
+    start: Counts,
+    spares: &mut Tables,
+    work: impl FnOnce(&Tables, &mut Tables, BatchWorked) -> BatchWorked,
+) -> BatchWorked {
     copy(tables, spares, start);
-    let worked = refine_each(tables, start, list, spares);
+    let worked = work(tables, spares, BatchWorked { counts: start, spares: start, ..BatchWorked::default() });
     match worked.refusal {
         0 => BatchWorked { counts: worked.spares, ..worked },
         _ => BatchWorked { splits: 0, flips: 0, ..worked },
@@ -52,19 +77,14 @@ fn work_off(tables: &Tables, start: Counts, list: &[u32], spares: &mut Tables) -
 }
 
 /// Refines up to the first entry that fails. An entry that has risen since the start is passed over.
-fn refine_each(tables: &Tables, start: Counts, list: &[u32], spares: &mut Tables) -> BatchWorked {
-    let mut done = BatchWorked { counts: start, spares: start, ..BatchWorked::default() };
+fn refine_each(tables: &Tables, list: &[u32], spares: &mut Tables, mut done: BatchWorked) -> BatchWorked {
     for &t in list {
-        if start.triangles <= t {
+        if done.counts.triangles <= t {
             return BatchWorked { refusal: 8, ..done };
         }
         if spares.generations[t as usize] == tables.generations[t as usize] {
-            match refine(spares, done.spares, t) {
-                Ok(worked) => {
-                    done.spares = worked.counts;
-                    done.splits += worked.splits;
-                    done.flips += worked.flips;
-                }
+            match refine(spares, done.spares, t, &mut |_| ()) {
+                Ok(worked) => done.add(worked),
                 Err(refusal) => return BatchWorked { refusal, ..done },
             }
         }

@@ -1,6 +1,7 @@
 //! The calls written for speed, without proofs: what the library is measured beside. The calls themselves have C
 //! names, so that callgrind can be told to count them alone.
 
+mod boxes;
 mod list;
 mod load;
 mod sound;
@@ -9,7 +10,7 @@ mod step;
 
 use crate::tables::{
     Answer, BOUNDARY, BatchForeseen, BatchWorked, Call, Counts, HALF_AWAY, HALF_UP, Lent, LimitRead,
-    MOST_TRIANGLE_SLOTS, MOST_VERTEX_SLOTS, PositionRead, RingRead, Tables, Worked,
+    MOST_TRIANGLE_SLOTS, MOST_VERTEX_SLOTS, Panel, PositionRead, RingRead, Tables, Worked,
 };
 
 const LAST_GENERATION: u8 = 20;
@@ -25,6 +26,7 @@ pub fn answer(lent: &mut Lent, call: Call) -> Answer {
         Call::Limit => Answer::Limit(fast_limit(tables, *counts, table)),
         Call::RefineList => Answer::List(fast_refine_list(tables, *counts, list, spares)),
         Call::Preview => Answer::Preview(fast_preview(tables, *counts, list, spares)),
+        Call::RefineBox(panel) => Answer::List(fast_refine_box(tables, *counts, panel, spares)),
     }
 }
 
@@ -45,7 +47,7 @@ fn fast_load(tables: &mut Tables, counts: Counts, rule: u32, cage: &[u8]) -> Wor
 #[unsafe(no_mangle)]
 #[inline(never)]
 fn fast_refine(tables: &mut Tables, counts: Counts, triangle: u32) -> Worked {
-    match starts(tables, counts).and_then(|_| split::refine(tables, counts, triangle)) {
+    match starts(tables, counts).and_then(|_| split::refine(tables, counts, triangle, &mut |_| ())) {
         Ok(worked) => worked,
         Err(refusal) => Worked { refusal, counts, ..Worked::default() },
     }
@@ -91,7 +93,7 @@ fn fast_limit(tables: &Tables, counts: Counts, table: &mut [i32]) -> LimitRead {
 #[unsafe(no_mangle)]
 #[inline(never)]
 fn fast_refine_list(tables: &mut Tables, counts: Counts, list: &[u32], spares: &mut Tables) -> BatchWorked {
-    match work_refusal(tables, counts, spares) {
+    match work_refusal(tables, counts, spares, true) {
         None => list::refine_list(tables, counts, list, spares),
         Some(refusal) => BatchWorked { refusal, counts, ..BatchWorked::default() },
     }
@@ -100,18 +102,28 @@ fn fast_refine_list(tables: &mut Tables, counts: Counts, list: &[u32], spares: &
 #[unsafe(no_mangle)]
 #[inline(never)]
 fn fast_preview(tables: &Tables, counts: Counts, list: &[u32], spares: &mut Tables) -> BatchForeseen {
-    match work_refusal(tables, counts, spares) {
+    match work_refusal(tables, counts, spares, true) {
         None => list::preview(tables, counts, list, spares),
         Some(refusal) => BatchForeseen { refusal, ..list::standing(counts) },
     }
 }
 
-/// What refuses work in spare tables before it begins: 1, 17 or 7.
-fn work_refusal(tables: &Tables, counts: Counts, spares: &Tables) -> Option<u32> {
-    if tables_agree(tables) && !list::sizes_fit(tables, spares) {
-        return Some(17);
+#[unsafe(no_mangle)]
+#[inline(never)]
+fn fast_refine_box(tables: &mut Tables, counts: Counts, panel: Panel, spares: &mut Tables) -> BatchWorked {
+    match work_refusal(tables, counts, spares, panel.is_good()) {
+        None => boxes::refine_box(tables, counts, panel, spares),
+        Some(refusal) => BatchWorked { refusal, counts, ..BatchWorked::default() },
     }
-    starts(tables, counts).err()
+}
+
+/// What refuses work in spare tables before it begins: 1, 17, for a box that is none 18, or 7.
+fn work_refusal(tables: &Tables, counts: Counts, spares: &Tables, is_good: bool) -> Option<u32> {
+    match (tables_agree(tables), list::sizes_fit(tables, spares)) {
+        (true, false) => Some(17),
+        (true, true) if !is_good => Some(18),
+        _ => starts(tables, counts).err(),
+    }
 }
 
 fn is_rule(number: u32) -> bool {

@@ -3,8 +3,9 @@
 use super::{LAST_GENERATION, triple};
 use crate::tables::{BOUNDARY, Counts, Tables, Worked};
 
-/// Refines a triangle of sound tables, or refuses with 8, 9 or 11.
-pub fn refine(tables: &mut Tables, counts: Counts, t: u32) -> Result<Worked, u32> {
+/// Refines a triangle of sound tables, or refuses with 8, 9 or 11. Each slot whose corners or generation change is
+/// touched.
+pub fn refine(tables: &mut Tables, counts: Counts, t: u32, touch: &mut impl FnMut(usize)) -> Result<Worked, u32> {
     if counts.triangles <= t {
         return Err(8);
     }
@@ -21,13 +22,13 @@ pub fn refine(tables: &mut Tables, counts: Counts, t: u32) -> Result<Worked, u32
     }
     let mut worked = Worked { counts, ..Worked::default() };
     if rim_splits == 0 {
-        face_split(tables, &mut worked, end);
+        face_split(tables, &mut worked, end, touch);
     } else {
-        rim_split(tables, &mut worked, end);
+        rim_split(tables, &mut worked, end, touch);
     }
     for _ in 1..splits {
         let (_, end) = base_chain(tables, t as usize);
-        face_split(tables, &mut worked, end);
+        face_split(tables, &mut worked, end, touch);
     }
     Ok(worked)
 }
@@ -51,7 +52,7 @@ pub fn third(sum: i32) -> i32 {
 }
 
 /// The face split of t, with its flips.
-fn face_split(tables: &mut Tables, worked: &mut Worked, t: usize) {
+fn face_split(tables: &mut Tables, worked: &mut Worked, t: usize, touch: &mut impl FnMut(usize)) {
     let (p, f) = (worked.counts.vertices, worked.counts.triangles as usize);
     let (corners, links) = (triple(&tables.corners, t), triple(&tables.links, t));
     let [x, y, z] = corners.map(|corner| triple(&tables.positions, corner as usize));
@@ -68,11 +69,12 @@ fn face_split(tables: &mut Tables, worked: &mut Worked, t: usize) {
     }
     worked.counts = Counts { vertices: p + 1, triangles: f as u32 + 2, ..worked.counts };
     worked.splits += 1;
-    settle(tables, worked, &slots);
+    slots.into_iter().for_each(&mut *touch);
+    settle(tables, worked, &slots, touch);
 }
 
 /// The rim split of t = (A,B,P) with its flips: A' is vertex v, B' is v + 1.
-fn rim_split(tables: &mut Tables, worked: &mut Worked, t: usize) {
+fn rim_split(tables: &mut Tables, worked: &mut Worked, t: usize, touch: &mut impl FnMut(usize)) {
     let (v, f) = (worked.counts.vertices, worked.counts.triangles as usize);
     let e = f + 1;
     let ([a, b, p], [_, bp, pa]) = (triple(&tables.corners, t), triple(&tables.links, t));
@@ -94,7 +96,8 @@ fn rim_split(tables: &mut Tables, worked: &mut Worked, t: usize) {
     relink(tables, bp, 3 * e);
     worked.counts = Counts { vertices: v + 2, triangles: f as u32 + 2, ..worked.counts };
     worked.splits += 1;
-    settle(tables, worked, &[t, e]);
+    [t, f, e].into_iter().for_each(&mut *touch);
+    settle(tables, worked, &[t, e], touch);
 }
 
 /// Places a vertex at the nearest third of three points.
@@ -104,11 +107,12 @@ fn place(tables: &mut Tables, vertex: u32, [x, y, z]: [[i32; 3]; 3]) {
 }
 
 /// Flips each of these triangles whose base meets a base.
-fn settle(tables: &mut Tables, worked: &mut Worked, slots: &[usize]) {
+fn settle(tables: &mut Tables, worked: &mut Worked, slots: &[usize], touch: &mut impl FnMut(usize)) {
     for &s in slots {
         let across = tables.links[3 * s] as usize;
         if across.is_multiple_of(3) && tables.generations.get(across / 3).is_some_and(|g| g % 2 == 1) {
             flip(tables, s, across / 3);
+            touch(across / 3);
             worked.flips += 1;
         }
     }

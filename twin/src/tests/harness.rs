@@ -13,7 +13,7 @@ use crate::parts;
 use crate::rng::Rng;
 use crate::sound::kind;
 use crate::surgery::damaged_store;
-use crate::tables::{Call, Service, Store};
+use crate::tables::{Bounds, Call, Service, Store};
 use crate::tests::plain_sound::sound;
 use crate::twin::Twin;
 use crate::unsound;
@@ -87,6 +87,8 @@ fn cases_are_read_back_as_they_were_written() {
         Call::RefineList { list: vec![3, 3, 3, u32::MAX] },
         Call::Preview { list: vec![] },
         Call::Preview { list: vec![1, 0] },
+        Call::RefineBox { bounds: Bounds::EVERYWHERE, below: 20 },
+        Call::RefineBox { bounds: Bounds { low: [1, -2, 3], high: [3, 0, i32::MIN] }, below: u32::MAX },
     ];
     for call in calls {
         let case = Case { store: store.clone(), call };
@@ -120,8 +122,12 @@ fn mirror_images_tell_what_spoils_them() {
         assert_ne!(mirror::of_store(&store, axis).room.spares, store.room.spares);
         assert_eq!(mirror::of_store(&mirror::of_store(&store, axis), axis), store);
         let load = Call::Load { rule: 2, cage: malformed::random(rng) };
-        assert_eq!(mirror::of_call(&mirror::of_call(&load, axis), axis), load);
+        let image = mirror::of_call(&load, axis).expect("a load has an image");
+        assert_eq!(mirror::of_call(&image, axis), Some(load));
     }
+    let boxed = |low, high| Call::RefineBox { bounds: Bounds { low, high }, below: 3 };
+    assert_eq!(mirror::of_call(&boxed([1, 2, 3], [3, 5, 9]), 1), Some(boxed([1, -5, 3], [3, -2, 9])));
+    assert_eq!(mirror::of_call(&boxed([1, 2, i32::MIN], [3, 5, 9]), 2), None);
     // A twin beside itself: what both do wrong shows in the mirror alone.
     for fault in [Fault::HalfUpByRuleTwo, Fault::StepByRuleOne, Fault::LimitByRuleOne, Fault::HalvesDown] {
         let twin = Twin { fault: Seeded(Some(fault)) };

@@ -5,21 +5,14 @@ use crate::calls::fitting_spares;
 use crate::examples::{self, Example};
 use crate::handmade::store_cage;
 use crate::rng::Rng;
-use crate::tables::{Answer, Call, Counts, HALF_AWAY, Store, Tables};
-use crate::tests::{after_requests, loaded, run};
+use crate::tables::{Answer, Call, HALF_AWAY, Store, Tables};
+use crate::tests::{after_requests, loaded, put_over, run};
 
 /// Runs a list with spare tables of any content. Answers the content, too.
 fn refine_list(store: &mut Store, entries: &[u32]) -> (Answer, Tables) {
     store.room.spares = fitting_spares(store, &mut Rng::new(21));
     let spares = store.room.spares.clone();
     (run(store, &Call::RefineList { list: entries.to_vec() }), spares)
-}
-
-/// Tables with what a mesh has in use in the first of them, and all the rest of the second.
-fn put_over(mesh: &Tables, counts: Counts, tables: &Tables) -> Tables {
-    let mut over = tables.clone();
-    over.take_over(mesh, counts);
-    over
 }
 
 #[test]

@@ -1,5 +1,6 @@
 //! Tests of the twin against the papers, and of the harness against itself.
 
+mod boxes;
 mod harness;
 mod lists;
 mod modules;
@@ -9,7 +10,7 @@ mod version;
 
 use crate::cages::Cage;
 use crate::rng::Rng;
-use crate::tables::{Answer, Call, HALF_UP, Service, Store};
+use crate::tables::{Answer, Call, Counts, HALF_UP, Service, Store, Tables};
 use crate::twin::Twin;
 
 /// Runs a call on the twin; the store's counts follow.
@@ -36,4 +37,11 @@ fn refined(mut store: Store, requests: &[u32]) -> Store {
         run(&mut store, &Call::Refine { triangle });
     }
     store
+}
+
+/// Tables with what a mesh has in use in the first of them, and all the rest of the second.
+fn put_over(mesh: &Tables, counts: Counts, tables: &Tables) -> Tables {
+    let mut over = tables.clone();
+    over.take_over(mesh, counts);
+    over
 }
