@@ -18,10 +18,7 @@ use Rattle.rules.proofs.Boxes.Wanting.{wanted-is}
 use Rattle.rules.proofs.Calls.CallRefusals.{refine-judged}
 use Rattle.rules.proofs.Calls.Carried.{refine-found, found-refined}
 use Rattle.rules.proofs.Calls.FirstThatHolds.{judged-carried}
-use Rattle.rules.proofs.Chains.Altered.{AlteredAt, onChain, isEnd, besideEnd}
-use Rattle.rules.proofs.Chains.Chain.{path-use}
-use Rattle.rules.proofs.Chains.Refine.{chain-path, chain-bound}
-use Rattle.rules.proofs.Soundness.Relaxed.{sound-manifold, sound-bases}
+use Rattle.rules.proofs.Chains.Altering.{AlteredAt, onChain, isEnd, besideEnd}
 use Rattle.rules.proofs.Numbers.Decide.{Lowest, lowest-is}
 use Rattle.rules.proofs.Splits.Bases.{reached}
 use Rattle.rules.specs.Below.{lowest}
@@ -29,7 +26,7 @@ use Rattle.rules.specs.Boxes.{Box, inBox, wanted}
 use Rattle.rules.specs.Conditions.{Wanted, LowestWanted}
 use Rattle.rules.specs.Calls.{Outcome, refineCall}
 use Rattle.rules.specs.Sound.{Sound}
-use Rattle.rules.specs.Split.{atFirst, chainEnd, chainOdd, refine}
+use Rattle.rules.specs.Split.{atFirst, chainEnd, refine}
 use Rattle.rules.specs.Tables.{Topology, Mesh, vertexSlots, coordinate, link}
 use Rattle.split.specs.Made.{BaseChain}
 use Rattle.split.specs.declared.Chain.{Chain}
@@ -158,13 +155,6 @@ seen-all U A = record {
 
 -- ---- what is read before the refine
 
--- The end of a base chain is in use.
-pub end-used : {t : ℕ} {x : Mesh} → Sound x → t < x .topology .triangles
-    → 3 * chainEnd (x .topology) t + 2 < length (x .topology .links)
-end-used {t} {x} S l =
-    let u = path-use (sound-manifold S) (sound-bases S) l (chain-path t x S l) in
-    omega (arith, S .tables .links, S .triangleRoom)
-
 pub stale : {b : Box} {t : ℕ} {x y : Mesh} {chain : Chain} {near bits words : List ℕ} → Refines t x y
     → BaseChain (x .topology) t chain → near ≡ nearby (x .topology) (chain .end) → Marking b x bits words
     → Stale b t x y (chain .odd) (chain .slots) near bits words
@@ -176,10 +166,6 @@ stale {x = x} R C e M = record {
   nearIs = e ∙ ap (nearby (x .topology)) (C .end);
   marks = M;
 }
-
--- A base chain has few odd triangles.
-pub few-odd : {t : ℕ} {x : Mesh} → Sound x → t < x .topology .triangles → chainOdd (x .topology) t ≤ 20
-few-odd {t} {x} S l = omega (arith, chain-bound t x S l, S .generations t l)
 
 -- A triangle and those beside it are four.
 pub near-long : {near : List ℕ} (m : Topology) (v : ℕ) → near ≡ nearby m v → 4 ≤ length near

@@ -10,13 +10,12 @@ use Rattle.marks.specs.Marks.{marked, Levels}
 use Rattle.points.specs.Axes as Axes
 use Rattle.points.specs.declared.Point.{Point}
 use Rattle.rules.proofs.Calls.Carried.{RefineFound}
-use Rattle.rules.proofs.Chains.Remembered.{chainAt}
 use Rattle.rules.specs.Boxes.{Box, inBox, wanted, refineInBox}
 use Rattle.rules.specs.Calls.{Outcome}
 use Rattle.rules.specs.Lists.{allOrNothing}
 use Rattle.rules.specs.Sound.{Sound}
 use Rattle.rules.specs.Spares.{Spares}
-use Rattle.rules.specs.Split.{atFirst, refine, chainEnd, chainOdd}
+use Rattle.rules.specs.Split.{atFirst, refine, chainEnd, chainOdd, chainAt}
 use Rattle.rules.specs.Tables.{Topology, Mesh, vertexSlots, link}
 use Rattle.tables.specs.Lent.{pointIn}
 use Rattle.refining.specs.Batches.{Holds}

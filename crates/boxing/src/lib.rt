@@ -224,6 +224,7 @@ fn refine_marked(
     corners: &mut [u32],
     links: &mut [u32],
     generations: &mut [u8],
+    locks: &mut [u8],
     counts: Counts,
     t: u32,
     low: Point,
@@ -234,21 +235,23 @@ fn refine_marked(
     words: &mut [u64],
 ) -> Worked
     requires { ⌜ Marked (boxOf low high below)
-        (meshNow counts (now positions) (now corners) (now links) (now generations)) (now inside) (now bits) (now words)
-        × Sound (meshNow counts (now positions) (now corners) (now links) (now generations))
+        (meshNow counts (now positions) (now corners) (now links) (now generations) (now locks))
+        (now inside) (now bits) (now words)
+        × Sound (meshNow counts (now positions) (now corners) (now links) (now generations) (now locks))
         × (t < counts .triangles) ⌝ }
     ensures { λ r. ⌜
         workedOutcome r (now (positions .exit)) (now (corners .exit)) (now (links .exit)) (now (generations .exit))
+        (now (locks .exit))
         ≡ refineCall t (meshNow counts (now (positions .entry)) (now (corners .entry)) (now (links .entry))
-        (now (generations .entry))) ⌝ }
+        (now (generations .entry)) (now (locks .entry))) ⌝ }
     ensures { λ r. ⌜ (r .refusal ≡ 0 → Marked (boxOf low high below)
         (meshNow (r .counts) (now (positions .exit)) (now (corners .exit)) (now (links .exit))
-        (now (generations .exit))) (now (inside .exit)) (now (bits .exit)) (now (words .exit))) ⌝ }
+        (now (generations .exit)) (now (locks .exit))) (now (inside .exit)) (now (bits .exit)) (now (words .exit))) ⌝ }
 {
     let chain = split::base_chain(links, generations, t);
     let slots = chain.slots;
     let near = with_neighbours(links, chain.end);
-    let done = refining::refine(positions, corners, links, generations, counts, t, 0);
+    let done = refining::refine(positions, corners, links, generations, locks, counts, t, 0);
     if done.refusal == 0 {
         let reached = done.counts;
         mark_inside(
@@ -282,6 +285,7 @@ fn refine_wanted(
     corners: &mut [u32],
     links: &mut [u32],
     generations: &mut [u8],
+    locks: &mut [u8],
     counts: Counts,
     low: Point,
     high: Point,
@@ -292,14 +296,14 @@ fn refine_wanted(
 ) -> Batch
     requires { ⌜ ((m : Mesh) × (s : Spares) ×
         Begins m s (m .topology .generations)
-        (meshNow counts (now positions) (now corners) (now links) (now generations)))
+        (meshNow counts (now positions) (now corners) (now links) (now generations) (now locks)))
         × Unmarked (length (now generations)) (now bits) (now words)
         × Unseen (length (now positions) / 3) (now inside) ⌝ }
     ensures { λ r. ⌜ ((m : Mesh) (s : Spares) →
         Begins m s (m .topology .generations) (meshNow counts (now (positions .entry)) (now (corners .entry))
-        (now (links .entry)) (now (generations .entry)))
+        (now (links .entry)) (now (generations .entry)) (now (locks .entry)))
         → Boxes (boxOf low high below) m s r (meshNow (r .counts) (now (positions .exit)) (now (corners .exit))
-        (now (links .exit)) (now (generations .exit)))) ⌝ }
+        (now (links .exit)) (now (generations .exit)) (now (locks .exit)))) ⌝ }
 {
     mark_inside(positions, 0, counts.vertices, low, high, inside);
     mark_from(
@@ -323,6 +327,7 @@ fn refine_wanted(
             corners,
             links,
             generations,
+            locks,
             reached,
             t,
             low,
@@ -362,6 +367,7 @@ fn refine_within_2048(
     corners: &mut [u32],
     links: &mut [u32],
     generations: &mut [u8],
+    locks: &mut [u8],
     counts: Counts,
     low: Point,
     high: Point,
@@ -369,13 +375,13 @@ fn refine_within_2048(
 ) -> Batch
     requires { ⌜ ((m : Mesh) × (s : Spares) ×
         Begins m s (m .topology .generations)
-        (meshNow counts (now positions) (now corners) (now links) (now generations)))
+        (meshNow counts (now positions) (now corners) (now links) (now generations) (now locks)))
         × (length (now generations) ≤ 2048) × (length (now positions) ≤ 6144) ⌝ }
     ensures { λ r. ⌜ ((m : Mesh) (s : Spares) →
         Begins m s (m .topology .generations) (meshNow counts (now (positions .entry)) (now (corners .entry))
-        (now (links .entry)) (now (generations .entry)))
+        (now (links .entry)) (now (generations .entry)) (now (locks .entry)))
         → Boxes (boxOf low high below) m s r (meshNow (r .counts) (now (positions .exit)) (now (corners .exit))
-        (now (links .exit)) (now (generations .exit)))) ⌝ }
+        (now (links .exit)) (now (generations .exit)) (now (locks .exit)))) ⌝ }
 {
     let mut inside = [0u64; 32];
     let mut bits = [0u64; 32];
@@ -385,6 +391,7 @@ fn refine_within_2048(
         corners,
         links,
         generations,
+        locks,
         counts,
         low,
         high,
@@ -401,6 +408,7 @@ fn refine_within_65536(
     corners: &mut [u32],
     links: &mut [u32],
     generations: &mut [u8],
+    locks: &mut [u8],
     counts: Counts,
     low: Point,
     high: Point,
@@ -408,12 +416,12 @@ fn refine_within_65536(
 ) -> Batch
     requires { ⌜ ((m : Mesh) × (s : Spares) ×
         Begins m s (m .topology .generations)
-        (meshNow counts (now positions) (now corners) (now links) (now generations))) ⌝ }
+        (meshNow counts (now positions) (now corners) (now links) (now generations) (now locks))) ⌝ }
     ensures { λ r. ⌜ ((m : Mesh) (s : Spares) →
         Begins m s (m .topology .generations) (meshNow counts (now (positions .entry)) (now (corners .entry))
-        (now (links .entry)) (now (generations .entry)))
+        (now (links .entry)) (now (generations .entry)) (now (locks .entry)))
         → Boxes (boxOf low high below) m s r (meshNow (r .counts) (now (positions .exit)) (now (corners .exit))
-        (now (links .exit)) (now (generations .exit)))) ⌝ }
+        (now (links .exit)) (now (generations .exit)) (now (locks .exit)))) ⌝ }
 {
     let mut inside = [0u64; 512];
     let mut bits = [0u64; 1024];
@@ -423,6 +431,7 @@ fn refine_within_65536(
         corners,
         links,
         generations,
+        locks,
         counts,
         low,
         high,
@@ -439,6 +448,7 @@ fn work_in_spares(
     corners: &[u32],
     links: &[u32],
     generations: &[u8],
+    locks: &[u8],
     counts: Counts,
     low: Point,
     high: Point,
@@ -447,27 +457,31 @@ fn work_in_spares(
     spare_corners: &mut [u32],
     spare_links: &mut [u32],
     spare_generations: &mut [u8],
+    spare_locks: &mut [u8],
 ) -> Batch
-    requires { ⌜ MayWork (meshNow counts (now positions) (now corners) (now links) (now generations))
-        (sparesNow (now «spare_positions») (now «spare_corners») (now «spare_links») (now «spare_generations»)) ⌝ }
+    requires { ⌜ MayWork (meshNow counts (now positions) (now corners) (now links) (now generations) (now locks))
+        (sparesNow (now «spare_positions») (now «spare_corners») (now «spare_links») (now «spare_generations»)
+        (now «spare_locks»)) ⌝ }
     ensures { λ r. ⌜
         Boxes (boxOf low high below) (meshNow counts (now (positions .entry)) (now (corners .entry))
-        (now (links .entry)) (now (generations .entry)))
+        (now (links .entry)) (now (generations .entry)) (now (locks .entry)))
         (sparesNow (now («spare_positions» .entry)) (now («spare_corners» .entry)) (now («spare_links» .entry))
-        (now («spare_generations» .entry)))
+        (now («spare_generations» .entry)) (now («spare_locks» .entry)))
         r (meshNow (r .counts) (now («spare_positions» .exit)) (now («spare_corners» .exit))
-        (now («spare_links» .exit)) (now («spare_generations» .exit))) ⌝ }
+        (now («spare_links» .exit)) (now («spare_generations» .exit)) (now («spare_locks» .exit))) ⌝ }
 {
     tables::copies::copy_mesh(
         positions,
         corners,
         links,
         generations,
+        locks,
         counts,
         spare_positions,
         spare_corners,
         spare_links,
         spare_generations,
+        spare_locks,
     );
     if spare_generations.len() <= 2048 && spare_positions.len() <= 6144 {
         return refine_within_2048(
@@ -475,6 +489,7 @@ fn work_in_spares(
             spare_corners,
             spare_links,
             spare_generations,
+            spare_locks,
             counts,
             low,
             high,
@@ -486,6 +501,7 @@ fn work_in_spares(
         spare_corners,
         spare_links,
         spare_generations,
+        spare_locks,
         counts,
         low,
         high,
@@ -500,6 +516,7 @@ pub fn refine_box(
     corners: &mut [u32],
     links: &mut [u32],
     generations: &mut [u8],
+    locks: &mut [u8],
     counts: Counts,
     low: Point,
     high: Point,
@@ -508,23 +525,27 @@ pub fn refine_box(
     spare_corners: &mut [u32],
     spare_links: &mut [u32],
     spare_generations: &mut [u8],
+    spare_locks: &mut [u8],
 ) -> BatchWorked
-    requires { ⌜ MayWork (meshNow counts (now positions) (now corners) (now links) (now generations))
-        (sparesNow (now «spare_positions») (now «spare_corners») (now «spare_links») (now «spare_generations»)) ⌝ }
+    requires { ⌜ MayWork (meshNow counts (now positions) (now corners) (now links) (now generations) (now locks))
+        (sparesNow (now «spare_positions») (now «spare_corners») (now «spare_links») (now «spare_generations»)
+        (now «spare_locks»)) ⌝ }
     ensures { λ r. ⌜
         batchOutcome r (now (positions .exit)) (now (corners .exit)) (now (links .exit)) (now (generations .exit))
+        (now (locks .exit))
         (sparesNow (now («spare_positions» .exit)) (now («spare_corners» .exit)) (now («spare_links» .exit))
-        (now («spare_generations» .exit)))
+        (now («spare_generations» .exit)) (now («spare_locks» .exit)))
         ≡ boxDone (boxOf low high below) (meshNow counts (now (positions .entry)) (now (corners .entry))
-        (now (links .entry)) (now (generations .entry)))
+        (now (links .entry)) (now (generations .entry)) (now (locks .entry)))
         (sparesNow (now («spare_positions» .entry)) (now («spare_corners» .entry)) (now («spare_links» .entry))
-        (now («spare_generations» .entry))) ⌝ }
+        (now («spare_generations» .entry)) (now («spare_locks» .entry))) ⌝ }
 {
     let made = work_in_spares(
         positions,
         corners,
         links,
         generations,
+        locks,
         counts,
         low,
         high,
@@ -533,17 +554,20 @@ pub fn refine_box(
         spare_corners,
         spare_links,
         spare_generations,
+        spare_locks,
     );
     refining::spares::carry_back(
         positions,
         corners,
         links,
         generations,
+        locks,
         counts,
         made,
         spare_positions,
         spare_corners,
         spare_links,
         spare_generations,
+        spare_locks,
     )
 }

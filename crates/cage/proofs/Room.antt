@@ -1,25 +1,17 @@
 -- Working room for a cage whose sizes fit.
-use mathlib.Core.Path.{_≡_, refl, sym}
+use mathlib.Core.Path.{_≡_, sym}
 use mathlib.Core.List.{List}
 use Prim.Native.Nat.{ℕ, _+_, _*_, _≤_}
 use native.Mathlib.Omega.{arith}
-use lib.IntN.{ℤ}
 use lib.ListN.{length, replicate, length-replicate}
 use Rattle.rules.specs.Cage.{cageOf}
 use Rattle.rules.specs.Conditions.{SizesFit}
 use Rattle.rules.specs.Numbers.{numberAt}
 use Rattle.rules.specs.Tables.{Mesh, TablesAgree}
 use Rattle.soundness.proofs.Starts.{zeroed}
-use Rattle.cage.specs.Answers.{lent, cageCounts}
 use Rattle.cage.specs.Decoded.{Sized, WorkingRoom}
 
--- Tables with the sizes v and f, as they are read, have the cage's counts.
-pub lent-sized : (rule : ℕ) (bytes : List ℕ) {p : List ℤ} {c l n : List ℕ} {v f : ℕ} → v ≡ numberAt bytes 0
-    → f ≡ numberAt bytes 4
-    → lent p c l n (record { vertices = v; triangles = f; rule = rule }) ≡ lent p c l n (cageCounts rule bytes)
-unfolding cageOf
-lent-sized rule bytes e g = rw (e, g) refl
-
+-- A cage whose sizes fit is as long as they say.
 pub sized : {bytes : List ℕ} {m : Mesh} {v f : ℕ} → v ≡ numberAt bytes 0 → f ≡ numberAt bytes 4 → TablesAgree m
     → SizesFit bytes m → Sized bytes v f
 unfolding cageOf
@@ -30,11 +22,6 @@ sized e g A S = record {
   fewTriangles = omega (arith, A .fewTriangles, S .triangleRoom);
   size = rw (e, g) (S .size);
 }
-
-pub cage-sized : {bytes : List ℕ} {m : Mesh} → TablesAgree m → SizesFit bytes m
-    → Sized bytes (cageOf bytes .vertices) (cageOf bytes .triangles)
-unfolding cageOf
-cage-sized A S = sized refl refl A S
 
 -- Zeros for the sides and the vertices of a cage with k vertices and triangles together.
 pub room-within : {bytes : List ℕ} {v f : ℕ} (k : ℕ) → Sized bytes v f → length bytes ≤ 8 + 12 * k

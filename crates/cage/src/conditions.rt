@@ -16,8 +16,8 @@ use tables::sides::next;
 // In 64 bits nothing wraps.
 pub fn sizes_fit(cage: &[u8], positions: &[i32], generations: &[u8]) -> bool
     ensures { λ r. ⌜
-        ((n : Counts) (c l : List ℕ)
-        → r ≡ sizesFit (now (cage .entry)) (meshNow n (now (positions .entry)) c l (now (generations .entry)))) ⌝ }
+        ((n : Counts) (c l k : List ℕ)
+        → r ≡ sizesFit (now (cage .entry)) (meshNow n (now (positions .entry)) c l (now (generations .entry)) k)) ⌝ }
 {
     if cage.len() < 8 {
         return false;

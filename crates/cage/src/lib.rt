@@ -2,14 +2,13 @@
 use tables::Counts;
 use tables::Worked;
 ghost use mathlib.Core.Path.{_≡_};
-ghost use Prim.Native.Nat.{ℕ, _≤_};
+ghost use Prim.Native.Nat.{_≤_};
 ghost use lib.ListN.{length};
 ghost use Rattle.rules.specs.Cage.{cageOf};
-ghost use Rattle.rules.specs.Calls.{loadCall};
-ghost use Rattle.rules.specs.Numbers.{KnownRule};
+ghost use Rattle.rules.specs.Calls.{loadRefusal, loadCall};
 ghost use Rattle.tables.specs.Answers.{workedOutcome};
 ghost use Rattle.tables.specs.Lent.{meshNow};
-ghost use Rattle.cage.specs.Answers.{lent, Loadable, Refuses, Leaves};
+ghost use Rattle.cage.specs.Answers.{Refuses, SideRoom, SidesLeft};
 ghost use Rattle.cage.specs.Decoded.{Sized, WorkingRoom, Holds};
 
 mod conditions;
@@ -58,59 +57,57 @@ fn refusal_of(
     0
 }
 
-// The load with this working room: the number of the condition that refuses the cage, or 0 and the cage is written.
+// The same refusal. Where it is 0 the cage's corners and links are written.
 fn load_by(
-    positions: &mut [i32],
     corners: &mut [u32],
     links: &mut [u32],
-    generations: &mut [u8],
     cage: &[u8],
+    vertices: u32,
+    triangles: u32,
     origins: &mut [u32],
     partners: &mut [u32],
     heads: &mut [u32],
     nexts: &mut [u32],
     slots: &mut [u32],
 ) -> u32
-    requires { ⌜ Loadable (now cage) (lent (now positions) (now corners) (now links) (now generations)) ⌝ }
-    requires { ⌜ WorkingRoom (cageOf (now cage) .vertices) (cageOf (now cage) .triangles) (now origins) (now partners)
-        (now heads) (now nexts) (now slots) ⌝ }
-    ensures { λ r. ⌜ ((rule : ℕ) → KnownRule rule → Leaves rule (now (cage .entry)) r
-        (lent (now (positions .entry)) (now (corners .entry)) (now (links .entry)) (now (generations .entry)))
-        (lent (now (positions .exit)) (now (corners .exit)) (now (links .exit)) (now (generations .exit)))) ⌝ }
+    requires { ⌜ Sized (now cage) vertices triangles × SideRoom triangles (now corners) (now links) ⌝ }
+    requires { ⌜ WorkingRoom vertices triangles (now origins) (now partners) (now heads) (now nexts) (now slots) ⌝ }
+    ensures { λ r. ⌜ Refuses (now (cage .entry)) r ⌝ }
+    ensures { λ r. ⌜ SidesLeft (cageOf (now (cage .entry))) r (now (corners .entry)) (now (links .entry))
+        (now (corners .exit)) (now (links .exit)) ⌝ }
 {
-    let v = points::number_at(cage, 0);
-    let f = points::number_at(cage, 4);
-    let refusal = refusal_of(cage, v, f, origins, partners, heads, nexts, slots);
+    let refusal = refusal_of(
+        cage,
+        vertices,
+        triangles,
+        origins,
+        partners,
+        heads,
+        nexts,
+        slots,
+    );
     if refusal != 0 {
         return refusal;
     }
-    writing::write(
-        positions,
-        corners,
-        links,
-        generations,
-        cage,
-        origins,
-        partners,
-        v,
-        f,
-    );
+    let sides = 3 * (triangles as usize);
+    tables::copies::copy(origins, sides, corners);
+    tables::copies::copy(partners, sides, links);
     refusal
 }
 
 // The same with working room for 256 vertices and triangles together.
 fn load_within_256(
-    positions: &mut [i32],
     corners: &mut [u32],
     links: &mut [u32],
-    generations: &mut [u8],
     cage: &[u8],
+    vertices: u32,
+    triangles: u32,
 ) -> u32
-    requires { ⌜ Loadable (now cage) (lent (now positions) (now corners) (now links) (now generations)) ⌝ }
+    requires { ⌜ Sized (now cage) vertices triangles × SideRoom triangles (now corners) (now links) ⌝ }
     requires { ⌜ length (now cage) ≤ 3080 ⌝ }
-    ensures { λ r. ⌜ ((rule : ℕ) → KnownRule rule → Leaves rule (now (cage .entry)) r
-        (lent (now (positions .entry)) (now (corners .entry)) (now (links .entry)) (now (generations .entry)))
-        (lent (now (positions .exit)) (now (corners .exit)) (now (links .exit)) (now (generations .exit)))) ⌝ }
+    ensures { λ r. ⌜ Refuses (now (cage .entry)) r ⌝ }
+    ensures { λ r. ⌜ SidesLeft (cageOf (now (cage .entry))) r (now (corners .entry)) (now (links .entry))
+        (now (corners .exit)) (now (links .exit)) ⌝ }
 {
     let mut origins = [0u32; 768];
     let mut partners = [0u32; 768];
@@ -118,11 +115,11 @@ fn load_within_256(
     let mut nexts = [0u32; 768];
     let mut slots = [0u32; 256];
     load_by(
-        positions,
         corners,
         links,
-        generations,
         cage,
+        vertices,
+        triangles,
         &mut origins,
         &mut partners,
         &mut heads,
@@ -133,17 +130,17 @@ fn load_within_256(
 
 // The same for 3072.
 fn load_within_3072(
-    positions: &mut [i32],
     corners: &mut [u32],
     links: &mut [u32],
-    generations: &mut [u8],
     cage: &[u8],
+    vertices: u32,
+    triangles: u32,
 ) -> u32
-    requires { ⌜ Loadable (now cage) (lent (now positions) (now corners) (now links) (now generations)) ⌝ }
+    requires { ⌜ Sized (now cage) vertices triangles × SideRoom triangles (now corners) (now links) ⌝ }
     requires { ⌜ length (now cage) ≤ 36872 ⌝ }
-    ensures { λ r. ⌜ ((rule : ℕ) → KnownRule rule → Leaves rule (now (cage .entry)) r
-        (lent (now (positions .entry)) (now (corners .entry)) (now (links .entry)) (now (generations .entry)))
-        (lent (now (positions .exit)) (now (corners .exit)) (now (links .exit)) (now (generations .exit)))) ⌝ }
+    ensures { λ r. ⌜ Refuses (now (cage .entry)) r ⌝ }
+    ensures { λ r. ⌜ SidesLeft (cageOf (now (cage .entry))) r (now (corners .entry)) (now (links .entry))
+        (now (corners .exit)) (now (links .exit)) ⌝ }
 {
     let mut origins = [0u32; 9216];
     let mut partners = [0u32; 9216];
@@ -151,11 +148,11 @@ fn load_within_3072(
     let mut nexts = [0u32; 9216];
     let mut slots = [0u32; 3072];
     load_by(
-        positions,
         corners,
         links,
-        generations,
         cage,
+        vertices,
+        triangles,
         &mut origins,
         &mut partners,
         &mut heads,
@@ -171,16 +168,16 @@ fn side_room() -> [u32; 196608] {
 
 // The same for the maxima.
 fn load_within_98304(
-    positions: &mut [i32],
     corners: &mut [u32],
     links: &mut [u32],
-    generations: &mut [u8],
     cage: &[u8],
+    vertices: u32,
+    triangles: u32,
 ) -> u32
-    requires { ⌜ Loadable (now cage) (lent (now positions) (now corners) (now links) (now generations)) ⌝ }
-    ensures { λ r. ⌜ ((rule : ℕ) → KnownRule rule → Leaves rule (now (cage .entry)) r
-        (lent (now (positions .entry)) (now (corners .entry)) (now (links .entry)) (now (generations .entry)))
-        (lent (now (positions .exit)) (now (corners .exit)) (now (links .exit)) (now (generations .exit)))) ⌝ }
+    requires { ⌜ Sized (now cage) vertices triangles × SideRoom triangles (now corners) (now links) ⌝ }
+    ensures { λ r. ⌜ Refuses (now (cage .entry)) r ⌝ }
+    ensures { λ r. ⌜ SidesLeft (cageOf (now (cage .entry))) r (now (corners .entry)) (now (links .entry))
+        (now (corners .exit)) (now (links .exit)) ⌝ }
 {
     let mut origins = side_room();
     let mut partners = side_room();
@@ -188,11 +185,11 @@ fn load_within_98304(
     let mut nexts = side_room();
     let mut slots = [0u32; 32768];
     load_by(
-        positions,
         corners,
         links,
-        generations,
         cage,
+        vertices,
+        triangles,
         &mut origins,
         &mut partners,
         &mut heads,
@@ -202,19 +199,21 @@ fn load_within_98304(
 }
 
 // The same for all, with the conditions 1, 16 and 2. A small cage has little room to clear.
-fn load_tables(
-    positions: &mut [i32],
+fn load_sides(
+    positions: &[i32],
     corners: &mut [u32],
     links: &mut [u32],
-    generations: &mut [u8],
+    generations: &[u8],
+    locks: &[u8],
     rule: u32,
     cage: &[u8],
 ) -> u32
-    ensures { λ r. ⌜ Leaves rule (now (cage .entry)) r
-        (lent (now (positions .entry)) (now (corners .entry)) (now (links .entry)) (now (generations .entry)))
-        (lent (now (positions .exit)) (now (corners .exit)) (now (links .exit)) (now (generations .exit))) ⌝ }
+    ensures { λ r. ⌜ ((n : Counts) → r ≡ loadRefusal rule (now (cage .entry)) (meshNow n (now (positions .entry))
+        (now (corners .entry)) (now (links .entry)) (now (generations .entry)) (now (locks .entry)))) ⌝ }
+    ensures { λ r. ⌜ SidesLeft (cageOf (now (cage .entry))) r (now (corners .entry)) (now (links .entry))
+        (now (corners .exit)) (now (links .exit)) ⌝ }
 {
-    if !soundness::tables_agree(positions, corners, links, generations) {
+    if !soundness::tables_agree(positions, corners, links, generations, locks) {
         return 1;
     }
     if !points::known_rule(rule) {
@@ -223,13 +222,15 @@ fn load_tables(
     if !conditions::sizes_fit(cage, positions, generations) {
         return 2;
     }
+    let v = points::number_at(cage, 0);
+    let f = points::number_at(cage, 4);
     if cage.len() <= 3080 {
-        return load_within_256(positions, corners, links, generations, cage);
+        return load_within_256(corners, links, cage, v, f);
     }
     if cage.len() <= 36872 {
-        return load_within_3072(positions, corners, links, generations, cage);
+        return load_within_3072(corners, links, cage, v, f);
     }
-    load_within_98304(positions, corners, links, generations, cage)
+    load_within_98304(corners, links, cage, v, f)
 }
 
 // Loads the cage, to be rounded by this rule. A refusal leaves the tables and the counts.
@@ -238,19 +239,24 @@ pub fn load(
     corners: &mut [u32],
     links: &mut [u32],
     generations: &mut [u8],
+    locks: &mut [u8],
     counts: Counts,
     rule: u32,
     cage: &[u8],
 ) -> Worked
     ensures { λ r. ⌜
         workedOutcome r (now (positions .exit)) (now (corners .exit)) (now (links .exit)) (now (generations .exit))
+        (now (locks .exit))
         ≡ loadCall rule (now (cage .entry)) (meshNow counts (now (positions .entry)) (now (corners .entry))
-        (now (links .entry)) (now (generations .entry))) ⌝ }
+        (now (links .entry)) (now (generations .entry)) (now (locks .entry))) ⌝ }
 {
-    let refusal = load_tables(positions, corners, links, generations, rule, cage);
+    let refusal = load_sides(positions, corners, links, generations, locks, rule, cage);
     if refusal == 0 {
         let v = points::number_at(cage, 0);
         let f = points::number_at(cage, 4);
+        writing::place(cage, 3 * (v as usize), positions);
+        writing::clear(f as usize, generations);
+        writing::clear(f as usize, locks);
         let loaded = Counts {
             vertices: v,
             triangles: f,

@@ -38,10 +38,15 @@ module _ (s : Spares) (m : Mesh) where
       unfolding sameSizes
       links-differ n = rw (eq-eqb _ _ a, eq-eqb _ _ b, ne-eqb _ _ n, sameSizes) refl
 
-      pub generations-decide : length (s .links) ≡ length (m .topology .links)
-          → eqb (length (s .generations)) (length (m .topology .generations)) ≡ sameSizes s m
-      unfolding sameSizes
-      generations-decide c = rw (eq-eqb _ _ a, eq-eqb _ _ b, eq-eqb _ _ c, sameSizes) refl
+      module _ (c : length (s .links) ≡ length (m .topology .links)) where
+        pub generations-differ : length (s .generations) ≢ length (m .topology .generations) → false ≡ sameSizes s m
+        unfolding sameSizes
+        generations-differ n = rw (eq-eqb _ _ a, eq-eqb _ _ b, eq-eqb _ _ c, ne-eqb _ _ n, sameSizes) refl
+
+        pub locks-decide : length (s .generations) ≡ length (m .topology .generations)
+            → eqb (length (s .locks)) (length (m .locks)) ≡ sameSizes s m
+        unfolding sameSizes
+        locks-decide d = rw (eq-eqb _ _ a, eq-eqb _ _ b, eq-eqb _ _ c, eq-eqb _ _ d, sameSizes) refl
 
 -- ---- the first refusal, by the answers of the tests
 

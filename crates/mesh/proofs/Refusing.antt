@@ -5,22 +5,26 @@ use mathlib.Core.List.{List, [], _∷_}
 use mathlib.Core.Logic.{_≢_}
 use mathlib.Core.Path.{_≡_, refl, sym, _∙_}
 use Prim.Native.Nat.{ℕ, _*_, _≤_, _<_}
+use native.Mathlib.Omega.{arith}
 use lib.Dec.{eqb, leb, ltb}
 use lib.IntN.{ℤ}
 use lib.ListN.{length}
 use Rattle.rules.proofs.Calls.CallRefusals.{position-refusal-first}
+use Rattle.rules.proofs.Calls.Carried.{lock-found}
 use Rattle.rules.proofs.Numbers.Decide.{stable}
 use Rattle.rules.proofs.Calls.FirstThatHolds.{refuses, carries, none-hold}
 use Rattle.rules.proofs.Soundness.SoundTest.{tables-agree-is}
 use Rattle.rules.specs.Calls.{_if_, firstOf, noRoom, ringRoom}
 use Rattle.rules.specs.Calls.{refusedWith, roomFor, closedEven, longRing}
 use Rattle.rules.specs.Calls.{wholeStepRefusal, limitRefusal, ringRefusal, ringRead, ringCall, positionRefusal}
-use Rattle.rules.specs.Calls.{positionRead, positionCall}
+use Rattle.rules.specs.Calls.{positionRead, positionCall, worked, someLocked, withLock, lockRefusal, lockCall}
 use Rattle.rules.specs.Ring.{ring}
 use Rattle.rules.specs.Sound.{isSound}
+use Rattle.rules.specs.Split.{atFirst}
 use Rattle.rules.specs.Tables.{Mesh, TablesAgree, tablesAgree, generation}
 use Rattle.refining.proofs.Refusing.{two-kept, two-passed}
 use Rattle.refining.specs.Standing.{standing}
+use Rattle.mesh.specs.Answers.{slotRefusal}
 
 -- Each answer to the two tests, by a call's own answers r and q.
 module _ (m : Mesh) (r : Bool) (a : r ≡ tablesAgree m) where
@@ -49,6 +53,7 @@ step-standing m r =
     12 if not (closedEven (m .topology))
     ∷ 9 if eqb (generation (m .topology) 0) 20
     ∷ 13 if longRing (m .topology)
+    ∷ 19 if someLocked m
     ∷ 11 if not (roomFor (m .topology .triangles) (2 * m .topology .triangles) m)
     ∷ []
     ) r
@@ -91,23 +96,21 @@ module _ (v : ℕ) (buffer : List ℕ) (m : Mesh) where
         pub ring-none : length (ring (m .topology) v) ≤ length buffer → 0 ≡ ringRefusal v buffer m
         ring-none k = ring-by-tests a b (lt-leb _ _ l) (le-ltb _ _ k)
 
--- ---- position
+-- ---- a slot
 
-module _ (v : ℕ) (m : Mesh) where
-  pub position-standing : (r : ℕ) → r ≡ standing m → r ≢ 0 → r ≡ positionRefusal v m
-  unfolding positionRefusal
-  position-standing r = two-kept (not (tablesAgree m)) (not (isSound m)) (8 if leb (m .topology .vertices) v ∷ []) r
+module _ (n i : ℕ) (m : Mesh) where
+  pub slot-standing : (r : ℕ) → r ≡ standing m → r ≢ 0 → r ≡ slotRefusal n i m
+  slot-standing r = two-kept (not (tablesAgree m)) (not (isSound m)) (8 if leb n i ∷ []) r
 
   module _ (r : ℕ) (s : r ≡ standing m) (z : r ≡ 0) where
-    position-passed : positionRefusal v m ≡ firstOf (8 if leb (m .topology .vertices) v ∷ [])
-    unfolding positionRefusal
-    position-passed = two-passed (not (tablesAgree m)) (not (isSound m)) (8 if leb (m .topology .vertices) v ∷ []) r s z
+    slot-passed : slotRefusal n i m ≡ firstOf (8 if leb n i ∷ [])
+    slot-passed = two-passed (not (tablesAgree m)) (not (isSound m)) (8 if leb n i ∷ []) r s z
 
-    pub position-eight : leb (m .topology .vertices) v ≡ true → 8 ≡ positionRefusal v m
-    position-eight a = sym (position-passed ∙ rw a refl)
+    pub slot-eight : leb n i ≡ true → 8 ≡ slotRefusal n i m
+    slot-eight a = sym (slot-passed ∙ rw a refl)
 
-    pub position-none : leb (m .topology .vertices) v ≡ false → 0 ≡ positionRefusal v m
-    position-none a = sym (position-passed ∙ rw a refl)
+    pub slot-none : leb n i ≡ false → 0 ≡ slotRefusal n i m
+    slot-none a = sym (slot-passed ∙ rw a refl)
 
 -- ---- outcomes
 
@@ -120,15 +123,38 @@ module _ (v : ℕ) (buffer : List ℕ) (m : Mesh) (r : ℕ) (e : r ≡ ringRefus
   unfolding ringCall
   ring-carried = carries m (ringRoom buffer) (ringRead v buffer m) (ringRefusal v buffer m) r e
 
-module _ (v : ℕ) (m : Mesh) (r : ℕ) (e : r ≡ positionRefusal v m) where
+module _ (v : ℕ) (m : Mesh) (r : ℕ) (e : r ≡ slotRefusal (m .topology .vertices) v m) where
+  of-position : r ≡ positionRefusal v m
+  unfolding positionRefusal
+  of-position = e
+
   pub position-refused : r ≢ 0 → refusedWith r m noRoom ≡ positionCall v m
   unfolding positionCall
-  position-refused = refuses m noRoom (positionRead v m) (positionRefusal v m) r e
+  position-refused = refuses m noRoom (positionRead v m) (positionRefusal v m) r of-position
 
   module _ (z : r ≡ 0) where
     pub position-carried : positionRead v m ≡ positionCall v m
     unfolding positionCall
-    position-carried = carries m noRoom (positionRead v m) (positionRefusal v m) r e z
+    position-carried = carries m noRoom (positionRead v m) (positionRefusal v m) r of-position z
 
     pub position-agrees : TablesAgree m
-    position-agrees = stable (tables-agree-is m) (none-hold (position-refusal-first v m) (sym e ∙ z) tt .0)
+    position-agrees = stable (tables-agree-is m) (none-hold (position-refusal-first v m) (sym of-position ∙ z) tt .0)
+
+module _ (on : Bool) (t : ℕ) (m : Mesh) (r : ℕ) (e : r ≡ slotRefusal (m .topology .triangles) t m) where
+  of-lock : r ≡ lockRefusal t m
+  unfolding lockRefusal
+  of-lock = e
+
+  pub lock-refused : r ≢ 0 → refusedWith r m noRoom ≡ lockCall on t m
+  unfolding lockCall
+  lock-refused = refuses m noRoom (worked (atFirst (withLock on t m))) (lockRefusal t m) r of-lock
+
+  module _ (z : r ≡ 0) where
+    pub lock-carried : worked (atFirst (withLock on t m)) ≡ lockCall on t m
+    unfolding lockCall
+    lock-carried = carries m noRoom (worked (atFirst (withLock on t m))) (lockRefusal t m) r of-lock z
+
+    pub lock-room : t < length (m .locks)
+    lock-room =
+        let F = lock-found t m (sym of-lock ∙ z) in
+        omega (arith, F .inUse, F .sound .triangleRoom, F .sound .tables .locks)

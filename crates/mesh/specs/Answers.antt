@@ -1,12 +1,15 @@
 -- The answers of the calls, with what the lent slices hold afterwards, as outcomes of the rules.
 use Prim.Native.Nat.{ℕ, _*_, _≤_}
-use mathlib.Core.List.{List}
+use mathlib.Core.Bool.{not}
+use mathlib.Core.List.{List, [], _∷_}
 use mathlib.Core.Path.{_≡_}
+use lib.Dec.{leb}
 use lib.IntN.{ℤ}
 use lib.ListN.{length}
-use Rattle.rules.specs.Calls.{Outcome, answerOf, noRoom, ringRoom, outcomeOf, zeroPoint, ringRefusal}
+use Rattle.rules.specs.Calls.{Outcome, answerOf, noRoom, ringRoom, outcomeOf, zeroPoint, ringRefusal, firstOf, _if_}
 use Rattle.rules.specs.Ring.{ring}
-use Rattle.rules.specs.Tables.{Mesh}
+use Rattle.rules.specs.Sound.{isSound}
+use Rattle.rules.specs.Tables.{Mesh, tablesAgree}
 use Rattle.rings.specs.Rings.{ringFrom, Walkable}
 use Rattle.tables.specs.Answers.{tableOutcome}
 use Rattle.tables.specs.Lent.{meshNow}
@@ -15,15 +18,19 @@ use Rattle.mesh.specs.declared.LimitRead.{LimitRead}
 use Rattle.mesh.specs.declared.RingRead.{RingRead}
 use Rattle.mesh.specs.declared.PositionRead.{PositionRead}
 
+-- The refusal of a call that names slot i of the first n: `lockRefusal` and `positionRefusal`.
+abbrev pub slotRefusal : ℕ → ℕ → Mesh → ℕ
+slotRefusal n i m = firstOf (1 if not (tablesAgree m) ∷ 7 if not (isSound m) ∷ 8 if leb n i ∷ [])
+
 -- The outcome of a call that reads limit positions.
-abbrev pub limitOutcome : LimitRead → List ℤ → List ℕ → List ℕ → List ℕ → List ℤ → Outcome
-limitOutcome a positions corners links generations table =
-    tableOutcome (a .refusal) (meshNow (a .counts) positions corners links generations) table
+abbrev pub limitOutcome : LimitRead → List ℤ → List ℕ → List ℕ → List ℕ → List ℕ → List ℤ → Outcome
+limitOutcome a positions corners links generations locks table =
+    tableOutcome (a .refusal) (meshNow (a .counts) positions corners links generations locks) table
 
 -- The outcome of a call that reads a ring.
-abbrev pub ringOutcome : RingRead → List ℤ → List ℕ → List ℕ → List ℕ → List ℕ → Outcome
-ringOutcome a positions corners links generations buffer =
-    let m = meshNow (a .counts) positions corners links generations in
+abbrev pub ringOutcome : RingRead → List ℤ → List ℕ → List ℕ → List ℕ → List ℕ → List ℕ → Outcome
+ringOutcome a positions corners links generations locks buffer =
+    let m = meshNow (a .counts) positions corners links generations locks in
     outcomeOf (answerOf (a .refusal) 0 0 (a .length) zeroPoint m) m (ringRoom buffer)
 
 -- A ring that is refused.
@@ -44,7 +51,7 @@ pub record FoundFor (v room : ℕ) (m : Mesh) (a : FoundRing) : Type 0 where
   pub found : a .refusal ≡ 0 → Found v room m a
 
 -- The outcome of a call that reads a position.
-abbrev pub positionOutcome : PositionRead → List ℤ → List ℕ → List ℕ → List ℕ → Outcome
-positionOutcome a positions corners links generations =
-    let m = meshNow (a .counts) positions corners links generations in
+abbrev pub positionOutcome : PositionRead → List ℤ → List ℕ → List ℕ → List ℕ → List ℕ → Outcome
+positionOutcome a positions corners links generations locks =
+    let m = meshNow (a .counts) positions corners links generations locks in
     outcomeOf (answerOf (a .refusal) 0 0 0 (a .point .x, a .point .y, a .point .z) m) m noRoom

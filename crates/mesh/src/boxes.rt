@@ -25,6 +25,7 @@ pub fn refine_box(
     corners: &mut [u32],
     links: &mut [u32],
     generations: &mut [u8],
+    locks: &mut [u8],
     counts: Counts,
     low: Point,
     high: Point,
@@ -33,27 +34,31 @@ pub fn refine_box(
     spare_corners: &mut [u32],
     spare_links: &mut [u32],
     spare_generations: &mut [u8],
+    spare_locks: &mut [u8],
 ) -> BatchWorked
     ensures { λ r. ⌜
         batchOutcome r (now (positions .exit)) (now (corners .exit)) (now (links .exit)) (now (generations .exit))
+        (now (locks .exit))
         (sparesNow (now («spare_positions» .exit)) (now («spare_corners» .exit)) (now («spare_links» .exit))
-        (now («spare_generations» .exit)))
+        (now («spare_generations» .exit)) (now («spare_locks» .exit)))
         ≡ boxCall (boxOf low high below) (sparesNow (now («spare_positions» .entry)) (now («spare_corners» .entry))
-        (now («spare_links» .entry)) (now («spare_generations» .entry)))
+        (now («spare_links» .entry)) (now («spare_generations» .entry)) (now («spare_locks» .entry)))
         (meshNow counts (now (positions .entry)) (now (corners .entry)) (now (links .entry))
-        (now (generations .entry))) ⌝ }
+        (now (generations .entry)) (now (locks .entry))) ⌝ }
 {
     let refusal = crate::spares::refusal(
         positions,
         corners,
         links,
         generations,
+        locks,
         counts,
         box_fits(low, high, below),
         spare_positions,
         spare_corners,
         spare_links,
         spare_generations,
+        spare_locks,
     );
     if refusal != 0 {
         return BatchWorked::refused(refusal, counts);
@@ -63,6 +68,7 @@ pub fn refine_box(
         corners,
         links,
         generations,
+        locks,
         counts,
         low,
         high,
@@ -71,5 +77,6 @@ pub fn refine_box(
         spare_corners,
         spare_links,
         spare_generations,
+        spare_locks,
     )
 }

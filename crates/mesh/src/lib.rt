@@ -7,13 +7,15 @@ mod spares;
 use points::Point;
 use tables::Counts;
 use tables::Worked;
+ghost use mathlib.Core.Bool.{true, false};
 ghost use mathlib.Core.Path.{_≡_};
-ghost use Rattle.rules.specs.Calls.{loadCall, refineCall, wholeStepCall, limitCall, ringCall, positionCall};
-ghost use Rattle.rules.specs.Calls.{positionRefusal};
+ghost use Prim.Native.Nat.{_<_};
+ghost use lib.ListN.{length, set};
+ghost use Rattle.rules.specs.Calls.{loadCall, refineCall, wholeStepCall, lockCall, limitCall, ringCall, positionCall};
 ghost use Rattle.tables.specs.Answers.{workedOutcome};
 ghost use Rattle.tables.specs.Lent.{meshNow};
 ghost use Rattle.refining.specs.Standing.{standing};
-ghost use Rattle.mesh.specs.Answers.{limitOutcome, noRing, FoundFor, ringOutcome, positionOutcome};
+ghost use Rattle.mesh.specs.Answers.{slotRefusal, limitOutcome, noRing, FoundFor, ringOutcome, positionOutcome};
 
 // The answer of ring.
 #[repr(C)]
@@ -44,13 +46,14 @@ fn not_sound(
     corners: &[u32],
     links: &[u32],
     generations: &[u8],
+    locks: &[u8],
     counts: Counts,
 ) -> u32
     ensures { λ r. ⌜ (let m = meshNow counts (now (positions .entry)) (now (corners .entry)) (now (links .entry))
-        (now (generations .entry)) in
+        (now (generations .entry)) (now (locks .entry)) in
         r ≡ standing m) ⌝ }
 {
-    if !soundness::tables_agree(positions, corners, links, generations) {
+    if !soundness::tables_agree(positions, corners, links, generations, locks) {
         return 1;
     }
     if !soundness::is_sound(
@@ -58,6 +61,7 @@ fn not_sound(
         corners,
         links,
         generations,
+        locks,
         counts.vertices,
         counts.triangles,
         counts.rule,
@@ -73,16 +77,27 @@ pub fn load(
     corners: &mut [u32],
     links: &mut [u32],
     generations: &mut [u8],
+    locks: &mut [u8],
     counts: Counts,
     rule: u32,
     cage: &[u8],
 ) -> Worked
     ensures { λ r. ⌜
         workedOutcome r (now (positions .exit)) (now (corners .exit)) (now (links .exit)) (now (generations .exit))
+        (now (locks .exit))
         ≡ loadCall rule (now (cage .entry)) (meshNow counts (now (positions .entry)) (now (corners .entry))
-        (now (links .entry)) (now (generations .entry))) ⌝ }
+        (now (links .entry)) (now (generations .entry)) (now (locks .entry))) ⌝ }
 {
-    cage::load(positions, corners, links, generations, counts, rule, cage)
+    cage::load(
+        positions,
+        corners,
+        links,
+        generations,
+        locks,
+        counts,
+        rule,
+        cage,
+    )
 }
 
 // Refines triangle t.
@@ -91,16 +106,27 @@ pub fn refine(
     corners: &mut [u32],
     links: &mut [u32],
     generations: &mut [u8],
+    locks: &mut [u8],
     counts: Counts,
     t: u32,
 ) -> Worked
     ensures { λ r. ⌜
         workedOutcome r (now (positions .exit)) (now (corners .exit)) (now (links .exit)) (now (generations .exit))
+        (now (locks .exit))
         ≡ refineCall t (meshNow counts (now (positions .entry)) (now (corners .entry)) (now (links .entry))
-        (now (generations .entry))) ⌝ }
+        (now (generations .entry)) (now (locks .entry))) ⌝ }
 {
-    let bad = not_sound(positions, corners, links, generations, counts);
-    refining::refine(positions, corners, links, generations, counts, t, bad)
+    let bad = not_sound(positions, corners, links, generations, locks, counts);
+    refining::refine(
+        positions,
+        corners,
+        links,
+        generations,
+        locks,
+        counts,
+        t,
+        bad,
+    )
 }
 
 // The whole smoothing step on a mesh whose first refusal is known.
@@ -109,14 +135,17 @@ fn whole_step_known(
     corners: &mut [u32],
     links: &mut [u32],
     generations: &mut [u8],
+    locks: &mut [u8],
     counts: Counts,
     bad: u32,
 ) -> Worked
-    requires { ⌜ bad ≡ standing (meshNow counts (now positions) (now corners) (now links) (now generations)) ⌝ }
+    requires { ⌜ bad ≡ standing (meshNow counts (now positions) (now corners) (now links) (now generations)
+        (now locks)) ⌝ }
     ensures { λ r. ⌜
         workedOutcome r (now (positions .exit)) (now (corners .exit)) (now (links .exit)) (now (generations .exit))
+        (now (locks .exit))
         ≡ wholeStepCall (meshNow counts (now (positions .entry)) (now (corners .entry)) (now (links .entry))
-        (now (generations .entry))) ⌝ }
+        (now (generations .entry)) (now (locks .entry))) ⌝ }
 {
     if bad != 0 {
         return Worked {
@@ -126,7 +155,7 @@ fn whole_step_known(
             counts,
         };
     }
-    step::smoothing_step(positions, corners, links, generations, counts)
+    step::smoothing_step(positions, corners, links, generations, locks, counts)
 }
 
 // The whole smoothing step.
@@ -135,15 +164,92 @@ pub fn whole_step(
     corners: &mut [u32],
     links: &mut [u32],
     generations: &mut [u8],
+    locks: &mut [u8],
     counts: Counts,
 ) -> Worked
     ensures { λ r. ⌜
         workedOutcome r (now (positions .exit)) (now (corners .exit)) (now (links .exit)) (now (generations .exit))
+        (now (locks .exit))
         ≡ wholeStepCall (meshNow counts (now (positions .entry)) (now (corners .entry)) (now (links .entry))
-        (now (generations .entry))) ⌝ }
+        (now (generations .entry)) (now (locks .entry))) ⌝ }
 {
-    let bad = not_sound(positions, corners, links, generations, counts);
-    whole_step_known(positions, corners, links, generations, counts, bad)
+    let bad = not_sound(positions, corners, links, generations, locks, counts);
+    whole_step_known(positions, corners, links, generations, locks, counts, bad)
+}
+
+// The refusal of a call that names slot i of the first n, or 0.
+fn slot_refusal(
+    positions: &[i32],
+    corners: &[u32],
+    links: &[u32],
+    generations: &[u8],
+    locks: &[u8],
+    counts: Counts,
+    n: u32,
+    i: u32,
+) -> u32
+    ensures { λ r. ⌜ r ≡ slotRefusal n i (meshNow counts (now (positions .entry)) (now (corners .entry))
+        (now (links .entry)) (now (generations .entry)) (now (locks .entry))) ⌝ }
+{
+    let bad = not_sound(positions, corners, links, generations, locks, counts);
+    if bad != 0 {
+        return bad;
+    }
+    if n <= i {
+        return 8;
+    }
+    0
+}
+
+// The lock of slot t set, or cleared.
+fn set_lock(locks: &mut [u8], t: u32, on: bool)
+    requires { ⌜ t < length (now locks) ⌝ }
+    ensures { λ _. ⌜ now (locks .exit) ≡ set (now (locks .entry)) t (elim on [ true ↦ 1 | false ↦ 0 ]) ⌝ }
+{
+    let slot = t as usize;
+    if on {
+        locks[slot] = 1;
+    } else {
+        locks[slot] = 0;
+    }
+}
+
+// Sets or clears the lock of triangle t.
+pub fn lock(
+    positions: &[i32],
+    corners: &[u32],
+    links: &[u32],
+    generations: &[u8],
+    locks: &mut [u8],
+    counts: Counts,
+    t: u32,
+    on: bool,
+) -> Worked
+    ensures { λ r. ⌜
+        workedOutcome r (now (positions .entry)) (now (corners .entry)) (now (links .entry))
+        (now (generations .entry)) (now (locks .exit))
+        ≡ lockCall on t (meshNow counts (now (positions .entry)) (now (corners .entry)) (now (links .entry))
+        (now (generations .entry)) (now (locks .entry))) ⌝ }
+{
+    let refusal = slot_refusal(
+        positions,
+        corners,
+        links,
+        generations,
+        locks,
+        counts,
+        counts.triangles,
+        t,
+    );
+    if refusal == 0 {
+        set_lock(locks, t, on);
+    }
+    Worked {
+        refusal,
+        splits: 0,
+        flips: 0,
+        counts,
+    }
 }
 
 // Writes the limit position of each vertex into the table.
@@ -152,16 +258,17 @@ pub fn limit(
     corners: &[u32],
     links: &[u32],
     generations: &[u8],
+    locks: &[u8],
     counts: Counts,
     table: &mut [i32],
 ) -> LimitRead
     ensures { λ r. ⌜
         limitOutcome r (now (positions .entry)) (now (corners .entry)) (now (links .entry))
-        (now (generations .entry)) (now (table .exit))
+        (now (generations .entry)) (now (locks .entry)) (now (table .exit))
         ≡ limitCall (now (table .entry)) (meshNow counts (now (positions .entry)) (now (corners .entry))
-        (now (links .entry)) (now (generations .entry))) ⌝ }
+        (now (links .entry)) (now (generations .entry)) (now (locks .entry))) ⌝ }
 {
-    let bad = not_sound(positions, corners, links, generations, counts);
+    let bad = not_sound(positions, corners, links, generations, locks, counts);
     if bad != 0 {
         return LimitRead {
             refusal: bad,
@@ -203,14 +310,15 @@ fn find_ring(
     corners: &[u32],
     links: &[u32],
     generations: &[u8],
+    locks: &[u8],
     counts: Counts,
     v: u32,
     room: usize,
 ) -> FoundRing
     ensures { λ r. ⌜ FoundFor v room (meshNow counts (now (positions .entry)) (now (corners .entry))
-        (now (links .entry)) (now (generations .entry))) r ⌝ }
+        (now (links .entry)) (now (generations .entry)) (now (locks .entry))) r ⌝ }
 {
-    if !soundness::tables_agree(positions, corners, links, generations) {
+    if !soundness::tables_agree(positions, corners, links, generations, locks) {
         return no_ring(1);
     }
     let start = soundness::sound_start(
@@ -218,6 +326,7 @@ fn find_ring(
         corners,
         links,
         generations,
+        locks,
         counts.vertices,
         counts.triangles,
         counts.rule,
@@ -247,21 +356,23 @@ pub fn ring(
     corners: &[u32],
     links: &[u32],
     generations: &[u8],
+    locks: &[u8],
     counts: Counts,
     v: u32,
     buffer: &mut [u32],
 ) -> RingRead
     ensures { λ r. ⌜
         ringOutcome r (now (positions .entry)) (now (corners .entry)) (now (links .entry))
-        (now (generations .entry)) (now (buffer .exit))
+        (now (generations .entry)) (now (locks .entry)) (now (buffer .exit))
         ≡ ringCall v (now (buffer .entry)) (meshNow counts (now (positions .entry)) (now (corners .entry))
-        (now (links .entry)) (now (generations .entry))) ⌝ }
+        (now (links .entry)) (now (generations .entry)) (now (locks .entry))) ⌝ }
 {
     let found = find_ring(
         positions,
         corners,
         links,
         generations,
+        locks,
         counts,
         v,
         buffer.len(),
@@ -281,44 +392,32 @@ pub fn ring(
     }
 }
 
-// The refusal of a position, or 0.
-fn position_refusal(
-    positions: &[i32],
-    corners: &[u32],
-    links: &[u32],
-    generations: &[u8],
-    counts: Counts,
-    v: u32,
-) -> u32
-    ensures { λ r. ⌜ r ≡ positionRefusal v (meshNow counts (now (positions .entry)) (now (corners .entry))
-        (now (links .entry)) (now (generations .entry))) ⌝ }
-{
-    let bad = not_sound(positions, corners, links, generations, counts);
-    if bad != 0 {
-        return bad;
-    }
-    if counts.vertices <= v {
-        return 8;
-    }
-    0
-}
-
 // Reads the position of vertex v.
 pub fn position(
     positions: &[i32],
     corners: &[u32],
     links: &[u32],
     generations: &[u8],
+    locks: &[u8],
     counts: Counts,
     v: u32,
 ) -> PositionRead
     ensures { λ r. ⌜
         positionOutcome r (now (positions .entry)) (now (corners .entry)) (now (links .entry))
-        (now (generations .entry))
+        (now (generations .entry)) (now (locks .entry))
         ≡ positionCall v (meshNow counts (now (positions .entry)) (now (corners .entry)) (now (links .entry))
-        (now (generations .entry))) ⌝ }
+        (now (generations .entry)) (now (locks .entry))) ⌝ }
 {
-    let refusal = position_refusal(positions, corners, links, generations, counts, v);
+    let refusal = slot_refusal(
+        positions,
+        corners,
+        links,
+        generations,
+        locks,
+        counts,
+        counts.vertices,
+        v,
+    );
     if refusal != 0 {
         return PositionRead {
             refusal,

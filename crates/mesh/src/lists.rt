@@ -14,33 +14,38 @@ pub fn refine_list(
     corners: &mut [u32],
     links: &mut [u32],
     generations: &mut [u8],
+    locks: &mut [u8],
     counts: Counts,
     list: &[u32],
     spare_positions: &mut [i32],
     spare_corners: &mut [u32],
     spare_links: &mut [u32],
     spare_generations: &mut [u8],
+    spare_locks: &mut [u8],
 ) -> BatchWorked
     ensures { λ r. ⌜
         batchOutcome r (now (positions .exit)) (now (corners .exit)) (now (links .exit)) (now (generations .exit))
+        (now (locks .exit))
         (sparesNow (now («spare_positions» .exit)) (now («spare_corners» .exit)) (now («spare_links» .exit))
-        (now («spare_generations» .exit)))
+        (now («spare_generations» .exit)) (now («spare_locks» .exit)))
         ≡ listCall (now (list .entry)) (sparesNow (now («spare_positions» .entry)) (now («spare_corners» .entry))
-        (now («spare_links» .entry)) (now («spare_generations» .entry)))
+        (now («spare_links» .entry)) (now («spare_generations» .entry)) (now («spare_locks» .entry)))
         (meshNow counts (now (positions .entry)) (now (corners .entry)) (now (links .entry))
-        (now (generations .entry))) ⌝ }
+        (now (generations .entry)) (now (locks .entry))) ⌝ }
 {
     let refusal = crate::spares::refusal(
         positions,
         corners,
         links,
         generations,
+        locks,
         counts,
         true,
         spare_positions,
         spare_corners,
         spare_links,
         spare_generations,
+        spare_locks,
     );
     if refusal != 0 {
         return BatchWorked::refused(refusal, counts);
@@ -50,12 +55,14 @@ pub fn refine_list(
         corners,
         links,
         generations,
+        locks,
         counts,
         list,
         spare_positions,
         spare_corners,
         spare_links,
         spare_generations,
+        spare_locks,
     )
 }
 
@@ -65,31 +72,35 @@ pub fn preview(
     corners: &[u32],
     links: &[u32],
     generations: &[u8],
+    locks: &[u8],
     counts: Counts,
     list: &[u32],
     spare_positions: &mut [i32],
     spare_corners: &mut [u32],
     spare_links: &mut [u32],
     spare_generations: &mut [u8],
+    spare_locks: &mut [u8],
 ) -> BatchForeseen
     ensures { λ r. ⌜ (let m = meshNow counts (now (positions .entry)) (now (corners .entry)) (now (links .entry))
-        (now (generations .entry)) in
+        (now (generations .entry)) (now (locks .entry)) in
         foreseenOutcome r m (sparesNow (now («spare_positions» .exit)) (now («spare_corners» .exit))
-        (now («spare_links» .exit)) (now («spare_generations» .exit)))
+        (now («spare_links» .exit)) (now («spare_generations» .exit)) (now («spare_locks» .exit)))
         ≡ previewCall (now (list .entry)) (sparesNow (now («spare_positions» .entry)) (now («spare_corners» .entry))
-        (now («spare_links» .entry)) (now («spare_generations» .entry))) m) ⌝ }
+        (now («spare_links» .entry)) (now («spare_generations» .entry)) (now («spare_locks» .entry))) m) ⌝ }
 {
     let refusal = crate::spares::refusal(
         positions,
         corners,
         links,
         generations,
+        locks,
         counts,
         true,
         spare_positions,
         spare_corners,
         spare_links,
         spare_generations,
+        spare_locks,
     );
     if refusal != 0 {
         return BatchForeseen {
@@ -111,11 +122,13 @@ pub fn preview(
         corners,
         links,
         generations,
+        locks,
         counts,
         list,
         spare_positions,
         spare_corners,
         spare_links,
         spare_generations,
+        spare_locks,
     )
 }

@@ -11,17 +11,19 @@ fn same_sizes(
     corners: &[u32],
     links: &[u32],
     generations: &[u8],
+    locks: &[u8],
     counts: Counts,
     spare_positions: &[i32],
     spare_corners: &[u32],
     spare_links: &[u32],
     spare_generations: &[u8],
+    spare_locks: &[u8],
 ) -> bool
     ensures { λ r. ⌜
         r ≡ sameSizes (sparesNow (now («spare_positions» .entry)) (now («spare_corners» .entry))
-        (now («spare_links» .entry)) (now («spare_generations» .entry)))
+        (now («spare_links» .entry)) (now («spare_generations» .entry)) (now («spare_locks» .entry)))
         (meshNow counts (now (positions .entry)) (now (corners .entry)) (now (links .entry))
-        (now (generations .entry))) ⌝ }
+        (now (generations .entry)) (now (locks .entry))) ⌝ }
 {
     if spare_positions.len() != positions.len() {
         return false;
@@ -32,7 +34,10 @@ fn same_sizes(
     if spare_links.len() != links.len() {
         return false;
     }
-    spare_generations.len() == generations.len()
+    if spare_generations.len() != generations.len() {
+        return false;
+    }
+    spare_locks.len() == locks.len()
 }
 
 // The first refusal of a call that works in spare tables: 1, 17, 18 where its arguments do not fit, 7 or none.
@@ -41,20 +46,22 @@ pub fn refusal(
     corners: &[u32],
     links: &[u32],
     generations: &[u8],
+    locks: &[u8],
     counts: Counts,
     fits: bool,
     spare_positions: &[i32],
     spare_corners: &[u32],
     spare_links: &[u32],
     spare_generations: &[u8],
+    spare_locks: &[u8],
 ) -> u32
     ensures { λ r. ⌜
         r ≡ workRefusal fits (sparesNow (now («spare_positions» .entry)) (now («spare_corners» .entry))
-        (now («spare_links» .entry)) (now («spare_generations» .entry)))
+        (now («spare_links» .entry)) (now («spare_generations» .entry)) (now («spare_locks» .entry)))
         (meshNow counts (now (positions .entry)) (now (corners .entry)) (now (links .entry))
-        (now (generations .entry))) ⌝ }
+        (now (generations .entry)) (now (locks .entry))) ⌝ }
 {
-    if !soundness::tables_agree(positions, corners, links, generations) {
+    if !soundness::tables_agree(positions, corners, links, generations, locks) {
         return 1;
     }
     if !same_sizes(
@@ -62,11 +69,13 @@ pub fn refusal(
         corners,
         links,
         generations,
+        locks,
         counts,
         spare_positions,
         spare_corners,
         spare_links,
         spare_generations,
+        spare_locks,
     ) {
         return 17;
     }
@@ -78,6 +87,7 @@ pub fn refusal(
         corners,
         links,
         generations,
+        locks,
         counts.vertices,
         counts.triangles,
         counts.rule,

@@ -8,9 +8,10 @@ use refining::lists::BatchForeseen;
 use refining::spares::BatchWorked;
 use tables::Counts;
 use tables::Worked;
+ghost use mathlib.Core.Bool.{true, false};
 ghost use mathlib.Core.Path.{_≡_};
 ghost use Rattle.rules.specs.Boxes.{boxCall};
-ghost use Rattle.rules.specs.Calls.{loadCall, refineCall, wholeStepCall, limitCall, ringCall, positionCall};
+ghost use Rattle.rules.specs.Calls.{loadCall, refineCall, wholeStepCall, lockCall, limitCall, ringCall, positionCall};
 ghost use Rattle.rules.specs.Lists.{listCall, previewCall};
 ghost use Rattle.tables.specs.Answers.{workedOutcome};
 ghost use Rattle.tables.specs.Lent.{meshNow, sparesNow};
@@ -25,16 +26,26 @@ pub extern "C" fn rawplinth_load(
     corners: &mut [u32],
     links: &mut [u32],
     generations: &mut [u8],
+    locks: &mut [u8],
     counts: Counts,
     rule: u32,
     cage: &[u8],
 ) -> Worked
     ensures { λ r. ⌜ workedOutcome r (now (positions .exit)) (now (corners .exit)) (now (links .exit))
-        (now (generations .exit))
+        (now (generations .exit)) (now (locks .exit))
         ≡ loadCall rule (now (cage .entry)) (meshNow counts (now (positions .entry)) (now (corners .entry))
-        (now (links .entry)) (now (generations .entry))) ⌝ }
+        (now (links .entry)) (now (generations .entry)) (now (locks .entry))) ⌝ }
 {
-    mesh::load(positions, corners, links, generations, counts, rule, cage)
+    mesh::load(
+        positions,
+        corners,
+        links,
+        generations,
+        locks,
+        counts,
+        rule,
+        cage,
+    )
 }
 
 // Refines one triangle.
@@ -44,15 +55,24 @@ pub extern "C" fn rawplinth_refine(
     corners: &mut [u32],
     links: &mut [u32],
     generations: &mut [u8],
+    locks: &mut [u8],
     counts: Counts,
     triangle: u32,
 ) -> Worked
     ensures { λ r. ⌜ workedOutcome r (now (positions .exit)) (now (corners .exit)) (now (links .exit))
-        (now (generations .exit))
+        (now (generations .exit)) (now (locks .exit))
         ≡ refineCall triangle (meshNow counts (now (positions .entry)) (now (corners .entry)) (now (links .entry))
-        (now (generations .entry))) ⌝ }
+        (now (generations .entry)) (now (locks .entry))) ⌝ }
 {
-    mesh::refine(positions, corners, links, generations, counts, triangle)
+    mesh::refine(
+        positions,
+        corners,
+        links,
+        generations,
+        locks,
+        counts,
+        triangle,
+    )
 }
 
 // The whole smoothing step.
@@ -62,14 +82,15 @@ pub extern "C" fn rawplinth_whole_step(
     corners: &mut [u32],
     links: &mut [u32],
     generations: &mut [u8],
+    locks: &mut [u8],
     counts: Counts,
 ) -> Worked
     ensures { λ r. ⌜ workedOutcome r (now (positions .exit)) (now (corners .exit)) (now (links .exit))
-        (now (generations .exit))
+        (now (generations .exit)) (now (locks .exit))
         ≡ wholeStepCall (meshNow counts (now (positions .entry)) (now (corners .entry)) (now (links .entry))
-        (now (generations .entry))) ⌝ }
+        (now (generations .entry)) (now (locks .entry))) ⌝ }
 {
-    mesh::whole_step(positions, corners, links, generations, counts)
+    mesh::whole_step(positions, corners, links, generations, locks, counts)
 }
 
 // Refines a list of triangles, all or none, in spare tables.
@@ -79,33 +100,37 @@ pub extern "C" fn rawplinth_refine_list(
     corners: &mut [u32],
     links: &mut [u32],
     generations: &mut [u8],
+    locks: &mut [u8],
     counts: Counts,
     list: &[u32],
     spare_positions: &mut [i32],
     spare_corners: &mut [u32],
     spare_links: &mut [u32],
     spare_generations: &mut [u8],
+    spare_locks: &mut [u8],
 ) -> BatchWorked
     ensures { λ r. ⌜ batchOutcome r (now (positions .exit)) (now (corners .exit)) (now (links .exit))
-        (now (generations .exit))
+        (now (generations .exit)) (now (locks .exit))
         (sparesNow (now («spare_positions» .exit)) (now («spare_corners» .exit)) (now («spare_links» .exit))
-        (now («spare_generations» .exit)))
+        (now («spare_generations» .exit)) (now («spare_locks» .exit)))
         ≡ listCall (now (list .entry)) (sparesNow (now («spare_positions» .entry)) (now («spare_corners» .entry))
-        (now («spare_links» .entry)) (now («spare_generations» .entry)))
+        (now («spare_links» .entry)) (now («spare_generations» .entry)) (now («spare_locks» .entry)))
         (meshNow counts (now (positions .entry)) (now (corners .entry)) (now (links .entry))
-        (now (generations .entry))) ⌝ }
+        (now (generations .entry)) (now (locks .entry))) ⌝ }
 {
     mesh::lists::refine_list(
         positions,
         corners,
         links,
         generations,
+        locks,
         counts,
         list,
         spare_positions,
         spare_corners,
         spare_links,
         spare_generations,
+        spare_locks,
     )
 }
 
@@ -116,6 +141,7 @@ pub extern "C" fn rawplinth_refine_box(
     corners: &mut [u32],
     links: &mut [u32],
     generations: &mut [u8],
+    locks: &mut [u8],
     counts: Counts,
     low: Point,
     high: Point,
@@ -124,21 +150,23 @@ pub extern "C" fn rawplinth_refine_box(
     spare_corners: &mut [u32],
     spare_links: &mut [u32],
     spare_generations: &mut [u8],
+    spare_locks: &mut [u8],
 ) -> BatchWorked
     ensures { λ r. ⌜ batchOutcome r (now (positions .exit)) (now (corners .exit)) (now (links .exit))
-        (now (generations .exit))
+        (now (generations .exit)) (now (locks .exit))
         (sparesNow (now («spare_positions» .exit)) (now («spare_corners» .exit)) (now («spare_links» .exit))
-        (now («spare_generations» .exit)))
+        (now («spare_generations» .exit)) (now («spare_locks» .exit)))
         ≡ boxCall (boxOf low high below) (sparesNow (now («spare_positions» .entry)) (now («spare_corners» .entry))
-        (now («spare_links» .entry)) (now («spare_generations» .entry)))
+        (now («spare_links» .entry)) (now («spare_generations» .entry)) (now («spare_locks» .entry)))
         (meshNow counts (now (positions .entry)) (now (corners .entry)) (now (links .entry))
-        (now (generations .entry))) ⌝ }
+        (now (generations .entry)) (now (locks .entry))) ⌝ }
 {
     mesh::boxes::refine_box(
         positions,
         corners,
         links,
         generations,
+        locks,
         counts,
         low,
         high,
@@ -147,6 +175,7 @@ pub extern "C" fn rawplinth_refine_box(
         spare_corners,
         spare_links,
         spare_generations,
+        spare_locks,
     )
 }
 
@@ -157,31 +186,91 @@ pub extern "C" fn rawplinth_preview(
     corners: &[u32],
     links: &[u32],
     generations: &[u8],
+    locks: &[u8],
     counts: Counts,
     list: &[u32],
     spare_positions: &mut [i32],
     spare_corners: &mut [u32],
     spare_links: &mut [u32],
     spare_generations: &mut [u8],
+    spare_locks: &mut [u8],
 ) -> BatchForeseen
     ensures { λ r. ⌜ (let m = meshNow counts (now (positions .entry)) (now (corners .entry)) (now (links .entry))
-        (now (generations .entry)) in
+        (now (generations .entry)) (now (locks .entry)) in
         foreseenOutcome r m (sparesNow (now («spare_positions» .exit)) (now («spare_corners» .exit))
-        (now («spare_links» .exit)) (now («spare_generations» .exit)))
+        (now («spare_links» .exit)) (now («spare_generations» .exit)) (now («spare_locks» .exit)))
         ≡ previewCall (now (list .entry)) (sparesNow (now («spare_positions» .entry)) (now («spare_corners» .entry))
-        (now («spare_links» .entry)) (now («spare_generations» .entry))) m) ⌝ }
+        (now («spare_links» .entry)) (now («spare_generations» .entry)) (now («spare_locks» .entry))) m) ⌝ }
 {
     mesh::lists::preview(
         positions,
         corners,
         links,
         generations,
+        locks,
         counts,
         list,
         spare_positions,
         spare_corners,
         spare_links,
         spare_generations,
+        spare_locks,
+    )
+}
+
+// Locks a triangle.
+#[no_mangle]
+pub extern "C" fn rawplinth_lock(
+    positions: &[i32],
+    corners: &[u32],
+    links: &[u32],
+    generations: &[u8],
+    locks: &mut [u8],
+    counts: Counts,
+    triangle: u32,
+) -> Worked
+    ensures { λ r. ⌜ workedOutcome r (now (positions .entry)) (now (corners .entry)) (now (links .entry))
+        (now (generations .entry)) (now (locks .exit))
+        ≡ lockCall true triangle (meshNow counts (now (positions .entry)) (now (corners .entry))
+        (now (links .entry)) (now (generations .entry)) (now (locks .entry))) ⌝ }
+{
+    mesh::lock(
+        positions,
+        corners,
+        links,
+        generations,
+        locks,
+        counts,
+        triangle,
+        true,
+    )
+}
+
+// Unlocks a triangle.
+#[no_mangle]
+pub extern "C" fn rawplinth_unlock(
+    positions: &[i32],
+    corners: &[u32],
+    links: &[u32],
+    generations: &[u8],
+    locks: &mut [u8],
+    counts: Counts,
+    triangle: u32,
+) -> Worked
+    ensures { λ r. ⌜ workedOutcome r (now (positions .entry)) (now (corners .entry)) (now (links .entry))
+        (now (generations .entry)) (now (locks .exit))
+        ≡ lockCall false triangle (meshNow counts (now (positions .entry)) (now (corners .entry))
+        (now (links .entry)) (now (generations .entry)) (now (locks .entry))) ⌝ }
+{
+    mesh::lock(
+        positions,
+        corners,
+        links,
+        generations,
+        locks,
+        counts,
+        triangle,
+        false,
     )
 }
 
@@ -192,15 +281,16 @@ pub extern "C" fn rawplinth_limit(
     corners: &[u32],
     links: &[u32],
     generations: &[u8],
+    locks: &[u8],
     counts: Counts,
     table: &mut [i32],
 ) -> LimitRead
     ensures { λ r. ⌜ limitOutcome r (now (positions .entry)) (now (corners .entry)) (now (links .entry))
-        (now (generations .entry)) (now (table .exit))
+        (now (generations .entry)) (now (locks .entry)) (now (table .exit))
         ≡ limitCall (now (table .entry)) (meshNow counts (now (positions .entry)) (now (corners .entry))
-        (now (links .entry)) (now (generations .entry))) ⌝ }
+        (now (links .entry)) (now (generations .entry)) (now (locks .entry))) ⌝ }
 {
-    mesh::limit(positions, corners, links, generations, counts, table)
+    mesh::limit(positions, corners, links, generations, locks, counts, table)
 }
 
 // Reads the ring of a vertex.
@@ -210,20 +300,22 @@ pub extern "C" fn rawplinth_ring(
     corners: &[u32],
     links: &[u32],
     generations: &[u8],
+    locks: &[u8],
     counts: Counts,
     vertex: u32,
     buffer: &mut [u32],
 ) -> RingRead
     ensures { λ r. ⌜ ringOutcome r (now (positions .entry)) (now (corners .entry)) (now (links .entry))
-        (now (generations .entry)) (now (buffer .exit))
+        (now (generations .entry)) (now (locks .entry)) (now (buffer .exit))
         ≡ ringCall vertex (now (buffer .entry)) (meshNow counts (now (positions .entry)) (now (corners .entry))
-        (now (links .entry)) (now (generations .entry))) ⌝ }
+        (now (links .entry)) (now (generations .entry)) (now (locks .entry))) ⌝ }
 {
     mesh::ring(
         positions,
         corners,
         links,
         generations,
+        locks,
         counts,
         vertex,
         buffer,
@@ -237,13 +329,22 @@ pub extern "C" fn rawplinth_position(
     corners: &[u32],
     links: &[u32],
     generations: &[u8],
+    locks: &[u8],
     counts: Counts,
     vertex: u32,
 ) -> PositionRead
     ensures { λ r. ⌜ positionOutcome r (now (positions .entry)) (now (corners .entry)) (now (links .entry))
-        (now (generations .entry))
+        (now (generations .entry)) (now (locks .entry))
         ≡ positionCall vertex (meshNow counts (now (positions .entry)) (now (corners .entry)) (now (links .entry))
-        (now (generations .entry))) ⌝ }
+        (now (generations .entry)) (now (locks .entry))) ⌝ }
 {
-    mesh::position(positions, corners, links, generations, counts, vertex)
+    mesh::position(
+        positions,
+        corners,
+        links,
+        generations,
+        locks,
+        counts,
+        vertex,
+    )
 }

@@ -35,6 +35,7 @@ fn load(
     corners: &mut [u32],
     links: &mut [u32],
     generations: &mut [u8],
+    locks: &mut [u8],
     path: &[u8],
 ) -> Worked
     ensures { λ r. ⌜ r .counts .rule ≡ 1 ⌝ }
@@ -47,11 +48,20 @@ fn load(
     let mut cage = [0u8; 36873];
     let fd = os::open_read(path);
     if fd < 0 {
-        return mesh::load(positions, corners, links, generations, fresh, 1, b"");
+        return mesh::load(positions, corners, links, generations, locks, fresh, 1, b"");
     }
     let n = io::read_full(fd, &mut cage);
     libc::close(fd);
-    mesh::load(positions, corners, links, generations, fresh, 1, &cage[..n])
+    mesh::load(
+        positions,
+        corners,
+        links,
+        generations,
+        locks,
+        fresh,
+        1,
+        &cage[..n],
+    )
 }
 
 // Answers the requests in these bytes, four to each, and drops what is left over.
@@ -60,19 +70,21 @@ fn answer(
     corners: &mut [u32],
     links: &mut [u32],
     generations: &mut [u8],
+    locks: &mut [u8],
     counts: Counts,
     requests: &[u8],
 ) -> Counts
     ensures { λ r. ⌜
         meshNow r (now (positions .exit)) (now (corners .exit)) (now (links .exit)) (now (generations .exit))
+        (now (locks .exit))
         ≡ afterBytes (now (requests .entry)) (meshNow counts (now (positions .entry)) (now (corners .entry))
-        (now (links .entry)) (now (generations .entry))) ⌝ }
+        (now (links .entry)) (now (generations .entry)) (now (locks .entry))) ⌝ }
 {
     let mut at = counts;
     let mut i: usize = 0;
     while i < requests.len() / 4 {
         let t = points::number_at(requests, 4 * i);
-        let done = mesh::refine(positions, corners, links, generations, at, t);
+        let done = mesh::refine(positions, corners, links, generations, locks, at, t);
         print(done);
         at = done.counts;
         i += 1;
@@ -86,6 +98,7 @@ fn answer_some(
     corners: &mut [u32],
     links: &mut [u32],
     generations: &mut [u8],
+    locks: &mut [u8],
     counts: Counts,
     fd: i32,
     requests: &mut [u8],
@@ -93,8 +106,9 @@ fn answer_some(
     ensures { λ r. ⌜ r .read ≤ length (now (requests .exit)) ⌝ }
     ensures { λ r. ⌜
         meshNow (r .counts) (now (positions .exit)) (now (corners .exit)) (now (links .exit)) (now (generations .exit))
+        (now (locks .exit))
         ≡ afterBytes (take (r .read) (now (requests .exit))) (meshNow counts (now (positions .entry))
-        (now (corners .entry)) (now (links .entry)) (now (generations .entry))) ⌝ }
+        (now (corners .entry)) (now (links .entry)) (now (generations .entry)) (now (locks .entry))) ⌝ }
 {
     let n = io::read_full(fd, requests);
     let after = answer(
@@ -102,6 +116,7 @@ fn answer_some(
         corners,
         links,
         generations,
+        locks,
         counts,
         &requests[..n],
     );
@@ -119,6 +134,7 @@ fn answer_all(
     corners: &mut [u32],
     links: &mut [u32],
     generations: &mut [u8],
+    locks: &mut [u8],
     counts: Counts,
     fd: i32,
     requests: &mut [u8],
@@ -126,11 +142,20 @@ fn answer_all(
     requires { ⌜ length (now requests) % 4 ≡ 0 ⌝ }
     ensures { λ r. ⌜ AllAnswered (length (now (requests .exit))) (take (r .read) (now (requests .exit)))
         (meshNow counts (now (positions .entry)) (now (corners .entry)) (now (links .entry))
-        (now (generations .entry)))
+        (now (generations .entry)) (now (locks .entry)))
         (meshNow (r .counts) (now (positions .exit)) (now (corners .exit)) (now (links .exit))
-        (now (generations .exit))) ⌝ }
+        (now (generations .exit)) (now (locks .exit))) ⌝ }
 {
-    let mut last = answer_some(positions, corners, links, generations, counts, fd, requests);
+    let mut last = answer_some(
+        positions,
+        corners,
+        links,
+        generations,
+        locks,
+        counts,
+        fd,
+        requests,
+    );
     let mut turns = u64::MAX;
     while turns > 0 && last.read == requests.len() {
         last = answer_some(
@@ -138,6 +163,7 @@ fn answer_all(
             corners,
             links,
             generations,
+            locks,
             last.counts,
             fd,
             requests,
@@ -152,11 +178,13 @@ fn main() {
     let mut corners = [0u32; 6144];
     let mut links = [0u32; 6144];
     let mut generations = [0u8; 2048];
+    let mut locks = [0u8; 2048];
     let loaded = load(
         &mut positions,
         &mut corners,
         &mut links,
         &mut generations,
+        &mut locks,
         b"cage.bin",
     );
     print(loaded);
@@ -170,6 +198,7 @@ fn main() {
         &mut corners,
         &mut links,
         &mut generations,
+        &mut locks,
         loaded.counts,
         fd,
         &mut requests,

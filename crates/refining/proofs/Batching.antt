@@ -77,6 +77,7 @@ over-sizes s m = record {
   corners = sym (length-fill _ _ (s .corners));
   links = sym (length-fill _ _ (s .links));
   generations = sym (length-fill _ _ (s .generations));
+  locks = sym (length-fill _ _ (s .locks));
 }
 
 -- Two meshes copied into the same tables.
@@ -89,11 +90,12 @@ over-slots s m n e f =
       corners = sym (b .corners) ∙ a .corners;
       links = sym (b .links) ∙ a .links;
       generations = sym (b .generations) ∙ a .generations;
+      locks = sym (b .locks) ∙ a .locks;
     })
 
 -- ---- slots for what is copied
 
-pub has-slots : (n : Counts) {p : List ℤ} {c l g : List ℕ} → Sound (meshNow n p c l g) → HasSlots n p c l g
+pub has-slots : (n : Counts) {p : List ℤ} {c l g k : List ℕ} → Sound (meshNow n p c l g k) → HasSlots n p c l g k
 has-slots n S =
     let A = S .tables in
     record {
@@ -101,16 +103,19 @@ has-slots n S =
       corners = omega (arith, A .corners, S .triangleRoom);
       links = omega (arith, A .links, S .triangleRoom);
       generations = S .triangleRoom;
+      locks = omega (arith, A .locks, S .triangleRoom);
     }
 
 -- Tables as long have the same.
-same-slots : {n : Counts} {p q : List ℤ} {c l g d k h : List ℕ} → HasSlots n p c l g → length q ≡ length p
-    → length d ≡ length c → length k ≡ length l → length h ≡ length g → HasSlots n q d k h
-same-slots H a b c d = record {
+same-slots : {n : Counts} {p q : List ℤ} {c l g k c′ l′ g′ k′ : List ℕ} → HasSlots n p c l g k → length q ≡ length p
+    → length c′ ≡ length c → length l′ ≡ length l → length g′ ≡ length g → length k′ ≡ length k
+    → HasSlots n q c′ l′ g′ k′
+same-slots H a b c d e = record {
   positions = omega (arith, H .positions);
   corners = omega (arith, H .corners);
   links = omega (arith, H .links);
   generations = omega (arith, H .generations);
+  locks = omega (arith, H .locks);
 }
 
 module _ {m : Mesh} {s : Spares} (W : MayWork m s) where
@@ -126,27 +131,28 @@ module _ {m : Mesh} {s : Spares} (W : MayWork m s) where
   }
 
 -- The mesh copied into the spare tables, and what was made of it copied back.
-module _ (n : Counts) {p : List ℤ} {c l g : List ℕ} {s : Spares} where
-  pub slots-there : MayWork (meshNow n p c l g) s
-      → HasSlots n p c l g × HasSlots n (s .positions) (s .corners) (s .links) (s .generations)
+module _ (n : Counts) {p : List ℤ} {c l g k : List ℕ} {s : Spares} where
+  pub slots-there : MayWork (meshNow n p c l g k) s
+      → HasSlots n p c l g k × HasSlots n (s .positions) (s .corners) (s .links) (s .generations) (s .locks)
   slots-there W =
       let H = has-slots n (may-sound W) in
       let L = W .sizes in
-      (H, same-slots H (L .positions) (L .corners) (L .links) (L .generations))
+      (H, same-slots H (L .positions) (L .corners) (L .links) (L .generations) (L .locks))
 
-  pub slots-back : (k : Counts) {w : Progress} {q : List ℤ} {d f h : List ℕ} {e at i j : ℕ}
-      → SameSizes s (meshNow n p c l g) → Going (meshNow n p c l g) (w .work) → Done w s e at i j (meshNow k q d f h)
-      → HasSlots k q d f h × HasSlots k p c l g
-  slots-back k {w} {q} {d} {f} {h} L G D =
-      let m = meshNow n p c l g in
-      let X : Sound (meshNow k q d f h) = rw (D .tables) (over-sound (going-sizes L G) (G .sound)) in
-      let H = has-slots k X in
+  pub slots-back : (r : Counts) {w : Progress} {q : List ℤ} {c′ l′ g′ k′ : List ℕ} {e at i j : ℕ}
+      → SameSizes s (meshNow n p c l g k) → Going (meshNow n p c l g k) (w .work)
+      → Done w s e at i j (meshNow r q c′ l′ g′ k′) → HasSlots r q c′ l′ g′ k′ × HasSlots r p c l g k
+  slots-back r {w} {q} {c′} {l′} {g′} {k′} L G D =
+      let m = meshNow n p c l g k in
+      let X : Sound (meshNow r q c′ l′ g′ k′) = rw (D .tables) (over-sound (going-sizes L G) (G .sound)) in
+      let H = has-slots r X in
       let R = over-slots s m (w .work .mesh) refl (D .tables) in
       let Z = over-sizes s m in (
         H,
         same-slots H (sym (L .positions) ∙ Z .positions ∙ sym (R .positions))
             (sym (L .corners) ∙ Z .corners ∙ sym (R .corners)) (sym (L .links) ∙ Z .links ∙ sym (R .links))
-            (sym (L .generations) ∙ Z .generations ∙ sym (R .generations)),
+            (sym (L .generations) ∙ Z .generations ∙ sym (R .generations))
+            (sym (L .locks) ∙ Z .locks ∙ sym (R .locks)),
       )
 
 -- What a list made.
@@ -175,6 +181,6 @@ module _ (list : List ℕ) {m : Mesh} {s : Spares} {n at k f : ℕ} {x : Mesh}
       ap (λ (y : Mesh). y .rule) (D .tables) ∙ folded list s m S .going .places .rule in
       let e = copied-is {y = copied x (tablesOf m)} (W .sizes) (folded list s m S .going) (rw z at D) refl in
       ap (λ (q : ℕ).
-      outcomeOf (sparesAnswer 0 k f (meshOf (x .topology) (m .positions) q) at x) m (spareRoom (tablesOf x)))
+      outcomeOf (sparesAnswer 0 k f (meshOf (x .topology) (m .positions) (m .locks) q) at x) m (spareRoom (tablesOf x)))
       (sym r)
       ∙ ap (onlyRead m) e

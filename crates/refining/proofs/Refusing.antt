@@ -3,15 +3,15 @@ use borrow.Author.Tests.{leb-false, eq-eqb, ne-eqb}
 use mathlib.Core.Bool.{Bool, true, false, not}
 use mathlib.Core.List.{List, [], _∷_}
 use mathlib.Core.Logic.{_≢_}
-use mathlib.Core.Path.{_≡_, refl, sym, _∙_}
-use Prim.Native.Nat.{ℕ, _*_, _≤_}
+use mathlib.Core.Path.{_≡_, refl, sym, ap₂, _∙_}
+use Prim.Native.Nat.{ℕ, _*_, _≤_, _<_}
 use native.Mathlib.Omega.{arith}
 use lib.Dec.{eqb, leb}
 use Rattle.rules.proofs.Numbers.Decide.{Decides, is-true, is-same}
 use Rattle.rules.proofs.Calls.FirstThatHolds.{refuses, carries}
 use Rattle.rules.proofs.Soundness.SoundTest.{tables-agree-is, sound-is}
 use Rattle.rules.specs.Calls.{Test, _if_, firstOf, noRoom, refusedWith, roomFor, worked, refineRefusal, refineCall}
-use Rattle.rules.specs.Calls.{verticesOf, trianglesOf, tooOld}
+use Rattle.rules.specs.Calls.{verticesOf, trianglesOf, tooOld, altersLocked}
 use Rattle.rules.specs.Sound.{Sound, isSound}
 use Rattle.rules.specs.Split.{atFirst, refine}
 use Rattle.rules.specs.Tables.{Mesh, tablesAgree, generation, Topology, boundary, link}
@@ -94,10 +94,10 @@ module _ (t : ℕ) (m : Mesh) where
       pub triangle-none : tooOld (m .topology) t ≡ false → 0 ≡ triangleRefusal
       triangle-none b = triangle-by-tests a b
 
-  -- The test of the base chain comes after them.
+  -- The tests by the base chain come after them.
   abbrev chainTests : List Test
   chainTests =
-      11 if not (roomFor (verticesOf (m .topology) t) (trianglesOf (m .topology) t) m) ∷ []
+      19 if altersLocked t m ∷ 11 if not (roomFor (verticesOf (m .topology) t) (trianglesOf (m .topology) t) m) ∷ []
 
   module _ (r : ℕ) (e : r ≡ triangleRefusal) where
     pub refine-triangle : r ≢ 0 → r ≡ refineRefusal t m
@@ -114,9 +114,9 @@ module _ (t : ℕ) (m : Mesh) where
           ∙ sym (four-passed (not (tablesAgree m)) (not (isSound m)) (leb (m .topology .triangles) t)
           (tooOld (m .topology) t) chainTests r e z)
 
-      -- The base chain of t is then no longer than there are generations.
-      pub refine-young : generation (m .topology) t ≤ 20
-      refine-young = go (tablesAgree m) (isSound m) (sound-is m) (leb (m .topology .triangles) t) refl (sym e ∙ z)
+      -- Then the mesh is sound and t in use.
+      pub refine-stands : Sound m × (t < m .topology .triangles)
+      refine-stands = go (tablesAgree m) (isSound m) (sound-is m) (leb (m .topology .triangles) t) refl (sym e ∙ z)
         where
           go : (a b : Bool) → Decides b (Sound m) → (d : Bool) → leb (m .topology .triangles) t ≡ d
               → firstOf (
@@ -126,11 +126,15 @@ module _ (t : ℕ) (m : Mesh) where
               ∷ 9 if tooOld (m .topology) t
               ∷ []
               ) ≡ 0
-              → generation (m .topology) t ≤ 20
-          go true true s false f q = s .holds tt .generations t (leb-false _ _ f)
+              → Sound m × (t < m .topology .triangles)
+          go true true s false f q = (s .holds tt, leb-false _ _ f)
           go true true s true f q = absurd (omega arith)
           go true false s d f q = absurd (omega arith)
           go false b s d f q = absurd (omega arith)
+
+      -- The base chain of t is no longer than there are generations.
+      pub refine-young : generation (m .topology) t ≤ 20
+      refine-young = refine-stands .0 .generations t (refine-stands .1)
 
 -- The answers of the test of age, by the generation g and what the base links to.
 module _ (m : Topology) (t g : ℕ) (e : g ≡ generation m t) where
@@ -144,13 +148,10 @@ pub old-nineteen : (m : Topology) (t g h : ℕ) → g ≡ generation m t → g �
     → eqb h boundary ≡ tooOld m t
 old-nineteen m t g h e n q l = rw (l, ne-eqb _ _ (λ z. n (e ∙ z)), eq-eqb _ _ (sym e ∙ q), tooOld)
 
--- The answer of the test of a chain.
-module _ (v f : ℕ) (m : Mesh) where
-  pub chain-eleven : roomFor v f m ≡ false → 11 ≡ firstOf (11 if not (roomFor v f m) ∷ [])
-  chain-eleven b = rw b
-
-  pub chain-none : roomFor v f m ≡ true → 0 ≡ firstOf (11 if not (roomFor v f m) ∷ [])
-  chain-none b = rw b
+-- The answers of the tests by a chain. A test that was not made stands for itself.
+pub chain-by-tests : (t v f : ℕ) (m : Mesh) {a b : Bool} → altersLocked t m ≡ a → roomFor v f m ≡ b
+    → firstOf (19 if a ∷ 11 if not b ∷ []) ≡ firstOf (19 if altersLocked t m ∷ 11 if not (roomFor v f m) ∷ [])
+chain-by-tests t v f m a b = ap₂ (λ (x y : Bool). firstOf (19 if x ∷ 11 if not y ∷ [])) (sym a) (sym b)
 
 -- ---- outcomes
 

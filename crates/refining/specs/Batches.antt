@@ -54,10 +54,10 @@ abbrev pub listDone : List ℕ → Mesh → Spares → Outcome
 listDone list m s = allOrNothing (refineEach list m .refusal) (refineEach list m) s m
 
 -- The outcome of a call that works in spare tables and may change the mesh.
-abbrev pub batchOutcome : BatchWorked → List ℤ → List ℕ → List ℕ → List ℕ → Spares → Outcome
-batchOutcome a positions corners links generations s =
-    let m = meshNow (a .counts) positions corners links generations in
-    let n = meshNow (a .spares) [] [] [] [] in
+abbrev pub batchOutcome : BatchWorked → List ℤ → List ℕ → List ℕ → List ℕ → List ℕ → Spares → Outcome
+batchOutcome a positions corners links generations locks s =
+    let m = meshNow (a .counts) positions corners links generations locks in
+    let n = meshNow (a .spares) [] [] [] [] [] in
     outcomeOf (sparesAnswer (a .refusal) (a .splits) (a .flips) m (a .handled) n) m (spareRoom s)
 
 -- The answer of such a call that is refused before the work.
@@ -80,4 +80,4 @@ abbrev pub foreseenOutcome : BatchForeseen → Mesh → Spares → Outcome
 foreseenOutcome a m s =
     let n = topologyOf (a .«foreseen_vertices») (a .«foreseen_triangles») [] [] [] in
     outcomeOf (sparesAnswer (a .refusal) (a .splits) (a .flips) (withTopology n m) (a .handled)
-    (meshNow (a .spares) [] [] [] [])) m (spareRoom s)
+    (meshNow (a .spares) [] [] [] [] [])) m (spareRoom s)

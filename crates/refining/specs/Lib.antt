@@ -1,3 +1,4 @@
 -- What the contracts of refines cite beside the rules.
 pub mod Standing
+pub mod Locked
 pub mod Batches

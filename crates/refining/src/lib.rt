@@ -1,5 +1,6 @@
 // Refines of a mesh whose first refusal is known: of one triangle, and of a list in spare tables.
 pub mod lists;
+mod locked;
 pub mod spares;
 
 use split::Chain;
@@ -11,13 +12,15 @@ ghost use mathlib.Core.Bool.{not};
 ghost use Prim.Native.Nat.{ℕ, _+_, _-_, _*_, max};
 ghost use lib.Dec.{leb};
 ghost use lib.IntN.{ℤ};
-ghost use Rattle.rules.specs.Calls.{firstOf, _if_, roomFor, tooOld, refineCall};
+ghost use Rattle.rules.specs.Calls.{firstOf, _if_, roomFor, tooOld, altersLocked, refineCall};
 ghost use Rattle.rules.specs.Sound.{isSound};
 ghost use Rattle.rules.specs.Tables.{tablesAgree};
 ghost use Rattle.tables.specs.Answers.{workedOutcome};
 ghost use Rattle.tables.specs.Lent.{topologyNow, meshNow};
 ghost use Rattle.tables.specs.declared.Counts.{Counts};
+ghost use Rattle.split.specs.Made.{BaseChain};
 ghost use Rattle.refining.specs.Standing.{standing};
+ghost use Rattle.refining.specs.Locked.{Follows};
 
 // Whether t may rise no more: it is of generation 20, or of 19 with its base on the boundary.
 fn too_old(links: &[u32], generations: &[u8], t: u32) -> bool
@@ -30,8 +33,8 @@ fn too_old(links: &[u32], generations: &[u8], t: u32) -> bool
 
 // The refusal of a refine by the mesh, whose own first refusal is `bad`, and the triangle; or 0.
 fn triangle_refusal(links: &[u32], generations: &[u8], counts: Counts, t: u32, bad: u32) -> u32
-    ensures { λ r. ⌜ ((positions : List ℤ) (corners : List ℕ) →
-        let m = meshNow counts positions corners (now (links .entry)) (now (generations .entry)) in
+    ensures { λ r. ⌜ ((positions : List ℤ) (corners locks : List ℕ) →
+        let m = meshNow counts positions corners (now (links .entry)) (now (generations .entry)) locks in
         bad ≡ standing m
         → r ≡ firstOf (1 if not (tablesAgree m) ∷ 7 if not (isSound m)
         ∷ 8 if leb (m .topology .triangles) t ∷ 9 if tooOld (m .topology) t ∷ [])) ⌝ }
@@ -49,12 +52,25 @@ fn triangle_refusal(links: &[u32], generations: &[u8], counts: Counts, t: u32, b
 }
 
 // The refusal of a refine by the base chain of its triangle, or 0.
-fn chain_refusal(positions: &[i32], generations: &[u8], counts: Counts, chain: Chain) -> u32
-    ensures { λ r. ⌜ ((corners links : List ℕ) →
-        let m = meshNow counts (now (positions .entry)) corners links (now (generations .entry)) in
+fn chain_refusal(
+    positions: &[i32],
+    links: &[u32],
+    generations: &[u8],
+    locks: &[u8],
+    counts: Counts,
+    chain: Chain,
+) -> u32
+    requires { ⌜ Follows chain (now links) ⌝ }
+    ensures { λ r. ⌜ ((t : ℕ) (corners : List ℕ) →
+        let m = meshNow counts (now (positions .entry)) corners (now (links .entry)) (now (generations .entry))
+        (now (locks .entry)) in
         let s = max 1 (chain .odd - chain .rim) in
-        r ≡ firstOf (11 if not (roomFor (s + chain .rim) (2 * s) m) ∷ [])) ⌝ }
+        BaseChain (m .topology) t chain
+        → r ≡ firstOf (19 if altersLocked t m ∷ 11 if not (roomFor (s + chain .rim) (2 * s) m) ∷ [])) ⌝ }
 {
+    if locked::alters_locked(links, generations, locks, chain) {
+        return 19;
+    }
     if !tables::has_room(positions, generations, counts, chain.splits(), chain.rim) {
         return 11;
     }
@@ -67,15 +83,18 @@ pub fn refine(
     corners: &mut [u32],
     links: &mut [u32],
     generations: &mut [u8],
+    locks: &mut [u8],
     counts: Counts,
     t: u32,
     bad: u32,
 ) -> Worked
-    requires { ⌜ bad ≡ standing (meshNow counts (now positions) (now corners) (now links) (now generations)) ⌝ }
+    requires { ⌜ bad ≡ standing (meshNow counts (now positions) (now corners) (now links) (now generations)
+        (now locks)) ⌝ }
     ensures { λ r. ⌜
         workedOutcome r (now (positions .exit)) (now (corners .exit)) (now (links .exit)) (now (generations .exit))
+        (now (locks .exit))
         ≡ refineCall t (meshNow counts (now (positions .entry)) (now (corners .entry)) (now (links .entry))
-        (now (generations .entry))) ⌝ }
+        (now (generations .entry)) (now (locks .entry))) ⌝ }
 {
     let refused = triangle_refusal(links, generations, counts, t, bad);
     if refused != 0 {
@@ -87,7 +106,7 @@ pub fn refine(
         };
     }
     let chain = split::base_chain(links, generations, t);
-    let refusal = chain_refusal(positions, generations, counts, chain);
+    let refusal = chain_refusal(positions, links, generations, locks, counts, chain);
     if refusal != 0 {
         return Worked {
             refusal,
@@ -96,7 +115,16 @@ pub fn refine(
             counts,
         };
     }
-    let done = split::refine(positions, corners, links, generations, counts, t, chain);
+    let done = split::refine(
+        positions,
+        corners,
+        links,
+        generations,
+        locks,
+        counts,
+        t,
+        chain,
+    );
     Worked {
         refusal: 0,
         splits: done.splits,

@@ -19,16 +19,19 @@ fn handle(
     corners: &mut [u32],
     links: &mut [u32],
     generations: &mut [u8],
+    locks: &mut [u8],
     counts: Counts,
     t: u32,
     triangles: u32,
     start: &[u8],
 ) -> Worked
-    requires { ⌜ 0 ≡ standing (meshNow counts (now positions) (now corners) (now links) (now generations)) ⌝ }
+    requires { ⌜ 0 ≡ standing (meshNow counts (now positions) (now corners) (now links) (now generations)
+        (now locks)) ⌝ }
     ensures { λ r. ⌜ ((m : Mesh) → StartsWith triangles (now (start .entry)) m →
         workedOutcome r (now (positions .exit)) (now (corners .exit)) (now (links .exit)) (now (generations .exit))
+        (now (locks .exit))
         ≡ entryOutcome m t (meshNow counts (now (positions .entry)) (now (corners .entry)) (now (links .entry))
-        (now (generations .entry)))) ⌝ }
+        (now (generations .entry)) (now (locks .entry)))) ⌝ }
 {
     if triangles <= t {
         return Worked {
@@ -46,7 +49,7 @@ fn handle(
             counts,
         };
     }
-    crate::refine(positions, corners, links, generations, counts, t, 0)
+    crate::refine(positions, corners, links, generations, locks, counts, t, 0)
 }
 
 // Handles the entries of a list in tables that hold the mesh, whose generations at the call's start are given.
@@ -55,17 +58,19 @@ fn handle_all(
     corners: &mut [u32],
     links: &mut [u32],
     generations: &mut [u8],
+    locks: &mut [u8],
     counts: Counts,
     list: &[u32],
     start: &[u8],
 ) -> Batch
     requires { ⌜ ((m : Mesh) × (s : Spares) ×
-        Begins m s (now start) (meshNow counts (now positions) (now corners) (now links) (now generations))) ⌝ }
+        Begins m s (now start) (meshNow counts (now positions) (now corners) (now links) (now generations)
+        (now locks))) ⌝ }
     ensures { λ r. ⌜ ((m : Mesh) (s : Spares) →
         Begins m s (now (start .entry)) (meshNow counts (now (positions .entry)) (now (corners .entry))
-        (now (links .entry)) (now (generations .entry)))
+        (now (links .entry)) (now (generations .entry)) (now (locks .entry)))
         → Handles (now (list .entry)) m s r (meshNow (r .counts) (now (positions .exit)) (now (corners .exit))
-        (now (links .exit)) (now (generations .exit)))) ⌝ }
+        (now (links .exit)) (now (generations .exit)) (now (locks .exit)))) ⌝ }
 {
     let mut at: usize = 0;
     let mut splits: u32 = 0;
@@ -77,6 +82,7 @@ fn handle_all(
             corners,
             links,
             generations,
+            locks,
             reached,
             list[at],
             counts.triangles,
@@ -111,39 +117,45 @@ fn work_in_spares(
     corners: &[u32],
     links: &[u32],
     generations: &[u8],
+    locks: &[u8],
     counts: Counts,
     list: &[u32],
     spare_positions: &mut [i32],
     spare_corners: &mut [u32],
     spare_links: &mut [u32],
     spare_generations: &mut [u8],
+    spare_locks: &mut [u8],
 ) -> Batch
-    requires { ⌜ MayWork (meshNow counts (now positions) (now corners) (now links) (now generations))
-        (sparesNow (now «spare_positions») (now «spare_corners») (now «spare_links») (now «spare_generations»)) ⌝ }
+    requires { ⌜ MayWork (meshNow counts (now positions) (now corners) (now links) (now generations) (now locks))
+        (sparesNow (now «spare_positions») (now «spare_corners») (now «spare_links») (now «spare_generations»)
+        (now «spare_locks»)) ⌝ }
     ensures { λ r. ⌜
         Handles (now (list .entry)) (meshNow counts (now (positions .entry)) (now (corners .entry))
-        (now (links .entry)) (now (generations .entry)))
+        (now (links .entry)) (now (generations .entry)) (now (locks .entry)))
         (sparesNow (now («spare_positions» .entry)) (now («spare_corners» .entry)) (now («spare_links» .entry))
-        (now («spare_generations» .entry)))
+        (now («spare_generations» .entry)) (now («spare_locks» .entry)))
         r (meshNow (r .counts) (now («spare_positions» .exit)) (now («spare_corners» .exit))
-        (now («spare_links» .exit)) (now («spare_generations» .exit))) ⌝ }
+        (now («spare_links» .exit)) (now («spare_generations» .exit)) (now («spare_locks» .exit))) ⌝ }
 {
     tables::copies::copy_mesh(
         positions,
         corners,
         links,
         generations,
+        locks,
         counts,
         spare_positions,
         spare_corners,
         spare_links,
         spare_generations,
+        spare_locks,
     );
     handle_all(
         spare_positions,
         spare_corners,
         spare_links,
         spare_generations,
+        spare_locks,
         counts,
         list,
         generations,
@@ -156,47 +168,55 @@ pub fn refine_list(
     corners: &mut [u32],
     links: &mut [u32],
     generations: &mut [u8],
+    locks: &mut [u8],
     counts: Counts,
     list: &[u32],
     spare_positions: &mut [i32],
     spare_corners: &mut [u32],
     spare_links: &mut [u32],
     spare_generations: &mut [u8],
+    spare_locks: &mut [u8],
 ) -> BatchWorked
-    requires { ⌜ MayWork (meshNow counts (now positions) (now corners) (now links) (now generations))
-        (sparesNow (now «spare_positions») (now «spare_corners») (now «spare_links») (now «spare_generations»)) ⌝ }
+    requires { ⌜ MayWork (meshNow counts (now positions) (now corners) (now links) (now generations) (now locks))
+        (sparesNow (now «spare_positions») (now «spare_corners») (now «spare_links») (now «spare_generations»)
+        (now «spare_locks»)) ⌝ }
     ensures { λ r. ⌜
         batchOutcome r (now (positions .exit)) (now (corners .exit)) (now (links .exit)) (now (generations .exit))
+        (now (locks .exit))
         (sparesNow (now («spare_positions» .exit)) (now («spare_corners» .exit)) (now («spare_links» .exit))
-        (now («spare_generations» .exit)))
+        (now («spare_generations» .exit)) (now («spare_locks» .exit)))
         ≡ listDone (now (list .entry)) (meshNow counts (now (positions .entry)) (now (corners .entry))
-        (now (links .entry)) (now (generations .entry)))
+        (now (links .entry)) (now (generations .entry)) (now (locks .entry)))
         (sparesNow (now («spare_positions» .entry)) (now («spare_corners» .entry)) (now («spare_links» .entry))
-        (now («spare_generations» .entry))) ⌝ }
+        (now («spare_generations» .entry)) (now («spare_locks» .entry))) ⌝ }
 {
     let made = work_in_spares(
         positions,
         corners,
         links,
         generations,
+        locks,
         counts,
         list,
         spare_positions,
         spare_corners,
         spare_links,
         spare_generations,
+        spare_locks,
     );
     crate::spares::carry_back(
         positions,
         corners,
         links,
         generations,
+        locks,
         counts,
         made,
         spare_positions,
         spare_corners,
         spare_links,
         spare_generations,
+        spare_locks,
     )
 }
 
@@ -219,33 +239,39 @@ pub fn preview(
     corners: &[u32],
     links: &[u32],
     generations: &[u8],
+    locks: &[u8],
     counts: Counts,
     list: &[u32],
     spare_positions: &mut [i32],
     spare_corners: &mut [u32],
     spare_links: &mut [u32],
     spare_generations: &mut [u8],
+    spare_locks: &mut [u8],
 ) -> BatchForeseen
-    requires { ⌜ MayWork (meshNow counts (now positions) (now corners) (now links) (now generations))
-        (sparesNow (now «spare_positions») (now «spare_corners») (now «spare_links») (now «spare_generations»)) ⌝ }
+    requires { ⌜ MayWork (meshNow counts (now positions) (now corners) (now links) (now generations) (now locks))
+        (sparesNow (now «spare_positions») (now «spare_corners») (now «spare_links») (now «spare_generations»)
+        (now «spare_locks»)) ⌝ }
     ensures { λ r. ⌜ (let m = meshNow counts (now (positions .entry)) (now (corners .entry)) (now (links .entry))
-        (now (generations .entry)) in
+        (now (generations .entry)) (now (locks .entry)) in
         foreseenOutcome r m (sparesNow (now («spare_positions» .exit)) (now («spare_corners» .exit))
-        (now («spare_links» .exit)) (now («spare_generations» .exit)))
+        (now («spare_links» .exit)) (now («spare_generations» .exit)) (now («spare_locks» .exit)))
         ≡ onlyRead m (listDone (now (list .entry)) m (sparesNow (now («spare_positions» .entry))
-        (now («spare_corners» .entry)) (now («spare_links» .entry)) (now («spare_generations» .entry))))) ⌝ }
+        (now («spare_corners» .entry)) (now («spare_links» .entry)) (now («spare_generations» .entry))
+        (now («spare_locks» .entry))))) ⌝ }
 {
     let foreseen = work_in_spares(
         positions,
         corners,
         links,
         generations,
+        locks,
         counts,
         list,
         spare_positions,
         spare_corners,
         spare_links,
         spare_generations,
+        spare_locks,
     );
     let reached = foreseen.counts;
     if foreseen.refusal != 0 {

@@ -54,25 +54,28 @@ pub fn carry_back(
     corners: &mut [u32],
     links: &mut [u32],
     generations: &mut [u8],
+    locks: &mut [u8],
     counts: Counts,
     made: Batch,
     spare_positions: &[i32],
     spare_corners: &[u32],
     spare_links: &[u32],
     spare_generations: &[u8],
+    spare_locks: &[u8],
 ) -> BatchWorked
     requires { ⌜ ((p : Progress) × (s : Spares) ×
-        Made p s (meshNow counts (now positions) (now corners) (now links) (now generations)) made
+        Made p s (meshNow counts (now positions) (now corners) (now links) (now generations) (now locks)) made
         (meshNow (made .counts) (now «spare_positions») (now «spare_corners») (now «spare_links»)
-        (now «spare_generations»))) ⌝ }
+        (now «spare_generations») (now «spare_locks»))) ⌝ }
     ensures { λ r. ⌜ ((p : Progress) (s : Spares) →
         let m = meshNow counts (now (positions .entry)) (now (corners .entry)) (now (links .entry))
-        (now (generations .entry)) in
+        (now (generations .entry)) (now (locks .entry)) in
         Made p s m made (meshNow (made .counts) (now («spare_positions» .entry)) (now («spare_corners» .entry))
-        (now («spare_links» .entry)) (now («spare_generations» .entry)))
+        (now («spare_links» .entry)) (now («spare_generations» .entry)) (now («spare_locks» .entry)))
         → batchOutcome r (now (positions .exit)) (now (corners .exit)) (now (links .exit)) (now (generations .exit))
+        (now (locks .exit))
         (sparesNow (now («spare_positions» .entry)) (now («spare_corners» .entry)) (now («spare_links» .entry))
-        (now («spare_generations» .entry)))
+        (now («spare_generations» .entry)) (now («spare_locks» .entry)))
         ≡ allOrNothing (p .refusal) p s m) ⌝ }
 {
     let reached = made.counts;
@@ -91,11 +94,13 @@ pub fn carry_back(
         spare_corners,
         spare_links,
         spare_generations,
+        spare_locks,
         reached,
         positions,
         corners,
         links,
         generations,
+        locks,
     );
     BatchWorked {
         refusal: 0,

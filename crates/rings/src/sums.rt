@@ -62,10 +62,10 @@ pub fn ring_sums(
     lengths: &mut [u8],
     sums: &mut [i32],
 ) -> bool
-    requires { ⌜ ((l g : List ℕ) × Closed (meshNow counts (now positions) (now corners) l g)) ⌝ }
+    requires { ⌜ ((l g k : List ℕ) × Closed (meshNow counts (now positions) (now corners) l g k)) ⌝ }
     requires { ⌜ Cleared (counts .vertices) (now lengths) (now sums) ⌝ }
-    ensures { λ r. ⌜ ((l g : List ℕ) →
-        let m = meshNow counts (now (positions .entry)) (now (corners .entry)) l g in
+    ensures { λ r. ⌜ ((l g k : List ℕ) →
+        let m = meshNow counts (now (positions .entry)) (now (corners .entry)) l g k in
         Closed m → RingsAdded m (now (lengths .exit)) (now (sums .exit)) r) ⌝ }
 {
     let f = counts.triangles;

@@ -6,6 +6,7 @@ pub mod Remembered
 pub mod Raise
 pub mod Refine
 pub mod RefineLoop
+pub mod Altering
 pub mod Altered
 pub mod Kobbelt
 pub mod Going

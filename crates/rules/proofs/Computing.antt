@@ -9,7 +9,7 @@ use Rattle.rules.specs.Cage.{cageOf, partner, loaded, sizesFit, cornersF
 use Rattle.rules.specs.Cage.{someInnerOfTwo}
 use Rattle.rules.specs.Calls.{Outcome, closedEven, loadRefusal, refineRefusal, wholeStepRefusal, ringRefusal}
 use Rattle.rules.specs.Calls.{positionRefusal, limitRefusal, loadCall, refineCall, wholeStepCall, ringCall}
-use Rattle.rules.specs.Calls.{positionCall, limitCall}
+use Rattle.rules.specs.Calls.{positionCall, limitCall, altersLocked, someLocked, lockRefusal, lockCall}
 use Rattle.rules.specs.History.{Change, changes, after, outcomes, lastLoad, edges, cageEdges}
 use Rattle.rules.specs.Lists.{entryRefusal, entryWork, handle, handleAll, sparesRefusal, listCall}
 use Rattle.rules.specs.Lists.{previewCall}
@@ -18,7 +18,7 @@ use Rattle.rules.specs.Numbers.{limit}
 use Rattle.rules.specs.Ring.{firstSide, fanFrom, fan, neighbours, ring}
 use Rattle.rules.specs.Sound.{isLinked, soundSide, hasOneFan, isSound}
 use Rattle.rules.specs.Spares.{Spares, copied, sameSizes}
-use Rattle.rules.specs.Split.{faceCut, flip, centre, facePlaced, settle, faceSplit, chainEndWithin}
+use Rattle.rules.specs.Split.{faceCut, flip, centre, facePlaced, settle, faceSplit, chainEndWithin, chainAt}
 use Rattle.rules.specs.Split.{chainOddWithin, raise, refine, rimCut, firstThird, secondThird, rimPlaced, rimSplit}
 use Rattle.rules.specs.Step.{sumOver, movedCoordinate, moveVertices, refineFirst, wholeStep, limitCoordinate}
 use Rattle.rules.specs.Step.{limitPositions}
@@ -33,7 +33,8 @@ unfolding all any lowest total fill cageOf partner loaded sizesFit cornersFit co
     faceCut flip limit limitCoordinate limitPositions limitRefusal limitCall centre firstThird secondThird facePlaced
     rimCut rimPlaced settle faceSplit rimSplit chainEndWithin chainOddWithin raise refine sumOver movedCoordinate
     moveVertices refineFirst wholeStep tablesAgree copied sameSizes entryRefusal entryWork handle handleAll
-    sparesRefusal listCall previewCall wanted refineWanted boxRefusal boxCall
+    sparesRefusal listCall previewCall wanted refineWanted boxRefusal boxCall chainAt
+    altersLocked someLocked lockRefusal lockCall
 computing = tt
 
 -- The mesh after these changes, and the outcome of each.
@@ -47,7 +48,7 @@ madeEach cs m = outcomes (map changes cs) m
 unfoldable pub fresh : ℕ → ℕ → Mesh
 fresh v f =
     meshOf (topologyOf 0 0 (replicate (3 * f) 0) (replicate (3 * f) 0) (replicate f 0)) (replicate (3 * v) (pos 0))
-    1
+    (replicate f 0) 1
 
 -- Spare tables of so many slots, 7 in each entry.
 unfoldable pub sevens : ℕ → ℕ → Spares
@@ -56,6 +57,7 @@ sevens v f = record {
   corners = replicate (3 * f) 7;
   links = replicate (3 * f) 7;
   generations = replicate f 7;
+  locks = replicate f 7;
 }
 
 -- A box by its low and its high corner, and the generation.

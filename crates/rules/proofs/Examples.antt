@@ -150,7 +150,7 @@ chainOf n v f =
     (chainLinks n 0 boundary ++ replicate (3 * f) 0)
     (chainGenerations n 0 ++ replicate f 0))
     (replicate (3 * (n + 2 + v)) (pos 0))
-    1
+    (replicate (n + f) 0) 1
 
 -- Its last triangle refined: with room for v vertices and f triangles more.
 unfoldable pub lastRefined : ℕ × ℕ × ℕ → List ℕ

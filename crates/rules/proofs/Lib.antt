@@ -11,6 +11,7 @@ pub mod Calls
 pub mod Spares
 pub mod Lists
 pub mod Boxes
+pub mod Locks
 pub mod Mirrors
 pub mod Results
 pub mod Computing

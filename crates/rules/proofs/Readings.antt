@@ -1,6 +1,6 @@
 -- Places where a plausible other reading of the paper would give another result, computed from the rules.
 use Prim.Native.Nat.{ℕ}
-use mathlib.Core.Bool.{true}
+use mathlib.Core.Bool.{true, false}
 use mathlib.Core.List.{List, [], _∷_, _++_, map}
 use mathlib.Core.Path.{_≡_, refl}
 use lib.IntN.{ℤ, pos, negsuc}
@@ -10,13 +10,13 @@ use Rattle.rules.proofs.Examples.{lineOf, triangleOf, pointOf, oneTrian
 use Rattle.rules.proofs.Refusals.{refusalAfter, cageAtOrigin, triangle, hinge}
 use Rattle.rules.specs.Boxes.{Box}
 use Rattle.rules.specs.Calls.{Outcome}
-use Rattle.rules.specs.History.{Change, loads, refines, steps, refinesEach, refinesInBox, ringOf, positionOf}
-use Rattle.rules.specs.History.{limitsOf, asked, changes, asks, previewOf, outcome, outcomes, nothing, cage}
-use Rattle.rules.specs.History.{lastLoad, edges}
+use Rattle.rules.specs.History.{Change, loads, refines, steps, refinesEach, refinesInBox, setsLock, ringOf}
+use Rattle.rules.specs.History.{positionOf, limitsOf, asked, changes, asks, previewOf, outcome, outcomes}
+use Rattle.rules.specs.History.{nothing, cage, lastLoad, edges}
 use Rattle.rules.specs.Mirror.{mirror, mirrorTable}
 use Rattle.rules.specs.Numbers.{nearestThird, rounded}
 use Rattle.rules.specs.Sound.{isSound}
-use Rattle.rules.specs.Tables.{Mesh, topologyOf, meshOf, link, generation, coordinate}
+use Rattle.rules.specs.Tables.{Mesh, topologyOf, meshOf, withLocks, link, generation, coordinate}
 
 unfoldable pub store : Mesh
 unfolding fresh
@@ -131,7 +131,7 @@ foil =
     meshOf (topologyOf 3 2
     (0 ∷ 1 ∷ 2 ∷ 0 ∷ 2 ∷ 1 ∷ replicate 12 0)
     (5 ∷ 4 ∷ 3 ∷ 2 ∷ 1 ∷ 0 ∷ replicate 12 0)
-    (replicate 6 0)) (pos 900000 ∷ replicate 14 (pos 0)) 1
+    (replicate 6 0)) (pos 900000 ∷ replicate 14 (pos 0)) (replicate 6 0) 1
 
 -- The same two at generation 18, in 6 triangle slots.
 unfoldable pub atEighteen : Mesh
@@ -139,7 +139,13 @@ atEighteen =
     meshOf (topologyOf 3 2
     (0 ∷ 1 ∷ 2 ∷ 0 ∷ 2 ∷ 1 ∷ replicate 12 0)
     (5 ∷ 4 ∷ 3 ∷ 2 ∷ 1 ∷ 0 ∷ replicate 12 0)
-    (18 ∷ 18 ∷ replicate 4 0)) (replicate 15 (pos 0)) 1
+    (18 ∷ 18 ∷ replicate 4 0)) (replicate 15 (pos 0)) (replicate 6 0) 1
+
+-- The links of these sides, before and after the last change.
+unfoldable pub linksAfter : List Change → Change → List ℕ → List ℕ
+unfolding store
+linksAfter before c hs =
+    map (link (made before store .topology)) hs ++ map (link (made (before ++ (c ∷ [])) store .topology)) hs
 
 pub record Table : Type 0 where
   -- After a flip the even triangle across the previous base may be in another slot: here in slot 1 and not in slot 6.
@@ -270,11 +276,40 @@ pub record Table : Type 0 where
   pub runsOutStands : boxed 9 tetrahedron (atPoint 2) .mesh ≡ made (loads 1 tetrahedron ∷ []) (fresh 12 9)
   pub runsOutSpares : boxed 9 tetrahedron (atPoint 2) .room .spares .generations
       ≡ 2 ∷ 1 ∷ 0 ∷ 0 ∷ 1 ∷ 1 ∷ 1 ∷ 2 ∷ 7 ∷ []
+  -- Load clears the locks of the cage's triangles, locked or not, and a split those of its two new slots; others keep
+  -- what they hold. (Request i)
+  pub loadUnlocks : made (loads 1 tetrahedron ∷ []) (withLocks (replicate 20 7) store) .locks
+      ≡ 0 ∷ 0 ∷ 0 ∷ 0 ∷ replicate 16 7
+  pub loadUnlocksLocked : made (loads 1 tetrahedron ∷ setsLock true 3 ∷ loads 1 tetrahedron ∷ []) store .locks
+      ≡ replicate 20 0
+  pub splitUnlocks :
+      made (loads 1 tetrahedron ∷ setsLock true 3 ∷ refines 0 ∷ []) (withLocks (replicate 20 7) store) .locks
+      ≡ 0 ∷ 0 ∷ 0 ∷ 1 ∷ 0 ∷ 0 ∷ replicate 14 7
+  -- What is past the counts is no lock.
+  pub pastIsNoLock : refusalAfter (loads 1 tetrahedron ∷ []) (changes steps) (withLocks (replicate 20 1) store) ≡ 0
+  -- The copy in spare tables has the locks, on a refusal too.
+  pub sparesLocked : map (λ list. let o = outcome (changes (refinesEach list (sevens 12 20)))
+      (made (loads 1 tetrahedron ∷ setsLock true 3 ∷ []) store) in o .answer .refusal ∷ o .room .spares .locks)
+      ((0 ∷ []) ∷ (0 ∷ 3 ∷ []) ∷ [])
+      ≡ (0 ∷ 0 ∷ 0 ∷ 0 ∷ 1 ∷ 0 ∷ 0 ∷ replicate 14 7) ∷ (19 ∷ 0 ∷ 0 ∷ 0 ∷ 1 ∷ 0 ∷ 0 ∷ replicate 14 7) ∷ []
+  -- A link of a locked triangle follows its side: through a face split from side 1 of slot 0 to side 0 of slot 4,
+  -- through a flip from side 1 of slot 0 to side 0 of slot 7, and through a rim split from side 1 of slot 0 to side 0
+  -- of slot 4 and from side 2 of slot 0 to its side 0.
+  pub linkFollows : linksAfter (loads 1 tetrahedron ∷ setsLock true 2 ∷ []) (refines 0) (8 ∷ []) ≡ 1 ∷ 12 ∷ []
+  pub linkFollowsFlip : linksAfter (loads 1 tetrahedron ∷ refines 0 ∷ setsLock true 4 ∷ []) (refines 1) (14 ∷ [])
+      ≡ 1 ∷ 21 ∷ []
+  pub linkFollowsRim : linksAfter (loads 1 triangle ∷ refines 0 ∷ setsLock true 1 ∷ setsLock true 2 ∷ []) (refines 0)
+      (5 ∷ 7 ∷ []) ≡ 1 ∷ 2 ∷ 12 ∷ 0 ∷ []
+  -- A lock set twice is set, one cleared twice is clear, and then the triangle is refined.
+  pub unlockedAgain : map lineOf (drop 1 (madeEach (loads 1 tetrahedron ∷ setsLock true 0 ∷ setsLock true 0
+      ∷ refines 0 ∷ setsLock false 0 ∷ setsLock false 0 ∷ refines 0 ∷ []) store)) ≡
+      (0 ∷ 0 ∷ 0 ∷ 4 ∷ 4 ∷ []) ∷ (0 ∷ 0 ∷ 0 ∷ 4 ∷ 4 ∷ []) ∷ (19 ∷ 0 ∷ 0 ∷ 4 ∷ 4 ∷ [])
+      ∷ (0 ∷ 0 ∷ 0 ∷ 4 ∷ 4 ∷ []) ∷ (0 ∷ 0 ∷ 0 ∷ 4 ∷ 4 ∷ []) ∷ (0 ∷ 1 ∷ 0 ∷ 5 ∷ 6 ∷ []) ∷ []
 
 pub readings : Table
 unfolding computing mirrorTable fresh sevens listed heldBy tetrahedron triangle store sideOne octahedron pulled
     spike longChain hinge
-    withFirst signedBytes foil atEighteen oneTriangle boxed boxLine atPoint everywhere shortBoxes
+    withFirst signedBytes foil atEighteen oneTriangle boxed boxLine atPoint everywhere shortBoxes linksAfter
 readings = record {
   throughSideOne = refl;
   throughSideOne₉ = refl;
@@ -336,4 +371,13 @@ readings = record {
   runsOut = refl;
   runsOutStands = refl;
   runsOutSpares = refl;
+  loadUnlocks = refl;
+  loadUnlocksLocked = refl;
+  splitUnlocks = refl;
+  pastIsNoLock = refl;
+  sparesLocked = refl;
+  linkFollows = refl;
+  linkFollowsFlip = refl;
+  linkFollowsRim = refl;
+  unlockedAgain = refl;
 }

@@ -1,5 +1,6 @@
 -- One example of each refusal, computed from the rules. (Refused inputs, the column of examples)
 use Prim.Native.Nat.{ℕ, zero, suc, _+_, _*_, _%_}
+use mathlib.Core.Bool.{true, false}
 use mathlib.Core.List.{List, [], _∷_, _++_, map}
 use mathlib.Core.Path.{_≡_, refl}
 use lib.IntN.{pos}
@@ -7,9 +8,10 @@ use lib.ListN.{replicate, take}
 use Rattle.rules.proofs.Computing.{computing, made, fresh, sevens, boxOf, bytes, tetrahedron}
 use Rattle.rules.specs.Boxes.{Box}
 use Rattle.rules.specs.Calls.{zeroPoint}
-use Rattle.rules.specs.History.{Change, loads, refines, steps, refinesEach, refinesInBox, ringOf, limitsOf, Call}
-use Rattle.rules.specs.History.{changes, asks, outcome}
-use Rattle.rules.specs.Tables.{Mesh, topologyOf, meshOf, withRule, boundary}
+use Rattle.rules.specs.History.{Change, loads, refines, steps, refinesEach, refinesInBox, setsLock, ringOf}
+use Rattle.rules.specs.History.{positionOf, limitsOf, previewOf, Call, changes, asks, outcome}
+use Rattle.rules.specs.Spares.{Spares}
+use Rattle.rules.specs.Tables.{Mesh, topologyOf, meshOf, withLocks, withRule, boundary}
 
 -- The refusal of the last call, on a mesh, after the others.
 abbrev pub refusalAfter : List Change → Call → Mesh → ℕ
@@ -19,9 +21,10 @@ unfoldable pub small : Mesh
 unfolding fresh
 small = fresh 6 9
 
--- Tables that disagree: corners and links for 9 triangle slots, generations for 8.
+-- Tables that disagree: corners and links for 9 triangle slots, generations and locks for 8.
 unfoldable pub uneven : Mesh
-uneven = meshOf (topologyOf 0 0 (replicate 27 0) (replicate 27 0) (replicate 8 0)) (replicate 18 (pos 0)) 1
+uneven =
+    meshOf (topologyOf 0 0 (replicate 27 0) (replicate 27 0) (replicate 8 0)) (replicate 18 (pos 0)) (replicate 8 0) 1
 
 -- A cage of v vertices at the origin and these corners.
 unfoldable pub cageAtOrigin : ℕ → ℕ → List ℕ → List ℕ
@@ -59,14 +62,13 @@ tooFar = bytes (3 ∷ 1 ∷ []) ++ (1 ∷ 0 ∷ 0 ∷ 1 ∷ []) ++ replicate 32 
 unfoldable pub grown : Mesh
 grown =
     meshOf (topologyOf 3 2 (0 ∷ 1 ∷ 2 ∷ 0 ∷ 2 ∷ 1 ∷ []) (5 ∷ 4 ∷ 3 ∷ 2 ∷ 1 ∷ 0 ∷ []) (20 ∷ 20 ∷ []))
-    (replicate 9 (pos 0))
-    1
+    (replicate 9 (pos 0)) (0 ∷ 0 ∷ []) 1
 
 -- One triangle of generation g with its three sides on the boundary, and room for a rim split.
 unfoldable pub shell : ℕ → Mesh
 shell g =
     let links = boundary ∷ boundary ∷ boundary ∷ replicate 6 0 in
-    meshOf (topologyOf 3 1 (0 ∷ 1 ∷ 2 ∷ replicate 6 0) links (g ∷ 0 ∷ 0 ∷ [])) (replicate 15 (pos 0)) 1
+    meshOf (topologyOf 3 1 (0 ∷ 1 ∷ 2 ∷ replicate 6 0) links (g ∷ 0 ∷ 0 ∷ [])) (replicate 15 (pos 0)) (replicate 3 0) 1
 
 -- A box that is refused: its generation is 21.
 unfoldable pub tooFine : Box
@@ -85,6 +87,25 @@ pyramids n (suc k) = k ∷ (suc k % n) ∷ n ∷ (suc k % n) ∷ k ∷ (n + 1) �
 unfoldable pub doublePyramid : ℕ → List ℕ
 unfolding cageAtOrigin pyramids
 doublePyramid n = cageAtOrigin (n + 2) (2 * n) (pyramids n n)
+
+-- The refusals of a refine of t, after these changes and the lock of each of these triangles in turn.
+unfoldable pub lockedInTurn : List Change → ℕ → List ℕ → List ℕ
+unfolding fresh
+lockedInTurn before t =
+    map (λ x. refusalAfter (before ++ (setsLock true x ∷ [])) (changes (refines t)) (fresh 12 20))
+
+-- Spare tables as long as those of `small`, but for the locks.
+unfoldable pub shortLocks : Spares
+unfolding sevens
+shortLocks =
+    let s = sevens 6 9 in
+    record {
+      positions = s .positions;
+      corners = s .corners;
+      links = s .links;
+      generations = s .generations;
+      locks = replicate 8 7;
+    }
 
 pub record Table : Type 0 where
   pub n1 : refusalAfter [] (changes (loads 1 tetrahedron)) uneven ≡ 1
@@ -139,10 +160,43 @@ pub record Table : Type 0 where
   pub n9InBox : refusalAfter [] (changes (refinesInBox (boxOf zeroPoint zeroPoint 20) (sevens 5 3))) (shell 19) ≡ 9
   pub nineteenIsLeft : refusalAfter [] (changes (refinesInBox (boxOf zeroPoint zeroPoint 19) (sevens 5 3))) (shell 19)
       ≡ 0
+  -- The lock of each triangle in turn, before an even triangle is refined: it counts alone. Before slot 9, whose base
+  -- chain goes on over slot 6 and ends at slot 1, which the base of slot 0 meets too. Before an odd triangle whose base
+  -- meets slot 2, which is odd and has its base on the boundary. One whose link only follows does not count: slots 2
+  -- and 3 of the first. (Request i)
+  pub n19 : lockedInTurn (loads 1 tetrahedron ∷ []) 0 (0 ∷ 1 ∷ 2 ∷ 3 ∷ []) ≡ 19 ∷ 0 ∷ 0 ∷ 0 ∷ []
+  pub n19InChain : lockedInTurn (loads 1 tetrahedron ∷ refines 0 ∷ refines 3 ∷ refines 7 ∷ []) 9
+      (0 ∷ 1 ∷ 2 ∷ 3 ∷ 4 ∷ 5 ∷ 6 ∷ 7 ∷ 8 ∷ 9 ∷ []) ≡ 19 ∷ 19 ∷ 0 ∷ 0 ∷ 0 ∷ 0 ∷ 19 ∷ 0 ∷ 0 ∷ 19 ∷ []
+  pub n19AtBoundary : lockedInTurn (loads 1 triangle ∷ refines 0 ∷ refines 0 ∷ []) 0 (0 ∷ 1 ∷ 2 ∷ 3 ∷ 4 ∷ [])
+      ≡ 19 ∷ 0 ∷ 19 ∷ 0 ∷ 0 ∷ []
+  -- After 9, and before 11; in a whole step after 13, and before 11; in a list, its preview and a box.
+  pub ageBeforeLock : refusalAfter (setsLock true 0 ∷ []) (changes (refines 0)) grown ≡ 9
+  pub lockBeforeRoom : refusalAfter (loads 1 tetrahedron ∷ setsLock true 0 ∷ []) (changes (refines 0)) (fresh 6 5) ≡ 19
+  pub n19InStep : refusalAfter (loads 1 tetrahedron ∷ setsLock true 3 ∷ []) (changes steps) small ≡ 19
+  pub ringBeforeLock : refusalAfter (loads 1 (doublePyramid 13) ∷ setsLock true 0 ∷ []) (changes steps) (fresh 15 26)
+      ≡ 13
+  pub n19InList : map (λ c. refusalAfter (loads 1 tetrahedron ∷ setsLock true 1 ∷ []) c small)
+      (changes (refinesEach (0 ∷ 1 ∷ []) (sevens 6 9)) ∷ asks (previewOf (0 ∷ 1 ∷ []) (sevens 6 9)) ∷ [])
+      ≡ 19 ∷ 19 ∷ []
+  pub n19InBox : refusalAfter (loads 1 tetrahedron ∷ setsLock true 3 ∷ [])
+      (changes (refinesInBox (boxOf zeroPoint zeroPoint 1) (sevens 12 20))) (fresh 12 20) ≡ 19
+  -- Limits, rings and positions are read as before.
+  pub lockedIsRead : map (λ q. refusalAfter (loads 1 tetrahedron ∷ setsLock true 0 ∷ []) (asks q) small)
+      (limitsOf (replicate 12 (pos 7)) ∷ ringOf 0 (7 ∷ 7 ∷ 7 ∷ []) ∷ positionOf 0 ∷ []) ≡ 0 ∷ 0 ∷ 0 ∷ []
+  -- The length of the locks alone, in the mesh and in spare tables; a lock of 2 in use.
+  pub n1ByLocks : refusalAfter [] (changes (loads 1 tetrahedron)) (withLocks (replicate 8 0) small) ≡ 1
+  pub n17ByLocks : refusalAfter (loads 1 tetrahedron ∷ []) (changes (refinesEach [] shortLocks)) small ≡ 17
+  pub n7ByLock : refusalAfter [] (changes (refines 0))
+      (withLocks (0 ∷ 0 ∷ 0 ∷ 2 ∷ replicate 5 0) (made (loads 1 tetrahedron ∷ []) small)) ≡ 7
+  -- A lock is set and cleared under 1, 7 and 8.
+  pub lockRefused : map (λ c. refusalAfter [] (changes c) uneven) (setsLock true 0 ∷ setsLock false 0 ∷ []) ≡ 1 ∷ 1 ∷ []
+  pub lockUnsound : map (λ c. refusalAfter [] (changes c) small) (setsLock true 0 ∷ setsLock false 0 ∷ []) ≡ 7 ∷ 7 ∷ []
+  pub lockUnused : map (λ c. refusalAfter (loads 1 tetrahedron ∷ []) (changes c) small)
+      (setsLock true 4 ∷ setsLock false 4 ∷ setsLock true 3 ∷ setsLock false 3 ∷ []) ≡ 8 ∷ 8 ∷ 0 ∷ 0 ∷ []
 
 pub refusals : Table
 unfolding computing fresh sevens small uneven tetrahedron cageAtOrigin triangle hinge foilCage foilLast foilFirst tooFar
-    grown shell tooFine boxesRefused doublePyramid
+    grown shell tooFine boxesRefused doublePyramid lockedInTurn shortLocks
 refusals = record {
   n1 = refl;
   n2 = refl;
@@ -184,4 +238,20 @@ refusals = record {
   soundAfterBox = refl;
   n9InBox = refl;
   nineteenIsLeft = refl;
+  n19 = refl;
+  n19InChain = refl;
+  n19AtBoundary = refl;
+  ageBeforeLock = refl;
+  lockBeforeRoom = refl;
+  n19InStep = refl;
+  ringBeforeLock = refl;
+  n19InList = refl;
+  n19InBox = refl;
+  lockedIsRead = refl;
+  n1ByLocks = refl;
+  n17ByLocks = refl;
+  n7ByLock = refl;
+  lockRefused = refl;
+  lockUnsound = refl;
+  lockUnused = refl;
 }

@@ -1,6 +1,7 @@
 -- What is proved of the rules: the theorems that users rely on, readable with the specs alone.
 use mathlib.Core.Path.{_≡_}
-use mathlib.Core.Logic.{_≢_, _↔_}
+use mathlib.Core.Bool.{Bool}
+use mathlib.Core.Logic.{_≢_, _⊎_, _↔_}
 use mathlib.Core.List.{List, [], _∷_, _++_}
 use Prim.Native.Nat.{ℕ, _+_, _-_, _*_, _%_, _≤_, _<_}
 use lib.Dec.{T}
@@ -9,13 +10,14 @@ use lib.ListN.{length}
 use Rattle.rules.proofs.Boxes.BoxCall.{box-refusal, box-makes, box-refused-first, box-stops, fails-same}
 use Rattle.rules.proofs.Boxes.BoxCall.{box-in-spares, nothing-wanted, box-twice, turn-takes}
 use Rattle.rules.proofs.Calls.CallRefusals.{load-refusal, refine-refusal, whole-step-refusal, ring-refusal}
-use Rattle.rules.proofs.Calls.CallRefusals.{position-refusal, limit-refusal, taken-at-boundary}
+use Rattle.rules.proofs.Calls.CallRefusals.{lock-refusal, position-refusal, limit-refusal, taken-at-boundary}
+use Rattle.rules.proofs.Calls.Carried.{may-refine}
 use Rattle.rules.proofs.Calls.EveryCall.{refused-is, no-ten}
-use Rattle.rules.proofs.Calls.Histories.{every-history, history-sound, history-none-of-two}
+use Rattle.rules.proofs.Calls.Histories.{every-history, history-sound, history-keeps-sound, history-none-of-two}
 use Rattle.rules.proofs.Loads.InnerOfTwo.{some-inner-of-two-is, back-to-back}
 use Rattle.rules.proofs.Loads.Load.{links-are}
 use Rattle.rules.proofs.Calls.Outcomes.{load-makes, refine-makes, chain-falls, refine-is-split}
-use Rattle.rules.proofs.Calls.Outcomes.{whole-step-makes, limit-makes, ring-reads, position-reads}
+use Rattle.rules.proofs.Calls.Outcomes.{whole-step-makes, lock-makes, limit-makes, ring-reads, position-reads}
 use Rattle.rules.proofs.Chains.Refine.{chain-counts, chain-takes}
 use Rattle.rules.proofs.Lists.Entries.{handled-then}
 use Rattle.rules.proofs.Lists.ListCall.{list-refusal, list-makes, list-stops}
@@ -23,6 +25,8 @@ use Rattle.rules.proofs.Lists.OneEntry.{one-entry}
 use Rattle.rules.proofs.Lists.EveryList.{refused-first, empty-list, held-in-spares, one-failure, listed-twice}
 use Rattle.rules.proofs.Lists.Preview.{preview-refusal, preview-is, preview-same, preview-shows, list-after}
 use Rattle.rules.proofs.Lists.Preview.{preview-again}
+use Rattle.rules.proofs.Locks.LeftAlone.{altered-exactly}
+use Rattle.rules.proofs.Locks.LockedFaces.{step-locked, call-stands, history-stands}
 use Rattle.rules.proofs.Mirrors.MirrorCalls.{call-mirror, history-mirror}
 use Rattle.rules.proofs.Rings.RingTheory.{ring-makes}
 use Rattle.rules.proofs.Numbers.Rounding.{nearest-third, nearest-third-only, rounded-nearest, nearest-only}
@@ -32,12 +36,13 @@ use Rattle.rules.specs.Boxes.{Box, refineInBox, boxRefusal, boxCall}
 use Rattle.rules.specs.Cage.{Cage, cageOf, loaded, someInnerOfTwo}
 use Rattle.rules.specs.Calls.{outcomeOf, worked, loadCall, refineCall, wholeStepCall, ringRead, ringCall}
 use Rattle.rules.specs.Calls.{positionRead, positionCall, limitRead, limitCall, splitsOf}
-use Rattle.rules.specs.Calls.{rimSplitsOf, verticesOf, trianglesOf, spareRoom, refusedWith}
-use Rattle.rules.specs.Conditions.{SidesDiffer, EndsAtBoundary, OddInChain, First, loadConditions}
+use Rattle.rules.specs.Calls.{rimSplitsOf, verticesOf, trianglesOf, spareRoom, refusedWith, withLock, lockCall}
+use Rattle.rules.specs.Conditions.{SidesDiffer, EndsAtBoundary, OddInChain, First, loadConditions, lockConditions}
 use Rattle.rules.specs.Conditions.{refineConditions, wholeStepConditions, limitConditions, ringConditions}
 use Rattle.rules.specs.Conditions.{positionConditions, listConditions, Takes, FailsAfter}
-use Rattle.rules.specs.Conditions.{SizesFit, CornersFit, FansFit, InnerOfTwo, SomeInnerOfTwo, TooOld}
-use Rattle.rules.specs.Conditions.{TooFewSlots, BoxFits, Wanted, LowestWanted, TurnFails, boxConditions}
+use Rattle.rules.specs.Conditions.{SizesFit, CornersFit, FansFit, InnerOfTwo, SomeInnerOfTwo}
+use Rattle.rules.specs.Conditions.{TooOld, TooFewSlots, Alters, Locked, SomeLocked, BoxFits, Wanted, LowestWanted}
+use Rattle.rules.specs.Conditions.{TurnFails, boxConditions}
 use Rattle.rules.specs.History.{Call, outcome, after, lastLoad, nothing, cage, EveryHistory}
 use Rattle.rules.specs.Lists.{Progress, begun, handleAll, refineEach, sparesRefusal, allOrNothing}
 use Rattle.rules.specs.Lists.{listCall, previewCall}
@@ -45,13 +50,13 @@ use Rattle.rules.specs.Mirror.{mirror, mirrorOutcome, Mirrors, Rounds, M
 use Rattle.rules.specs.Numbers.{nearestThird, rounded}
 use Rattle.rules.specs.Promises.{Nearest, Matches, Loaded, ChainFalls, RefineMakes, added, StepMakes, LimitMakes}
 use Rattle.rules.specs.Promises.{refusedAs, AgreeInUse, RingMakes, kobbelt, ListMakes, SameWork, BackToBack}
-use Rattle.rules.specs.Promises.{BoxMakes}
+use Rattle.rules.specs.Promises.{BoxMakes, LockMakes, Stands, NoLoad, NoClearing, LeaveLocked}
 use Rattle.rules.specs.Sound.{Sound, isSound}
 use Rattle.rules.specs.Spares.{Spares, copied, meshIn, SameSizes}
 use Rattle.rules.specs.Split.{Work, atFirst, chainOdd, refine}
 use Rattle.rules.specs.Step.{wholeStep, limitPositions}
-use Rattle.rules.specs.Tables.{Mesh, TablesAgree, vertexSlots, triangleSlots, boundary, link, generation}
-use Rattle.rules.specs.Tables.{withRule}
+use Rattle.rules.specs.Tables.{Mesh, TablesAgree, vertexSlots, triangleSlots, origin, boundary, link}
+use Rattle.rules.specs.Tables.{generation, withRule}
 
 -- ---- soundness (The cage and the lent tables)
 
@@ -91,6 +96,10 @@ refine-returns = refine-refusal
 -- So does a whole step.
 pub whole-step-returns : (m : Mesh) → First (wholeStepConditions m) (wholeStepCall m .answer .refusal)
 whole-step-returns = whole-step-refusal
+
+-- So does a call that sets or clears a lock.
+pub lock-returns : (on : Bool) (t : ℕ) (m : Mesh) → First (lockConditions t m) (lockCall on t m .answer .refusal)
+lock-returns = lock-refusal
 
 -- So does a ring query.
 pub ring-returns : (v : ℕ) (buffer : List ℕ) (m : Mesh)
@@ -350,6 +359,40 @@ pub whole-step-carried : (m : Mesh) → wholeStepCall m .answer .refusal ≡ 0
     (wholeStepCall m ≡ worked w) × StepMakes (generation (m .topology) 0) m w
 whole-step-carried = whole-step-makes
 
+-- ---- locked triangles (Request i)
+
+-- A call that sets or clears a lock, and is carried out, answers no splits and no flips, and changes this lock alone.
+pub lock-carried : (on : Bool) (t : ℕ) (m : Mesh) → lockCall on t m .answer .refusal ≡ 0
+    → let n = withLock on t m in
+    (lockCall on t m ≡ worked (atFirst n)) × LockMakes on t m n
+lock-carried = lock-makes
+
+-- The triangles that count for 19 are exactly those in use whose generation, or a corner of which, the refine of t
+-- changes in any tables that hold the same mesh, where these have slots enough and t is not too old.
+pub altered-known : {t : ℕ} {m : Mesh} (s : Spares) → Sound m → AgreeInUse s m → Sound (meshIn s m)
+    → t < m .topology .triangles → ¬ TooOld (meshIn s m .topology) t → ¬ TooFewSlots t (meshIn s m)
+    → (x : ℕ) → x < m .topology .triangles →
+    let n = refine t (atFirst (meshIn s m)) .mesh .topology in
+    Alters (m .topology) t x
+    ↔ ((generation n x ≢ generation (m .topology) x)
+    ⊎ ((i : ℕ) × (i < 3) × (origin n (3 * x + i) ≢ origin (m .topology) (3 * x + i))))
+altered-known s S A R u y f = altered-exactly s S A (may-refine R u y f)
+
+-- A whole step is refused while a lock is set, on any content.
+pub locked-no-step : (m : Mesh) → SomeLocked m → wholeStepCall m .answer .refusal ≢ 0
+locked-no-step = step-locked
+
+-- On any content, every call but a load that is carried out leaves a locked triangle as it was; its links follow the
+-- sides that they name. It stays locked, unless the call clears its lock.
+pub locked-stands : (x : ℕ) (c : Call) (m : Mesh) → Locked m x → NoLoad c m
+    → Stands x m (outcome c m .mesh) × (NoClearing x c m → Locked (outcome c m .mesh) x)
+locked-stands = call-stands
+
+-- So does every list of calls that loads no cage and does not clear its lock.
+pub locked-stands-after : (x : ℕ) (cs : List Call) (m : Mesh) → Locked m x → LeaveLocked x cs m
+    → Stands x m (after cs m) × Locked (after cs m) x
+locked-stands-after = history-stands
+
 -- ---- limit positions (Request a)
 
 -- A limit query that is carried out fills the table, and the mesh stands. Each entry is the nearest whole number to its
@@ -387,6 +430,10 @@ third-demand = every-history
 pub sound-after : (calls : List Call) (m : Mesh) (bytes : List ℕ) → lastLoad calls m nothing ≡ cage bytes
     → Sound (after calls m)
 sound-after = history-sound
+
+-- So they are after every list of calls that begins with sound tables.
+pub sound-kept : (calls : List Call) (m : Mesh) → Sound m → Sound (after calls m)
+sound-kept = history-keeps-sound
 
 -- The cage of an accepted load has no vertex off the boundary of exactly two triangles, whichever tables it is loaded
 -- into. (Request g)

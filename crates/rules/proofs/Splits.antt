@@ -11,6 +11,8 @@ pub mod Settling
 pub mod Settled
 pub mod Cut
 pub mod PartsCut
+pub mod Unlocking
+pub mod Following
 pub mod Places
 pub mod Odds
 pub mod Splitting

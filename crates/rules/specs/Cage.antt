@@ -43,7 +43,7 @@ partner c h =
     let k = lowest (3 * c .triangles) (opposite c h) in
     elim (ltb k (3 * c .triangles)) [ true ↦ k | false ↦ boundary ]
 
--- The mesh m with the cage in its first slots: all generations 0, links by opposite sides.
+-- The mesh m with the cage in its first slots: all generations and locks 0, links by opposite sides.
 unfoldable pub loaded : Cage → Mesh → Mesh
 loaded c m =
     let t = m .topology in
@@ -52,6 +52,7 @@ loaded c m =
     (fill (3 * c .triangles) (partner c) (t .links))
     (fill (c .triangles) (λ i. 0) (t .generations)))
     (fill (3 * c .vertices) (c .coordinate) (m .positions))
+    (fill (c .triangles) (λ i. 0) (m .locks))
     (m .rule)
 
 -- ---- tests of a cage (Refused inputs, 2 to 6), which decide the conditions (proofs/Results, load-returns)

@@ -1,10 +1,10 @@
 -- The calls: what each refuses, answers and writes. (Refused inputs)
-use Prim.Native.Nat.{ℕ, zero, suc, _+_, _-_, _*_, _%_, max}
+use Prim.Native.Nat.{ℕ, zero, suc, _+_, _-_, _*_, _/_, _%_, max}
 use mathlib.Core.Bool.{Bool, true, false, not, _&&_, _||_}
 use mathlib.Core.List.{List, [], _∷_}
 use lib.Dec.{eqb, ltb, leb}
 use lib.IntN.{ℤ, pos}
-use lib.ListN.{length, getD}
+use lib.ListN.{length, getD, set}
 use Rattle.rules.specs.Below.{all, any, fill}
 use Rattle.rules.specs.Cage.{cageOf, loaded, sizesFit, cornersFit, coordinatesFit, sidesDiffer, fansFit}
 use Rattle.rules.specs.Cage.{someInnerOfTwo}
@@ -12,10 +12,10 @@ use Rattle.rules.specs.Numbers.{knownRule}
 use Rattle.rules.specs.Ring.{ring}
 use Rattle.rules.specs.Sound.{isSound}
 use Rattle.rules.specs.Spares.{Spares, noSpares}
-use Rattle.rules.specs.Split.{Work, atFirst, chainEnd, chainOdd, refine}
+use Rattle.rules.specs.Split.{Work, atFirst, chainEnd, chainOdd, chainAt, refine}
 use Rattle.rules.specs.Step.{wholeStep, limitPositions}
 use Rattle.rules.specs.Tables.{Topology, Mesh, tablesAgree, vertexSlots, triangleSlots, sides, link, boundary}
-use Rattle.rules.specs.Tables.{generation, odd, coordinate, withRule}
+use Rattle.rules.specs.Tables.{generation, odd, isBase, coordinate, locked, withLocks, withRule}
 
 -- What a call answers: the number of its refusal, 0 for none, the splits and flips that it made, the length of a ring,
 -- a position, and the counts: V, F and the rule; and of work in spare tables (requests e, h) how many entries of a
@@ -132,6 +132,20 @@ trianglesOf m t = 2 * splitsOf m t
 abbrev pub tooOld : Topology → ℕ → Bool
 tooOld m t = eqb (generation m t) 20 || (eqb (generation m t) 19 && eqb (link m (3 * t)) boundary)
 
+-- Refining t would split or flip a locked triangle: an odd one of its base chain; the last of the chain, which is split
+-- first; or one whose base meets this, which is flipped with it. (Request i, 19)
+unfoldable pub altersLocked : ℕ → Mesh → Bool
+altersLocked t m =
+    let tri = m .topology in
+    let e = chainEnd tri t in
+    any (chainOdd tri t) (λ i. locked m (chainAt i tri t))
+    || locked m e
+    || any 3 (λ i. let h = link tri (3 * e + i) in isBase tri h && locked m (h / 3))
+
+-- Some triangle is locked. (Request i, 19)
+unfoldable pub someLocked : Mesh → Bool
+someLocked m = any (m .topology .triangles) (locked m)
+
 -- No side is on the boundary, and all triangles are of one even generation. (Whole step)
 unfoldable pub closedEven : Topology → Bool
 closedEven m =
@@ -166,6 +180,7 @@ refineRefusal t m =
     ∷ 7 if not (isSound m)
     ∷ 8 if leb (tri .triangles) t
     ∷ 9 if tooOld tri t
+    ∷ 19 if altersLocked t m
     ∷ 11 if not (roomFor (verticesOf tri t) (trianglesOf tri t) m)
     ∷ []
     )
@@ -179,9 +194,14 @@ wholeStepRefusal m =
     ∷ 12 if not (closedEven tri)
     ∷ 9 if eqb (generation tri 0) 20
     ∷ 13 if longRing tri
+    ∷ 19 if someLocked m
     ∷ 11 if not (roomFor (tri .triangles) (2 * tri .triangles) m)
     ∷ []
     )
+
+unfoldable pub lockRefusal : ℕ → Mesh → ℕ
+lockRefusal t m =
+    firstOf (1 if not (tablesAgree m) ∷ 7 if not (isSound m) ∷ 8 if leb (m .topology .triangles) t ∷ [])
 
 unfoldable pub limitRefusal : List ℤ → Mesh → ℕ
 limitRefusal table m =
@@ -228,6 +248,14 @@ refineCall t m = unless (refineRefusal t m) m noRoom (worked (refine t (atFirst 
 -- (Whole step)
 unfoldable pub wholeStepCall : Mesh → Outcome
 wholeStepCall m = unless (wholeStepRefusal m) m noRoom (worked (wholeStep m))
+
+-- The mesh with the lock of t set, or clear. (Request i)
+abbrev pub withLock : Bool → ℕ → Mesh → Mesh
+withLock on t m = withLocks (set (m .locks) t (elim on [ true ↦ 1 | false ↦ 0 ])) m
+
+-- (Request i)
+unfoldable pub lockCall : Bool → ℕ → Mesh → Outcome
+lockCall on t m = unless (lockRefusal t m) m noRoom (worked (atFirst (withLock on t m)))
 
 -- The limit positions fill the table, and the mesh is only read. (Request a)
 abbrev pub limitRead : List ℤ → Mesh → Outcome

@@ -14,7 +14,7 @@ use Rattle.rules.specs.Sound.{OneFan, Sound}
 use Rattle.rules.specs.Spares.{Spares, SameSizes}
 use Rattle.rules.specs.Split.{Work, atFirst, refine}
 use Rattle.rules.specs.Tables.{Topology, Mesh, TablesAgree, vertexSlots, triangleSlots, sides, next, link}
-use Rattle.rules.specs.Tables.{boundary, generation, origin, coordinate}
+use Rattle.rules.specs.Tables.{boundary, generation, origin, coordinate, lock}
 
 -- ---- a cage
 
@@ -90,10 +90,44 @@ pub record RoomFor (v f : ℕ) (m : Mesh) : Type 0 where
 abbrev pub TooFewSlots : ℕ → Mesh → Type 0
 TooFewSlots t m = (s : ℕ) × (q : ℕ) × Takes (m .topology) t s q × (¬ RoomFor (s + q) (2 * s) m)
 
+-- t may be split: it is even, or odd with its base on the boundary.
+pub data Splittable (m : Topology) (t : ℕ) : Type 0 where
+  isEven : generation m t % 2 ≡ 0 → Splittable m t
+  onBoundary : generation m t % 2 ≡ 1 → link m (3 * t) ≡ boundary → Splittable m t
+
+-- Refining t splits or flips triangle x: the one that is split first, at the end of the base chain of t; an odd one
+-- whose base meets that; or an odd one of the chain before it. (Request i)
+pub data Alters (m : Topology) : ℕ → ℕ → Type 0 where
+  splitFirst : {t x : ℕ} → Splittable m t → x ≡ t → Alters m t x
+  meetsFirst : {t x : ℕ} → Splittable m t → generation m x % 2 ≡ 1 → link m (3 * x) ≢ boundary
+      → link m (3 * x) / 3 ≡ t → Alters m t x
+  inChain : {t x : ℕ} → generation m t % 2 ≡ 1 → link m (3 * t) ≢ boundary → x ≡ t → Alters m t x
+  further : {t x : ℕ} → generation m t % 2 ≡ 1 → link m (3 * t) ≢ boundary → Alters m (link m (3 * t) / 3) x
+      → Alters m t x
+
+-- Triangle x is in use and locked.
+abbrev pub Locked : Mesh → ℕ → Type 0
+Locked m x = (x < m .topology .triangles) × (lock m x ≡ 1)
+
+-- 19, of a refine: it would split or flip a locked triangle. (Request i)
+abbrev pub AltersLocked : ℕ → Mesh → Type 0
+AltersLocked t m = (x : ℕ) × Locked m x × Alters (m .topology) t x
+
+-- 19, of the whole step: some triangle is locked. (Request i)
+abbrev pub SomeLocked : Mesh → Type 0
+SomeLocked m = (x : ℕ) × Locked m x
+
 -- What a refine of a triangle in use of a sound mesh fails with.
 pub data RefineFails (t : ℕ) (m : Mesh) : ℕ → Type 0 where
   old : TooOld (m .topology) t → RefineFails t m 9
-  crowded : ¬ TooOld (m .topology) t → TooFewSlots t m → RefineFails t m 11
+  guarded : ¬ TooOld (m .topology) t → AltersLocked t m → RefineFails t m 19
+  crowded : ¬ TooOld (m .topology) t → ¬ AltersLocked t m → TooFewSlots t m → RefineFails t m 11
+
+-- It fails with nothing.
+pub record MayRefine (t : ℕ) (m : Mesh) : Type 0 where
+  pub young : ¬ TooOld (m .topology) t
+  pub unlocked : ¬ AltersLocked t m
+  pub room : ¬ TooFewSlots t m
 
 -- Not 12: no side is on the boundary, and all triangles are of one even generation.
 pub record ClosedEven (m : Topology) : Type 0 where
@@ -125,8 +159,7 @@ pub data Handled (start : Mesh) : List ℕ → Work → Work → Type 0 where
   passedOver : {t : ℕ} {rest : List ℕ} {w x : Work} → t < start .topology .triangles → Risen start t (w .mesh)
       → Handled start rest w x → Handled start (t ∷ rest) w x
   refined : {t : ℕ} {rest : List ℕ} {w x : Work} → t < start .topology .triangles → ¬ Risen start t (w .mesh)
-      → ¬ TooOld (w .mesh .topology) t → ¬ TooFewSlots t (w .mesh)
-      → Handled start rest (refine t w) x → Handled start (t ∷ rest) w x
+      → MayRefine t (w .mesh) → Handled start rest (refine t w) x → Handled start (t ∷ rest) w x
 
 -- After k entries of the list, which are handled as w, the next fails with n.
 pub record FailsAfter (list : List ℕ) (m : Mesh) (k : ℕ) (w : Work) (n : ℕ) : Type 0 where
@@ -175,8 +208,7 @@ pub record LowestWanted (b : Box) (m : Mesh) (t : ℕ) : Type 0 where
 -- Work w with k turns of the box, none of which fails, is x: in each the lowest such triangle is refined.
 pub data Turns (b : Box) : ℕ → Work → Work → Type 0 where
   noTurn : {w : Work} → Turns b 0 w w
-  oneTurn : {t k : ℕ} {w x : Work} → LowestWanted b (w .mesh) t
-      → ¬ TooOld (w .mesh .topology) t → ¬ TooFewSlots t (w .mesh)
+  oneTurn : {t k : ℕ} {w x : Work} → LowestWanted b (w .mesh) t → MayRefine t (w .mesh)
       → Turns b k (refine t w) x → Turns b (suc k) w x
 
 -- After k turns, which make w, the lowest such triangle fails with n. It is not skipped.
@@ -223,6 +255,7 @@ refineConditions t m =
     ∷ 7 when (¬ Sound m)
     ∷ 8 when (¬ (t < m .topology .triangles))
     ∷ 9 when TooOld (m .topology) t
+    ∷ 19 when AltersLocked t m
     ∷ 11 when TooFewSlots t m
     ∷ []
 
@@ -233,8 +266,12 @@ wholeStepConditions m =
     ∷ 12 when (¬ ClosedEven (m .topology))
     ∷ 9 when (generation (m .topology) 0 ≡ 20)
     ∷ 13 when LongRing (m .topology)
+    ∷ 19 when SomeLocked m
     ∷ 11 when (¬ RoomFor (m .topology .triangles) (2 * m .topology .triangles) m)
     ∷ []
+
+abbrev pub lockConditions : ℕ → Mesh → List Condition
+lockConditions t m = 1 when (¬ TablesAgree m) ∷ 7 when (¬ Sound m) ∷ 8 when (¬ (t < m .topology .triangles)) ∷ []
 
 abbrev pub limitConditions : List ℤ → Mesh → List Condition
 limitConditions table m =
@@ -256,10 +293,14 @@ ringConditions v buffer m =
 abbrev pub positionConditions : ℕ → Mesh → List Condition
 positionConditions v m = 1 when (¬ TablesAgree m) ∷ 7 when (¬ Sound m) ∷ 8 when (¬ (v < m .topology .vertices)) ∷ []
 
--- One entry alone is the first that fails. The three exclude each other, so their order decides nothing.
+-- One entry alone is the first that fails. The four exclude each other, so their order decides nothing.
 abbrev pub entryConditions : List ℕ → Mesh → List Condition
 entryConditions list m =
-    8 when FailsWith 8 list m ∷ 9 when FailsWith 9 list m ∷ 11 when FailsWith 11 list m ∷ []
+    8 when FailsWith 8 list m
+    ∷ 9 when FailsWith 9 list m
+    ∷ 19 when FailsWith 19 list m
+    ∷ 11 when FailsWith 11 list m
+    ∷ []
 
 abbrev pub listConditions : List ℕ → Spares → Mesh → List Condition
 listConditions list spares m =
@@ -268,7 +309,7 @@ listConditions list spares m =
     ∷ 7 when (¬ Sound m)
     ∷ entryConditions list m
 
--- One turn at most fails, and with one number, so the order of 9 and 11 decides nothing.
+-- One turn at most fails, and with one number, so the order of 9, 19 and 11 decides nothing.
 abbrev pub boxConditions : Box → Spares → Mesh → List Condition
 boxConditions b spares m =
     1 when (¬ TablesAgree m)
@@ -276,5 +317,6 @@ boxConditions b spares m =
     ∷ 18 when (¬ BoxFits b)
     ∷ 7 when (¬ Sound m)
     ∷ 9 when SomeTurnFails 9 b m
+    ∷ 19 when SomeTurnFails 19 b m
     ∷ 11 when SomeTurnFails 11 b m
     ∷ []

@@ -10,20 +10,22 @@ use Rattle.rules.specs.Below.{any, count, total}
 use Rattle.rules.specs.Boxes.{Box, boxCall}
 use Rattle.rules.specs.Cage.{Cage, cageOf}
 use Rattle.rules.specs.Calls.{Outcome, loadCall}
-use Rattle.rules.specs.Calls.{refineCall, wholeStepCall, ringCall, positionCall, limitCall}
+use Rattle.rules.specs.Calls.{refineCall, wholeStepCall, lockCall, ringCall, positionCall, limitCall}
 use Rattle.rules.specs.Conditions.{OddInChain, EndsAtBoundary}
 use Rattle.rules.specs.Lists.{listCall, previewCall}
 use Rattle.rules.specs.Spares.{Spares}
 use Rattle.rules.specs.Tables.{Topology, Mesh, sides, link, boundary, generation, next}
 
 -- A call that may change the mesh, with its arguments: a rule and a cage's bytes, a triangle, none, a list of triangles
--- and spare tables, a box and spare tables. What a call is lent are lists of their own, never one of the mesh's tables.
+-- and spare tables, a box and spare tables, whether to set or to clear, and a triangle. What a call is lent are lists
+-- of their own, never one of the mesh's tables.
 pub data Change : Type 0 where
   loads : ℕ → List ℕ → Change
   refines : ℕ → Change
   steps : Change
   refinesEach : List ℕ → Spares → Change
   refinesInBox : Box → Spares → Change
+  setsLock : Bool → ℕ → Change
 
 -- A call that reads the mesh: a vertex and a ring buffer, a vertex, a table for limit positions, a list of triangles
 -- and spare tables. A preview answers the counts that the list would leave; those of the mesh stand.
@@ -45,6 +47,7 @@ changed (refines t) m = refineCall t m
 changed steps m = wholeStepCall m
 changed (refinesEach list spares) m = listCall list spares m
 changed (refinesInBox box spares) m = boxCall box spares m
+changed (setsLock on t) m = lockCall on t m
 
 abbrev pub asked : Question → Mesh → Outcome
 asked (ringOf v buffer) m = ringCall v buffer m
@@ -81,6 +84,7 @@ opens (changes (refines t)) m before = before
 opens (changes steps) m before = before
 opens (changes (refinesEach list spares)) m before = before
 opens (changes (refinesInBox box spares)) m before = before
+opens (changes (setsLock on t)) m before = before
 opens (asks q) m before = before
 
 -- The last accepted load after a list of calls.

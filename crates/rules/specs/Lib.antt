@@ -9,9 +9,9 @@
 -- n` is -1 - n. Tests: `eqb`, `ltb`, `leb` test =, <, ≤, and `leZ` tests ≤ of whole numbers with a sign, which `≤ℤ`
 -- states; `&&`, `||`, `not` are "and", "or", "not"; `elim b [ true ↦ x | false ↦ y ]` is x or y by the test b.
 -- Statements: `T b` says that b is true; `≡` is "equal" and `≢` "different"; `A × B` is "and", `A ⊎ B` "or", `¬ A`
--- "not", `A → B` "if A then B", `(x : A) → B` "for every x", `(x : A) × B` "some x with B"; a `record` says all that
--- its fields say, a `data` one of its cases. The marks `abbrev` and `unfoldable` only tell the prover when to look
--- inside.
+-- "not", `A → B` "if A then B", `(x : A) → B` "for every x", `(x : A) × B` "some x with B"; `Unit {0}` always holds; a
+-- `record` says all that its fields say, a `data` one of its cases. The marks `abbrev` and `unfoldable` only tell the
+-- prover when to look inside.
 pub mod Numbers
 pub mod Below
 pub mod Tables
@@ -19,6 +19,7 @@ pub mod Spares
 pub mod Ring
 pub mod Sound
 pub mod Split
+pub mod Actions
 pub mod Step
 pub mod Cage
 pub mod Calls

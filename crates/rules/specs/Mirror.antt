@@ -1,6 +1,6 @@
 -- Mirror images: coordinate k of everything negated. (Request c)
 use Prim.Native.Nat.{ℕ, _*_, _%_, _<_}
-use mathlib.Core.Bool.{true, false}
+use mathlib.Core.Bool.{Bool, true, false}
 use mathlib.Core.List.{List, [], _∷_}
 use mathlib.Core.Path.{_≡_}
 use lib.Dec.{eqb}
@@ -10,8 +10,8 @@ use Rattle.rules.specs.Below.{fill}
 use Rattle.rules.specs.Boxes.{Box}
 use Rattle.rules.specs.Cage.{cageOf}
 use Rattle.rules.specs.Calls.{Answer, Room, Outcome, outcomeOf}
-use Rattle.rules.specs.History.{Call, changes, asks, loads, refines, steps, refinesEach, refinesInBox, ringOf}
-use Rattle.rules.specs.History.{positionOf, limitsOf, previewOf, outcome}
+use Rattle.rules.specs.History.{Call, changes, asks, loads, refines, steps, refinesEach, refinesInBox, setsLock}
+use Rattle.rules.specs.History.{ringOf, positionOf, limitsOf, previewOf, outcome}
 use Rattle.rules.specs.Spares.{Spares}
 use Rattle.rules.specs.Tables.{Mesh, withPositions}
 
@@ -52,6 +52,7 @@ mirrorSpares k s = record {
   corners = s .corners;
   links = s .links;
   generations = s .generations;
+  locks = s .locks;
 }
 
 -- A box: coordinate k of its corners is negated, and there low and high change places. Among the numbers of four bytes
@@ -98,6 +99,7 @@ pub data Mirrors (k : ℕ) : Call → Call → Type 0 where
       → Mirrors k (changes (refinesEach entries spares)) (changes (refinesEach entries (mirrorSpares k spares)))
   box : {b : Box} {spares : Spares}
       → Mirrors k (changes (refinesInBox b spares)) (changes (refinesInBox (mirrorBox k b) (mirrorSpares k spares)))
+  lock : {on : Bool} {t : ℕ} → Mirrors k (changes (setsLock on t)) (changes (setsLock on t))
   ring : {v : ℕ} {buffer : List ℕ} → Mirrors k (asks (ringOf v buffer)) (asks (ringOf v buffer))
   position : {v : ℕ} → Mirrors k (asks (positionOf v)) (asks (positionOf v))
   limit : {table : List ℤ} → Mirrors k (asks (limitsOf table)) (asks (limitsOf (mirrorTable k table)))

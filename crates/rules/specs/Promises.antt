@@ -1,6 +1,6 @@
 -- What holds of each call, carried out or refused, as statements; proofs/Results proves every one of them.
 use Prim.Native.Nat.{ℕ, zero, suc, _+_, _*_, _/_, _%_, _≤_, _<_}
-use mathlib.Core.Bool.{true, false}
+use mathlib.Core.Bool.{Bool, true, false}
 use mathlib.Core.List.{List, [], _∷_}
 use mathlib.Core.Logic.{_≢_, _⊎_, _↔_}
 use mathlib.Core.Path.{_≡_}
@@ -8,14 +8,16 @@ use lib.Dec.{eqb, ltb}
 use lib.IntN.{ℤ, pos, natAbs, _+ℤ_, _-ℤ_, _*ℤ_}
 use lib.ListN.{length, getD, drop}
 use lib.Signed.{_≤ℤ_, _<ℤ_}
+use Rattle.rules.specs.Actions.{LeadsTo, newPlace}
 use Rattle.rules.specs.Below.{total}
 use Rattle.rules.specs.Boxes.{Box, refineInBox, boxRefusal}
 use Rattle.rules.specs.Calls.{Outcome, outcomeOf, noRoom, ringRoom, tableRoom, spareRoom, refusedWith, worked}
 use Rattle.rules.specs.Calls.{splitsOf, rimSplitsOf}
 use Rattle.rules.specs.Cage.{Cage}
 use Rattle.rules.specs.Conditions.{InnerOfTwo, Risen, Handled, Wanted, Turns}
-use Rattle.rules.specs.History.{Call, changes, asks, loads, refines, steps, refinesEach, refinesInBox, ringOf}
-use Rattle.rules.specs.History.{positionOf, limitsOf, previewOf, ReportsSplits, edges, cageEdges}
+use Rattle.rules.specs.History.{Call, changes, asks, loads, refines, steps, refinesEach, refinesInBox, setsLock}
+use Rattle.rules.specs.History.{ringOf, positionOf, limitsOf, previewOf, outcome, ReportsSplits, edges}
+use Rattle.rules.specs.History.{cageEdges}
 use Rattle.rules.specs.Lists.{Progress, refineEach, sparesRefusal, sparesAnswer}
 use Rattle.rules.specs.Numbers.{InRange, weight}
 use Rattle.rules.specs.Ring.{OnBoundary, triangleCount, firstSide, fan, ring}
@@ -24,7 +26,7 @@ use Rattle.rules.specs.Spares.{Spares, copied}
 use Rattle.rules.specs.Split.{Work, atFirst, centre, faceSplit, rimSplit}
 use Rattle.rules.specs.Step.{sumOver, movedCoordinate}
 use Rattle.rules.specs.Tables.{Topology, Mesh, sides, next, previous, origin, target, boundary, link, rotate}
-use Rattle.rules.specs.Tables.{generation, odd, coordinate}
+use Rattle.rules.specs.Tables.{generation, odd, coordinate, lock}
 
 -- ---- numbers (Whole step)
 
@@ -43,13 +45,20 @@ pub record SamePast (m n : Mesh) : Type 0 where
   pub cornerSlots : length (n .topology .corners) ≡ length (m .topology .corners)
   pub linkSlots : length (n .topology .links) ≡ length (m .topology .links)
   pub generationSlots : length (n .topology .generations) ≡ length (m .topology .generations)
+  pub lockSlots : length (n .locks) ≡ length (m .locks)
   pub positionSlots : length (n .positions) ≡ length (m .positions)
   pub corners : drop (sides (n .topology)) (n .topology .corners) ≡ drop (sides (n .topology)) (m .topology .corners)
   pub links : drop (sides (n .topology)) (n .topology .links) ≡ drop (sides (n .topology)) (m .topology .links)
   pub generations :
       drop (n .topology .triangles) (n .topology .generations)
       ≡ drop (n .topology .triangles) (m .topology .generations)
+  pub locks : drop (n .topology .triangles) (n .locks) ≡ drop (n .topology .triangles) (m .locks)
   pub positions : drop (3 * n .topology .vertices) (n .positions) ≡ drop (3 * n .topology .vertices) (m .positions)
+
+-- The triangles of m have the same locks in n, and new ones are clear. (Request i)
+pub record SameLocks (m n : Mesh) : Type 0 where
+  pub old : (t : ℕ) → t < m .topology .triangles → lock n t ≡ lock m t
+  pub new : (t : ℕ) → m .topology .triangles ≤ t → t < n .topology .triangles → lock n t ≡ 0
 
 -- ---- refusals (Refused inputs, below the table)
 
@@ -78,6 +87,7 @@ refusedAs (changes (refines t)) n m = refusedWith n m noRoom
 refusedAs (changes steps) n m = refusedWith n m noRoom
 refusedAs (changes (refinesEach list spares)) n m = refusedList list spares n m
 refusedAs (changes (refinesInBox b spares)) n m = refusedBox b spares n m
+refusedAs (changes (setsLock on t)) n m = refusedWith n m noRoom
 refusedAs (asks (ringOf v buffer)) n m = refusedWith n m (ringRoom buffer)
 refusedAs (asks (positionOf v)) n m = refusedWith n m noRoom
 refusedAs (asks (limitsOf table)) n m = refusedWith n m (tableRoom table)
@@ -105,6 +115,7 @@ pub record Loaded (r : ℕ) (c : Cage) (m n : Mesh) : Type 0 where
   pub corners : (h : ℕ) → h < sides (n .topology) → origin (n .topology) h ≡ c .corner h
   pub positions : (i : ℕ) → i < 3 * n .topology .vertices → getD (n .positions) i (pos 0) ≡ c .coordinate i
   pub generations : (t : ℕ) → t < n .topology .triangles → generation (n .topology) t ≡ 0
+  pub unlocked : (t : ℕ) → t < n .topology .triangles → lock n t ≡ 0
   pub links : (h : ℕ) → h < sides (n .topology) → Matches c h (link (n .topology) h)
   pub edges : edges (n .topology) ≡ cageEdges c
   -- No vertex off the boundary has exactly two triangles. (Request g)
@@ -132,8 +143,16 @@ pub record ChainFalls (m : Topology) (t : ℕ) : Type 0 where
 abbrev pub Written : Topology → Topology → ℕ → Type 0
 Written m n y = (m .triangles ≤ y) ⊎ (generation n y ≢ generation m y)
 
+-- Cuts and flips lead from m to n, and a triangle not written anew is linked to the sides that it was linked to, in
+-- their new places. (Request i)
+pub record Follows (m n : Topology) : Type 0 where
+  pub leads : LeadsTo m n
+  pub links : (h : ℕ) → h < sides m → generation n (h / 3) ≡ generation m (h / 3)
+      → link n h ≡ newPlace leads (link m h)
+
 -- What splits and flips that lead from m to n leave alone. A triangle not written anew keeps its corners; its links
--- stay where they lead to the boundary or to triangles not written anew, and else lead to ones that are.
+-- stay where they lead to the boundary or to triangles not written anew, and else lead to ones that are; `follows` says
+-- where.
 pub record Still (m n : Topology) : Type 0 where
   pub grows : m .triangles ≤ n .triangles
   pub mono : (x : ℕ) → x < m .triangles → generation m x ≤ generation n x
@@ -143,6 +162,7 @@ pub record Still (m n : Topology) : Type 0 where
       → link n h ≡ link m h
   pub shift : (h : ℕ) → h < sides m → generation n (h / 3) ≡ generation m (h / 3)
       → (link n h ≡ link m h) ⊎ Written m n (link n h / 3)
+  pub follows : Follows m n
 
 -- The number of odd triangles.
 unfoldable pub odds : Topology → ℕ
@@ -167,6 +187,7 @@ pub record RefineMakes (t : ℕ) (m : Mesh) (w : Work) : Type 0 where
       ≡ odds (m .topology) + 3 * w .splits
   pub vertices : w .mesh .topology .vertices ≡ m .topology .vertices + w .splits + rimSplitsOf (m .topology) t
   pub edges : edges (w .mesh .topology) ≡ edges (m .topology) + 3 * w .splits + rimSplitsOf (m .topology) t
+  pub locks : SameLocks m (w .mesh)
   pub rises : generation (m .topology) t < generation (w .mesh .topology) t
   pub risesBy : RisesBy t (m .topology) (w .mesh .topology)
   pub still : Still (m .topology) (w .mesh .topology)
@@ -210,6 +231,7 @@ pub record ListMakes (list : List ℕ) (m : Mesh) (w : Work) : Type 0 where
   -- Each triangle listed has risen.
   pub risen : (i : ℕ) → i < length list → Risen m (getD list i 0) (w .mesh)
   pub triangles : w .mesh .topology .triangles ≡ m .topology .triangles + 2 * w .splits
+  pub locks : SameLocks m (w .mesh)
   pub still : Still (m .topology) (w .mesh .topology)
   pub oldVertices : (i : ℕ) → i < 3 * m .topology .vertices
       → getD (w .mesh .positions) i (pos 0) ≡ getD (m .positions) i (pos 0)
@@ -225,6 +247,7 @@ pub record BoxMakes (b : Box) (m : Mesh) (p : Progress) : Type 0 where
   -- What the engraver relies on: no triangle below the generation has a corner in the box.
   pub noneLeft : (t : ℕ) → t < p .work .mesh .topology .triangles → ¬ Wanted b (p .work .mesh) t
   pub triangles : p .work .mesh .topology .triangles ≡ m .topology .triangles + 2 * p .work .splits
+  pub locks : SameLocks m (p .work .mesh)
   -- Each turn makes a split at least.
   pub splits : p .handled ≤ p .work .splits
   pub still : Still (m .topology) (p .work .mesh .topology)
@@ -242,6 +265,7 @@ pub record AgreeInUse (s : Spares) (m : Mesh) : Type 0 where
   pub corners : (h : ℕ) → h < sides (m .topology) → getD (s .corners) h 0 ≡ origin (m .topology) h
   pub links : (h : ℕ) → h < sides (m .topology) → getD (s .links) h 0 ≡ link (m .topology) h
   pub generations : (t : ℕ) → t < m .topology .triangles → getD (s .generations) t 0 ≡ generation (m .topology) t
+  pub locks : (t : ℕ) → t < m .topology .triangles → getD (s .locks) t 0 ≡ lock m t
 
 -- One call does to the mesh, and answers of it, what the other does.
 pub record SameWork (o o′ : Outcome) : Type 0 where
@@ -264,12 +288,49 @@ pub record StepMakes (g : ℕ) (m : Mesh) (w : Work) : Type 0 where
   pub triangles : w .mesh .topology .triangles ≡ 3 * m .topology .triangles
   pub edges : edges (w .mesh .topology) ≡ edges (m .topology) + 3 * m .topology .triangles
   pub generations : (t : ℕ) → t < w .mesh .topology .triangles → generation (w .mesh .topology) t ≡ g + 2
+  pub locks : SameLocks m (w .mesh)
   -- Old vertices are moved, and new ones placed, by the old mesh.
   pub moved : (v k : ℕ) → v < m .topology .vertices → k < 3 → coordinate (w .mesh) v k ≡ movedCoordinate m v k
   pub placed : (t k : ℕ) → t < m .topology .triangles → k < 3
       → coordinate (w .mesh) (m .topology .vertices + t) k ≡ centre m t k
   pub rule : w .mesh .rule ≡ m .rule
   pub past : SamePast m (w .mesh)
+
+-- ---- locks (Request i)
+
+-- What setting, or clearing, the lock of t makes of a mesh.
+pub record LockMakes (on : Bool) (t : ℕ) (m n : Mesh) : Type 0 where
+  pub sound : Sound n
+  pub this : lock n t ≡ elim on [ true ↦ 1 | false ↦ 0 ]
+  pub others : (x : ℕ) → x ≢ t → lock n x ≡ lock m x
+  pub size : length (n .locks) ≡ length (m .locks)
+  pub topology : n .topology ≡ m .topology
+  pub positions : n .positions ≡ m .positions
+  pub rule : n .rule ≡ m .rule
+
+-- Triangle x of m is in n as it was: its generation, its corners, where they lie, and its links, which name the sides
+-- that they named, in their new places.
+pub record Stands (x : ℕ) (m n : Mesh) : Type 0 where
+  pub inUse : x < n .topology .triangles
+  pub generation : generation (n .topology) x ≡ generation (m .topology) x
+  pub corners : (i : ℕ) → i < 3 → origin (n .topology) (3 * x + i) ≡ origin (m .topology) (3 * x + i)
+  pub positions : (i k : ℕ) → i < 3 → k < 3 →
+      let v = origin (m .topology) (3 * x + i) in
+      coordinate n v k ≡ coordinate m v k
+  pub leads : LeadsTo (m .topology) (n .topology)
+  pub links : (i : ℕ) → i < 3 → link (n .topology) (3 * x + i) ≡ newPlace leads (link (m .topology) (3 * x + i))
+
+-- The call is no load that is carried out; it is none that is carried out and clears the lock of x.
+abbrev pub NoLoad : Call → Mesh → Type 0
+NoLoad c m = (rule : ℕ) (bytes : List ℕ) → c ≡ changes (loads rule bytes) → outcome c m .answer .refusal ≢ 0
+
+abbrev pub NoClearing : ℕ → Call → Mesh → Type 0
+NoClearing x c m = c ≡ changes (setsLock false x) → outcome c m .answer .refusal ≢ 0
+
+-- No call of the list, made one after the other from m on, loads a cage or clears the lock of x.
+abbrev pub LeaveLocked : ℕ → List Call → Mesh → Type 0
+LeaveLocked x [] m = Unit {0}
+LeaveLocked x (c ∷ cs) m = NoLoad c m × NoClearing x c m × LeaveLocked x cs (outcome c m .mesh)
 
 -- ---- limit positions (Request a)
 

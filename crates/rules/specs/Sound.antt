@@ -10,7 +10,7 @@ use Rattle.rules.specs.Below.{all, count}
 use Rattle.rules.specs.Numbers.{InRange, inRange, KnownRule, knownRule}
 use Rattle.rules.specs.Ring.{fan}
 use Rattle.rules.specs.Tables.{Topology, Mesh, TablesAgree, tablesAgree, vertexSlots, triangleSlots, sides}
-use Rattle.rules.specs.Tables.{origin, target, link, rotate, boundary, generation, odd}
+use Rattle.rules.specs.Tables.{origin, target, link, rotate, boundary, generation, odd, lock}
 
 -- ---- the five kinds of linked pairs
 
@@ -66,7 +66,7 @@ pub record OneFan (m : Topology) (v : ℕ) : Type 0 where
   pub all : (h : ℕ) → h < sides m → origin m h ≡ v → Turns m first h
 
 -- Sound. `tables` is condition 1, so that Sound can stand alone; the five kinds stand in `linked`; the rule is request
--- c's.
+-- c's, the locks are request i's.
 pub record Sound (m : Mesh) : Type 0 where
   pub tables : TablesAgree m
   pub someVertex : 1 ≤ m .topology .vertices
@@ -79,6 +79,7 @@ pub record Sound (m : Mesh) : Type 0 where
   pub fans : (v : ℕ) → v < m .topology .vertices → OneFan (m .topology) v
   pub range : (i : ℕ) → i < 3 * m .topology .vertices → InRange (getD (m .positions) i (pos 0))
   pub generations : (t : ℕ) → t < m .topology .triangles → generation (m .topology) t ≤ 20
+  pub locks : (t : ℕ) → t < m .topology .triangles → lock m t ≤ 1
   pub rule : KnownRule (m .rule)
 
 -- ---- the test, which says yes exactly for sound tables (proofs/Results, sound-test)
@@ -119,4 +120,5 @@ isSound m =
     && all (t .vertices) (hasOneFan t)
     && all (3 * t .vertices) (λ i. inRange (getD (m .positions) i (pos 0)))
     && all (t .triangles) (λ x. leb (generation t x) 20)
+    && all (t .triangles) (λ x. leb (lock m x) 1)
     && knownRule (m .rule)

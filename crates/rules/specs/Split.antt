@@ -5,6 +5,7 @@ use mathlib.Core.Bool.{true, false}
 use mathlib.Core.List.{List, [], _∷_}
 use lib.Dec.{eqb, ltb}
 use lib.IntN.{ℤ, _+ℤ_}
+use lib.ListN.{set}
 use Rattle.rules.specs.Numbers.{nearestThird}
 use Rattle.rules.specs.Tables.{Topology, Mesh, meshOf, withTopology, origin, link, boundary, generation, odd}
 use Rattle.rules.specs.Tables.{isBase, coordinate, putThree, putTriangle, relink, withCounts}
@@ -132,11 +133,16 @@ firstThird = thirdOf 0 0 1
 unfoldable pub secondThird : Mesh → ℕ → ℕ → ℤ
 secondThird = thirdOf 0 1 1
 
+-- The locks with those of a split's new slots, f and f + 1, clear. (Request i)
+abbrev pub newUnlocked : ℕ → List ℕ → List ℕ
+newUnlocked f locks = set (set locks f 0) (f + 1) 0
+
 -- The split with the new vertex placed at the centre.
 unfoldable pub facePlaced : ℕ → Mesh → Mesh
 facePlaced t m =
     let v = m .topology .vertices in
-    meshOf (faceCut t (m .topology)) (putThree v (centre m t 0, centre m t 1, centre m t 2) (m .positions)) (m .rule)
+    meshOf (faceCut t (m .topology)) (putThree v (centre m t 0, centre m t 1, centre m t 2) (m .positions))
+    (newUnlocked (m .topology .triangles) (m .locks)) (m .rule)
 
 -- The cut of the rim split with A' and B' placed at the thirds of the base.
 unfoldable pub rimPlaced : ℕ → Mesh → Mesh
@@ -144,7 +150,7 @@ rimPlaced t m =
     let v = m .topology .vertices in
     let one = putThree v (firstThird m t 0, firstThird m t 1, firstThird m t 2) (m .positions) in
     let two = putThree (v + 1) (secondThird m t 0, secondThird m t 1, secondThird m t 2) one in
-    meshOf (rimCut t (m .topology)) two (m .rule)
+    meshOf (rimCut t (m .topology)) two (newUnlocked (m .topology .triangles) (m .locks)) (m .rule)
 
 -- Where the base of s, a triangle just made by a split, meets a base: flip the two. The boundary is no base: it reads
 -- as a side of a slot past the table, whose generation is 0.
@@ -194,6 +200,11 @@ chainEndWithin (suc n) m t = elim (odd (generation m t)) [
   | false ↦ t
   | true ↦ elim (eqb (link m (3 * t)) boundary) [ true ↦ t | false ↦ chainEndWithin n m (link m (3 * t) / 3) ]
 ]
+
+-- The triangle that i bases lead to from t.
+unfoldable pub chainAt : ℕ → Topology → ℕ → ℕ
+chainAt zero m t = t
+chainAt (suc i) m t = link m (3 * chainAt i m t) / 3
 
 -- The number of odd triangles among its first n.
 unfoldable pub chainOddWithin : ℕ → Topology → ℕ → ℕ

@@ -15,11 +15,12 @@ pub record Topology : Type 0 where
   pub links : List ℕ
   pub generations : List ℕ
 
--- The topology with the lent positions, three coordinates to a vertex, and the rounding rule, which goes with the
--- counts. (Request c)
+-- The topology with the lent positions, three coordinates to a vertex, the lent locks, one to a triangle (request i),
+-- and the rounding rule, which goes with the counts (request c).
 pub record Mesh : Type 0 where
   pub topology : Topology
   pub positions : List ℤ
+  pub locks : List ℕ
   pub rule : ℕ
 
 -- Every topology and every mesh is built by these two.
@@ -32,18 +33,21 @@ topologyOf v f corners links generations = record {
   generations = generations;
 }
 
-abbrev pub meshOf : Topology → List ℤ → ℕ → Mesh
-meshOf t positions rule = record { topology = t; positions = positions; rule = rule }
+abbrev pub meshOf : Topology → List ℤ → List ℕ → ℕ → Mesh
+meshOf t positions locks rule = record { topology = t; positions = positions; locks = locks; rule = rule }
 
--- The mesh with another topology, with other positions, with another rule.
+-- The mesh with another topology, with other positions, with other locks, with another rule.
 abbrev pub withTopology : Topology → Mesh → Mesh
-withTopology t m = meshOf t (m .positions) (m .rule)
+withTopology t m = meshOf t (m .positions) (m .locks) (m .rule)
 
 abbrev pub withPositions : List ℤ → Mesh → Mesh
-withPositions positions m = meshOf (m .topology) positions (m .rule)
+withPositions positions m = meshOf (m .topology) positions (m .locks) (m .rule)
+
+abbrev pub withLocks : List ℕ → Mesh → Mesh
+withLocks locks m = meshOf (m .topology) (m .positions) locks (m .rule)
 
 abbrev pub withRule : ℕ → Mesh → Mesh
-withRule rule m = meshOf (m .topology) (m .positions) rule
+withRule rule m = meshOf (m .topology) (m .positions) (m .locks) rule
 
 -- ---- sides (half-edges): side i of triangle t is the number 3 * t + i
 
@@ -95,6 +99,13 @@ isBase m h = eqb (h % 3) 0 && odd (generation m (h / 3))
 abbrev pub coordinate : Mesh → ℕ → ℕ → ℤ
 coordinate m v k = getD (m .positions) (3 * v + k) (pos 0)
 
+-- The lock of triangle t: 1 where it is locked, 0 where it is not. (Request i)
+abbrev pub lock : Mesh → ℕ → ℕ
+lock m t = getD (m .locks) t 0
+
+abbrev pub locked : Mesh → ℕ → Bool
+locked m t = eqb (lock m t) 1
+
 -- ---- writing one triangle's slot, one link, one vertex's slot
 
 -- A table of three entries to a slot, with these three in slot i.
@@ -130,6 +141,7 @@ pub record TablesAgree (m : Mesh) : Type 0 where
   pub positions : length (m .positions) ≡ 3 * vertexSlots m
   pub corners : length (m .topology .corners) ≡ 3 * triangleSlots m
   pub links : length (m .topology .links) ≡ 3 * triangleSlots m
+  pub locks : length (m .locks) ≡ triangleSlots m
   pub fewVertices : vertexSlots m ≤ 32768
   pub fewTriangles : triangleSlots m ≤ 65536
 
@@ -139,5 +151,6 @@ tablesAgree m =
     eqb (length (m .positions)) (3 * vertexSlots m)
     && eqb (length (m .topology .corners)) (3 * triangleSlots m)
     && eqb (length (m .topology .links)) (3 * triangleSlots m)
+    && eqb (length (m .locks)) (triangleSlots m)
     && leb (vertexSlots m) 32768
     && leb (triangleSlots m) 65536

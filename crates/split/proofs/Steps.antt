@@ -9,7 +9,7 @@ use lib.ListN.{getD}
 use Rattle.points.specs.declared.Point.{Point}
 use Rattle.points.specs.Axes.{eachAxis, thirds}
 use Rattle.rules.specs.Split.{Work, withSplit, thirdOf, centre, firstThird, secondThird, faceCut, facePlaced, rimCut}
-use Rattle.rules.specs.Split.{rimPlaced, flip, settle}
+use Rattle.rules.specs.Split.{rimPlaced, newUnlocked, flip, settle}
 use Rattle.rules.specs.Tables.{Topology, Mesh, meshOf, withTopology, origin, link, isBase, coordinate, withCounts}
 use Rattle.rules.specs.Tables.{relink}
 use Rattle.tables.specs.declared.Triangle.{Triangle}
@@ -48,34 +48,36 @@ module _ (s : ℕ) (w : Work) (b : Bool) (e : b ≡ isBase (w .mesh .topology) (
   settle-keeps met = rw (settle, ← e, met)
 
 pub face-cut-steps : (t : ℕ) (w : Work) (e : Topology) (p : Point) (positions : List ℤ) (x : Triangle)
-    (r : List Triangle)
+    (r : List Triangle) (locks : List ℕ)
     → let m = w .mesh .topology in
     p ≡ eachAxis (thirdOf 0 1 2 (w .mesh) t) → positions ≡ putPoint (m .vertices) p (w .mesh .positions)
     → x ≡ triangleAt m t → r ≡ childrenOf x t (m .triangles) (m .vertices)
     → e ≡ replaced t (m .triangles) x r (3 * m .triangles) (3 * (m .triangles + 1)) m
+    → locks ≡ newUnlocked (m .triangles) (w .mesh .locks)
     → _≡_ {A = Work} (record {
-      mesh = meshOf (withCounts (m .vertices + 1) (m .triangles + 2) e) positions (w .mesh .rule);
+      mesh = meshOf (withCounts (m .vertices + 1) (m .triangles + 2) e) positions locks (w .mesh .rule);
       splits = w .splits + 1;
       flips = w .flips;
     })
     (withSplit (facePlaced t (w .mesh)) w)
 unfolding facePlaced faceCut centre
-face-cut-steps t w e p positions x r ep eq ex er ee =
-    rw (ee, er, ex, eq, ep, facePlaced, faceCut, centre, add-one (w .splits), add-one (w .mesh .topology .vertices))
+face-cut-steps t w e p positions x r locks ep eq ex er ee el =
+    rw (el, ee, er, ex, eq, ep, facePlaced, faceCut, centre, add-one (w .splits), add-one (w .mesh .topology .vertices))
 
 pub rim-cut-steps : (t : ℕ) (w : Work) (e : Topology) (p q : Point) (one two : List ℤ) (x : Triangle)
-    (r : List Triangle)
+    (r : List Triangle) (locks : List ℕ)
     → let m = w .mesh .topology in
     p ≡ eachAxis (thirdOf 0 0 1 (w .mesh) t) → q ≡ eachAxis (thirdOf 0 1 1 (w .mesh) t)
     → one ≡ putPoint (m .vertices) p (w .mesh .positions) → two ≡ putPoint (m .vertices + 1) q one
     → x ≡ triangleAt m t → r ≡ rimChildrenOf x t (m .triangles) (m .vertices)
     → e ≡ replaced t (m .triangles) x r (3 * (m .triangles + 1)) (3 * t) m
+    → locks ≡ newUnlocked (m .triangles) (w .mesh .locks)
     → _≡_ {A = Work} (record {
-      mesh = meshOf (withCounts (m .vertices + 2) (m .triangles + 2) e) two (w .mesh .rule);
+      mesh = meshOf (withCounts (m .vertices + 2) (m .triangles + 2) e) two locks (w .mesh .rule);
       splits = w .splits + 1;
       flips = w .flips;
     })
     (withSplit (rimPlaced t (w .mesh)) w)
 unfolding rimPlaced rimCut firstThird secondThird
-rim-cut-steps t w e p q one two x r ep eq eo et ex er ee =
-    rw (ee, er, ex, et, eo, eq, ep, rimPlaced, rimCut, firstThird, secondThird, add-one (w .splits))
+rim-cut-steps t w e p q one two x r locks ep eq eo et ex er ee el =
+    rw (el, ee, er, ex, et, eo, eq, ep, rimPlaced, rimCut, firstThird, secondThird, add-one (w .splits))

@@ -4,11 +4,10 @@ use mathlib.Core.List.{List, [], _∷_}
 use mathlib.Core.Path.{_≡_}
 use lib.IntN.{ℤ}
 use lib.ListN.{length, getD}
-use Rattle.rules.proofs.Chains.Remembered.{chainAt}
 use Rattle.rules.specs.Calls.{rimSplitsOf}
 use Rattle.rules.specs.Conditions.{RoomFor}
 use Rattle.rules.specs.Split as rules
-use Rattle.rules.specs.Split.{settleAll, splitAt, chainEnd, chainOdd}
+use Rattle.rules.specs.Split.{settleAll, splitAt, chainEnd, chainOdd, chainAt}
 use Rattle.rules.specs.Tables.{Topology, TablesAgree, boundary, generation, triangleSlots, relink}
 use Rattle.tables.specs.declared.Counts.{Counts}
 use Rattle.tables.specs.declared.Triangle.{Triangle}
@@ -23,9 +22,9 @@ abbrev pub countsOf : ℕ → Work → Counts
 countsOf rule w = record { vertices = w .vertices; triangles = w .triangles; rule = rule }
 
 -- The work done, with what the slices hold.
-abbrev pub workNow : ℕ → Work → List ℤ → List ℕ → List ℕ → List ℕ → rules.Work
-workNow rule w positions corners links generations = record {
-  mesh = meshNow (countsOf rule w) positions corners links generations;
+abbrev pub workNow : ℕ → Work → List ℤ → List ℕ → List ℕ → List ℕ → List ℕ → rules.Work
+workNow rule w positions corners links generations locks = record {
+  mesh = meshNow (countsOf rule w) positions corners links generations locks;
   splits = w .splits;
   flips = w .flips;
 }

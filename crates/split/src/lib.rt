@@ -165,7 +165,7 @@ fn flip(corners: &mut [u32], links: &mut [u32], generations: &mut [u8], s: u32, 
 }
 
 // Whether side h is the base of an odd triangle.
-fn is_base(generations: &[u8], h: u32) -> bool
+pub fn is_base(generations: &[u8], h: u32) -> bool
     ensures { λ r. ⌜ ((n : Counts) (corners links : List ℕ) →
         r ≡ isBase (topologyNow n corners links (now (generations .entry))) h) ⌝ }
 {
@@ -182,10 +182,11 @@ fn settle(
 ) -> Work
     requires { ⌜ TrianglesAgree (now corners) (now links) (now generations) × (s < length (now generations))
         × (getD (now generations) s 0 < 255) × (work .flips < 4294967295) ⌝ }
-    ensures { λ r. ⌜ ((rule : ℕ) (positions : List ℤ) →
-        workNow rule r positions (now (corners .exit)) (now (links .exit)) (now (generations .exit))
+    ensures { λ r. ⌜ ((rule : ℕ) (positions : List ℤ) (locks : List ℕ) →
+        workNow rule r positions (now (corners .exit)) (now (links .exit)) (now (generations .exit)) locks
         ≡ settle s
-        (workNow rule work positions (now (corners .entry)) (now (links .entry)) (now (generations .entry)))) ⌝ }
+        (workNow rule work positions (now (corners .entry)) (now (links .entry)) (now (generations .entry))
+        locks)) ⌝ }
 {
     let i = 3 * (s as usize);
     let h = links[i];
@@ -237,9 +238,9 @@ fn replace(
 // The nearest third of the sum of the corners h, i and j of t.
 fn third_of(positions: &[i32], corners: &[u32], t: u32, h: usize, i: usize, j: usize) -> Point
     requires { ⌜ VerticesAgree (now positions) × (3 * t + 2 < length (now corners)) × (h < 3) × (i < 3) × (j < 3) ⌝ }
-    ensures { λ r. ⌜ ((n : Counts) (links generations : List ℕ) →
+    ensures { λ r. ⌜ ((n : Counts) (links generations locks : List ℕ) →
         r ≡ eachAxis (thirdOf h i j
-        (meshNow n (now (positions .entry)) (now (corners .entry)) links generations) t)) ⌝ }
+        (meshNow n (now (positions .entry)) (now (corners .entry)) links generations locks) t)) ⌝ }
 {
     let first = 3 * (t as usize);
     let a = tables::point_at(positions, corners[first + h]);
@@ -254,16 +255,19 @@ fn face_cut(
     corners: &mut [u32],
     links: &mut [u32],
     generations: &mut [u8],
+    locks: &mut [u8],
     work: Work,
     t: u32,
 ) -> Work
     requires { ⌜ ((rule : ℕ) ×
-        MaySplit t (workNow rule work (now positions) (now corners) (now links) (now generations)))
+        MaySplit t (workNow rule work (now positions) (now corners) (now links) (now generations) (now locks)))
         × (getD (now generations) t 0 % 2 ≡ 0) ⌝ }
     ensures { λ r. ⌜ ((rule : ℕ) → Hands t (workNow rule work
-        (now (positions .entry)) (now (corners .entry)) (now (links .entry)) (now (generations .entry)))
+        (now (positions .entry)) (now (corners .entry)) (now (links .entry)) (now (generations .entry))
+        (now (locks .entry)))
         (t ∷ work .triangles ∷ (work .triangles + 1) ∷ []) (workNow rule r
-        (now (positions .exit)) (now (corners .exit)) (now (links .exit)) (now (generations .exit)))) ⌝ }
+        (now (positions .exit)) (now (corners .exit)) (now (links .exit)) (now (generations .exit))
+        (now (locks .exit)))) ⌝ }
 {
     let p = work.vertices;
     let f = work.triangles;
@@ -280,6 +284,7 @@ fn face_cut(
     let x = tables::triangle_at(corners, links, generations, t);
     let three = children(x, t, f, p);
     replace(corners, links, generations, t, f, x, three, to_f, to_e);
+    tables::unlock_two(locks, f);
     after
 }
 
@@ -289,16 +294,19 @@ fn rim_cut(
     corners: &mut [u32],
     links: &mut [u32],
     generations: &mut [u8],
+    locks: &mut [u8],
     work: Work,
     t: u32,
 ) -> Work
     requires { ⌜ ((rule : ℕ) ×
-        MaySplit t (workNow rule work (now positions) (now corners) (now links) (now generations)))
+        MaySplit t (workNow rule work (now positions) (now corners) (now links) (now generations) (now locks)))
         × (getD (now generations) t 0 % 2 ≡ 1) ⌝ }
     ensures { λ r. ⌜ ((rule : ℕ) → Hands t (workNow rule work
-        (now (positions .entry)) (now (corners .entry)) (now (links .entry)) (now (generations .entry)))
+        (now (positions .entry)) (now (corners .entry)) (now (links .entry)) (now (generations .entry))
+        (now (locks .entry)))
         (t ∷ (work .triangles + 1) ∷ []) (workNow rule r
-        (now (positions .exit)) (now (corners .exit)) (now (links .exit)) (now (generations .exit)))) ⌝ }
+        (now (positions .exit)) (now (corners .exit)) (now (links .exit)) (now (generations .exit))
+        (now (locks .exit)))) ⌝ }
 {
     let v = work.vertices;
     let w = v + 1;
@@ -318,6 +326,7 @@ fn rim_cut(
     let x = tables::triangle_at(corners, links, generations, t);
     let three = rim_children(x, t, f, v);
     replace(corners, links, generations, t, f, x, three, to_e, to_t);
+    tables::unlock_two(locks, f);
     after
 }
 
@@ -334,10 +343,11 @@ fn settle_three(
     requires { ⌜ TrianglesAgree (now corners) (now links) (now generations) × (t < length (now generations))
         × (f < length (now generations)) × (e < length (now generations)) × (getD (now generations) t 0 < 23)
         × (getD (now generations) f 0 < 23) × (getD (now generations) e 0 < 23) × (work .flips + 3 ≤ 4294967295) ⌝ }
-    ensures { λ r. ⌜ ((rule : ℕ) (positions : List ℤ) →
-        workNow rule r positions (now (corners .exit)) (now (links .exit)) (now (generations .exit))
+    ensures { λ r. ⌜ ((rule : ℕ) (positions : List ℤ) (locks : List ℕ) →
+        workNow rule r positions (now (corners .exit)) (now (links .exit)) (now (generations .exit)) locks
         ≡ settleAll (t ∷ f ∷ e ∷ [])
-        (workNow rule work positions (now (corners .entry)) (now (links .entry)) (now (generations .entry)))) ⌝ }
+        (workNow rule work positions (now (corners .entry)) (now (links .entry)) (now (generations .entry))
+        locks)) ⌝ }
 {
     let one = settle(corners, links, generations, work, t);
     let two = settle(corners, links, generations, one, f);
@@ -356,10 +366,11 @@ fn settle_two(
     requires { ⌜ TrianglesAgree (now corners) (now links) (now generations) × (t < length (now generations))
         × (e < length (now generations)) × (getD (now generations) t 0 < 23) × (getD (now generations) e 0 < 23)
         × (work .flips + 2 ≤ 4294967295) ⌝ }
-    ensures { λ r. ⌜ ((rule : ℕ) (positions : List ℤ) →
-        workNow rule r positions (now (corners .exit)) (now (links .exit)) (now (generations .exit))
+    ensures { λ r. ⌜ ((rule : ℕ) (positions : List ℤ) (locks : List ℕ) →
+        workNow rule r positions (now (corners .exit)) (now (links .exit)) (now (generations .exit)) locks
         ≡ settleAll (t ∷ e ∷ [])
-        (workNow rule work positions (now (corners .entry)) (now (links .entry)) (now (generations .entry)))) ⌝ }
+        (workNow rule work positions (now (corners .entry)) (now (links .entry)) (now (generations .entry))
+        locks)) ⌝ }
 {
     let one = settle(corners, links, generations, work, t);
     settle(corners, links, generations, one, e)
@@ -372,22 +383,25 @@ pub fn split_at(
     corners: &mut [u32],
     links: &mut [u32],
     generations: &mut [u8],
+    locks: &mut [u8],
     work: Work,
     t: u32,
 ) -> Work
     requires { ⌜ ((rule : ℕ) ×
-        MaySplit t (workNow rule work (now positions) (now corners) (now links) (now generations))) ⌝ }
+        MaySplit t (workNow rule work (now positions) (now corners) (now links) (now generations) (now locks))) ⌝ }
     ensures { λ r. ⌜ ((rule : ℕ) →
         workNow rule r (now (positions .exit)) (now (corners .exit)) (now (links .exit)) (now (generations .exit))
+        (now (locks .exit))
         ≡ splitAt t (workNow rule work
-        (now (positions .entry)) (now (corners .entry)) (now (links .entry)) (now (generations .entry)))) ⌝ }
+        (now (positions .entry)) (now (corners .entry)) (now (links .entry)) (now (generations .entry))
+        (now (locks .entry)))) ⌝ }
 {
     let f = work.triangles;
     if tables::generation_at(generations, t) % 2 == 0 {
-        let cut = face_cut(positions, corners, links, generations, work, t);
+        let cut = face_cut(positions, corners, links, generations, locks, work, t);
         settle_three(corners, links, generations, cut, t, f, f + 1)
     } else {
-        let cut = rim_cut(positions, corners, links, generations, work, t);
+        let cut = rim_cut(positions, corners, links, generations, locks, work, t);
         settle_two(corners, links, generations, cut, t, f + 1)
     }
 }
@@ -444,17 +458,19 @@ pub fn refine(
     corners: &mut [u32],
     links: &mut [u32],
     generations: &mut [u8],
+    locks: &mut [u8],
     counts: Counts,
     t: u32,
     chain: Chain,
 ) -> Work
-    requires { ⌜ RefineFound t (meshNow counts (now positions) (now corners) (now links) (now generations))
+    requires { ⌜ RefineFound t (meshNow counts (now positions) (now corners) (now links) (now generations) (now locks))
         × BaseChain (topologyNow counts (now corners) (now links) (now generations)) t chain ⌝ }
     ensures { λ r. ⌜
         workNow (counts .rule) r
-        (now (positions .exit)) (now (corners .exit)) (now (links .exit)) (now (generations .exit))
+        (now (positions .exit)) (now (corners .exit)) (now (links .exit)) (now (generations .exit)) (now (locks .exit))
         ≡ refine t (atFirst (meshNow counts
-        (now (positions .entry)) (now (corners .entry)) (now (links .entry)) (now (generations .entry)))) ⌝ }
+        (now (positions .entry)) (now (corners .entry)) (now (links .entry)) (now (generations .entry))
+        (now (locks .entry)))) ⌝ }
 {
     let slots = chain.slots;
     let mut work = Work {
@@ -466,7 +482,7 @@ pub fn refine(
     let mut left = chain.splits();
     let mut end = chain.end;
     while 0 < left {
-        work = split_at(positions, corners, links, generations, work, end);
+        work = split_at(positions, corners, links, generations, locks, work, end);
         left -= 1;
         if 0 < left {
             end = across_last(links, &slots, left);

@@ -8,14 +8,15 @@ ghost use mathlib.Core.List.{List};
 ghost use mathlib.Core.Path.{_≡_};
 ghost use Prim.Native.Nat.{ℕ, _*_, _≤_};
 ghost use lib.Dec.{eqb};
+ghost use lib.IntN.{ℤ};
 ghost use lib.ListN.{length, getD};
 ghost use Rattle.rules.proofs.Calls.Carried.{StepFound};
 ghost use Rattle.rules.specs.Below.{all};
-ghost use Rattle.rules.specs.Calls.{closedEven, wholeStepRefusal, wholeStepCall};
+ghost use Rattle.rules.specs.Calls.{closedEven, someLocked, wholeStepRefusal, wholeStepCall};
 ghost use Rattle.rules.specs.Sound.{Sound};
 ghost use Rattle.rules.specs.Split.{atFirst};
 ghost use Rattle.rules.specs.Step.{moveVertices, refineFirst, wholeStep};
-ghost use Rattle.rules.specs.Tables.{Mesh, topologyOf, boundary};
+ghost use Rattle.rules.specs.Tables.{Mesh, topologyOf, meshOf, boundary};
 ghost use Rattle.tables.specs.Answers.{workedOutcome};
 ghost use Rattle.tables.specs.Lent.{meshNow};
 ghost use Rattle.split.specs.Made.{workNow};
@@ -71,20 +72,36 @@ fn closed_even(links: &[u32], generations: &[u8], triangles: u32) -> bool
     g % 2 == 0
 }
 
+// Whether some triangle is locked.
+fn some_locked(locks: &[u8], triangles: u32) -> bool
+    requires { ⌜ triangles ≤ length (now locks) ⌝ }
+    ensures { λ r. ⌜ ((v rule : ℕ) (p : List ℤ) (c l g : List ℕ) →
+        r ≡ someLocked (meshOf (topologyOf v triangles c l g) p (now (locks .entry)) rule)) ⌝ }
+{
+    let mut some = false;
+    let mut t: usize = 0;
+    while t < triangles as usize {
+        some = some | (locks[t] == 1);
+        t += 1;
+    }
+    some
+}
+
 // The face split of each triangle, in the order of their slots.
 fn split_all(
     positions: &mut [i32],
     corners: &mut [u32],
     links: &mut [u32],
     generations: &mut [u8],
+    locks: &mut [u8],
     counts: Counts,
 ) -> Work
-    requires { ⌜ StepFound (meshNow counts (now positions) (now corners) (now links) (now generations)) ⌝ }
+    requires { ⌜ StepFound (meshNow counts (now positions) (now corners) (now links) (now generations) (now locks)) ⌝ }
     ensures { λ r. ⌜
         workNow (counts .rule) r
-        (now (positions .exit)) (now (corners .exit)) (now (links .exit)) (now (generations .exit))
+        (now (positions .exit)) (now (corners .exit)) (now (links .exit)) (now (generations .exit)) (now (locks .exit))
         ≡ refineFirst (counts .triangles) (atFirst (meshNow counts (now (positions .entry)) (now (corners .entry))
-        (now (links .entry)) (now (generations .entry)))) ⌝ }
+        (now (links .entry)) (now (generations .entry)) (now (locks .entry)))) ⌝ }
 {
     let f = counts.triangles;
     let mut t: u32 = 0;
@@ -95,7 +112,7 @@ fn split_all(
         flips: 0,
     };
     while t < f {
-        work = split::split_at(positions, corners, links, generations, work, t);
+        work = split::split_at(positions, corners, links, generations, locks, work, t);
         t += 1;
     }
     work
@@ -125,14 +142,15 @@ fn refusal(
     corners: &[u32],
     links: &[u32],
     generations: &[u8],
+    locks: &[u8],
     counts: Counts,
     lengths: &mut [u8],
     sums: &mut [i32],
 ) -> u32
-    requires { ⌜ Sound (meshNow counts (now positions) (now corners) (now links) (now generations))
+    requires { ⌜ Sound (meshNow counts (now positions) (now corners) (now links) (now generations) (now locks))
         × Cleared (counts .vertices) (now lengths) (now sums) ⌝ }
     ensures { λ r. ⌜ (let m = meshNow counts (now (positions .entry)) (now (corners .entry)) (now (links .entry))
-        (now (generations .entry)) in
+        (now (generations .entry)) (now (locks .entry)) in
         (r ≡ wholeStepRefusal m) × (r ≡ 0 → RingSums m (now (lengths .exit)) (now (sums .exit)))) ⌝ }
 {
     let f = counts.triangles;
@@ -144,6 +162,9 @@ fn refusal(
     }
     if !rings::sums::ring_sums(positions, corners, counts, lengths, sums) {
         return 13;
+    }
+    if some_locked(locks, f) {
+        return 19;
     }
     if !tables::has_room(positions, generations, counts, f, 0) {
         return 11;
@@ -157,21 +178,22 @@ fn whole_step(
     corners: &mut [u32],
     links: &mut [u32],
     generations: &mut [u8],
+    locks: &mut [u8],
     counts: Counts,
     lengths: &[u8],
     sums: &[i32],
 ) -> Work
-    requires { ⌜ (let m = meshNow counts (now positions) (now corners) (now links) (now generations) in
+    requires { ⌜ (let m = meshNow counts (now positions) (now corners) (now links) (now generations) (now locks) in
         StepFound m × RingSums m (now lengths) (now sums)) ⌝ }
     ensures { λ r. ⌜
         workNow (counts .rule) r
-        (now (positions .exit)) (now (corners .exit)) (now (links .exit)) (now (generations .exit))
+        (now (positions .exit)) (now (corners .exit)) (now (links .exit)) (now (generations .exit)) (now (locks .exit))
         ≡ wholeStep (meshNow counts (now (positions .entry)) (now (corners .entry)) (now (links .entry))
-        (now (generations .entry))) ⌝ }
+        (now (generations .entry)) (now (locks .entry))) ⌝ }
 {
     let v = counts.vertices;
     let rule = counts.rule;
-    let work = split_all(positions, corners, links, generations, counts);
+    let work = split_all(positions, corners, links, generations, locks, counts);
     move_all(positions, v, rule, lengths, sums);
     work
 }
@@ -182,22 +204,25 @@ fn step_by(
     corners: &mut [u32],
     links: &mut [u32],
     generations: &mut [u8],
+    locks: &mut [u8],
     counts: Counts,
     lengths: &mut [u8],
     sums: &mut [i32],
 ) -> Worked
-    requires { ⌜ Sound (meshNow counts (now positions) (now corners) (now links) (now generations))
+    requires { ⌜ Sound (meshNow counts (now positions) (now corners) (now links) (now generations) (now locks))
         × Cleared (counts .vertices) (now lengths) (now sums) ⌝ }
     ensures { λ r. ⌜
         workedOutcome r (now (positions .exit)) (now (corners .exit)) (now (links .exit)) (now (generations .exit))
+        (now (locks .exit))
         ≡ wholeStepCall (meshNow counts (now (positions .entry)) (now (corners .entry)) (now (links .entry))
-        (now (generations .entry))) ⌝ }
+        (now (generations .entry)) (now (locks .entry))) ⌝ }
 {
     let refusal = refusal(
         positions,
         corners,
         links,
         generations,
+        locks,
         counts,
         lengths,
         sums,
@@ -215,6 +240,7 @@ fn step_by(
         corners,
         links,
         generations,
+        locks,
         counts,
         lengths,
         sums,
@@ -237,14 +263,16 @@ fn step_within_128(
     corners: &mut [u32],
     links: &mut [u32],
     generations: &mut [u8],
+    locks: &mut [u8],
     counts: Counts,
 ) -> Worked
-    requires { ⌜ Sound (meshNow counts (now positions) (now corners) (now links) (now generations))
+    requires { ⌜ Sound (meshNow counts (now positions) (now corners) (now links) (now generations) (now locks))
         × (counts .vertices ≤ 128) ⌝ }
     ensures { λ r. ⌜
         workedOutcome r (now (positions .exit)) (now (corners .exit)) (now (links .exit)) (now (generations .exit))
+        (now (locks .exit))
         ≡ wholeStepCall (meshNow counts (now (positions .entry)) (now (corners .entry)) (now (links .entry))
-        (now (generations .entry))) ⌝ }
+        (now (generations .entry)) (now (locks .entry))) ⌝ }
 {
     let mut lengths = [0u8; 128];
     let mut sums = [0i32; 384];
@@ -253,6 +281,7 @@ fn step_within_128(
         corners,
         links,
         generations,
+        locks,
         counts,
         &mut lengths,
         &mut sums,
@@ -265,14 +294,16 @@ fn step_within_2048(
     corners: &mut [u32],
     links: &mut [u32],
     generations: &mut [u8],
+    locks: &mut [u8],
     counts: Counts,
 ) -> Worked
-    requires { ⌜ Sound (meshNow counts (now positions) (now corners) (now links) (now generations))
+    requires { ⌜ Sound (meshNow counts (now positions) (now corners) (now links) (now generations) (now locks))
         × (counts .vertices ≤ 2048) ⌝ }
     ensures { λ r. ⌜
         workedOutcome r (now (positions .exit)) (now (corners .exit)) (now (links .exit)) (now (generations .exit))
+        (now (locks .exit))
         ≡ wholeStepCall (meshNow counts (now (positions .entry)) (now (corners .entry)) (now (links .entry))
-        (now (generations .entry))) ⌝ }
+        (now (generations .entry)) (now (locks .entry))) ⌝ }
 {
     let mut lengths = [0u8; 2048];
     let mut sums = [0i32; 6144];
@@ -281,6 +312,7 @@ fn step_within_2048(
         corners,
         links,
         generations,
+        locks,
         counts,
         &mut lengths,
         &mut sums,
@@ -293,14 +325,16 @@ fn step_within_32768(
     corners: &mut [u32],
     links: &mut [u32],
     generations: &mut [u8],
+    locks: &mut [u8],
     counts: Counts,
 ) -> Worked
-    requires { ⌜ Sound (meshNow counts (now positions) (now corners) (now links) (now generations))
+    requires { ⌜ Sound (meshNow counts (now positions) (now corners) (now links) (now generations) (now locks))
         × (counts .vertices ≤ 32768) ⌝ }
     ensures { λ r. ⌜
         workedOutcome r (now (positions .exit)) (now (corners .exit)) (now (links .exit)) (now (generations .exit))
+        (now (locks .exit))
         ≡ wholeStepCall (meshNow counts (now (positions .entry)) (now (corners .entry)) (now (links .entry))
-        (now (generations .entry))) ⌝ }
+        (now (generations .entry)) (now (locks .entry))) ⌝ }
 {
     let mut lengths = [0u8; 32768];
     let mut sums = [0i32; 98304];
@@ -309,6 +343,7 @@ fn step_within_32768(
         corners,
         links,
         generations,
+        locks,
         counts,
         &mut lengths,
         &mut sums,
@@ -321,19 +356,21 @@ pub fn smoothing_step(
     corners: &mut [u32],
     links: &mut [u32],
     generations: &mut [u8],
+    locks: &mut [u8],
     counts: Counts,
 ) -> Worked
-    requires { ⌜ Sound (meshNow counts (now positions) (now corners) (now links) (now generations)) ⌝ }
+    requires { ⌜ Sound (meshNow counts (now positions) (now corners) (now links) (now generations) (now locks)) ⌝ }
     ensures { λ r. ⌜
         workedOutcome r (now (positions .exit)) (now (corners .exit)) (now (links .exit)) (now (generations .exit))
+        (now (locks .exit))
         ≡ wholeStepCall (meshNow counts (now (positions .entry)) (now (corners .entry)) (now (links .entry))
-        (now (generations .entry))) ⌝ }
+        (now (generations .entry)) (now (locks .entry))) ⌝ }
 {
     if counts.vertices <= 128 {
-        return step_within_128(positions, corners, links, generations, counts);
+        return step_within_128(positions, corners, links, generations, locks, counts);
     }
     if counts.vertices <= 2048 {
-        return step_within_2048(positions, corners, links, generations, counts);
+        return step_within_2048(positions, corners, links, generations, locks, counts);
     }
-    step_within_32768(positions, corners, links, generations, counts)
+    step_within_32768(positions, corners, links, generations, locks, counts)
 }

@@ -2,7 +2,7 @@
 use tables::Counts;
 ghost use mathlib.Core.List.{List};
 ghost use mathlib.Core.Path.{_≡_};
-ghost use Prim.Native.Nat.{_*_, _≤_};
+ghost use Prim.Native.Nat.{ℕ, _*_, _≤_};
 ghost use lib.IntN.{ℤ};
 ghost use lib.ListN.{length};
 ghost use Rattle.rules.specs.Calls.{limitRefusal, limitCall};
@@ -26,11 +26,12 @@ fn refusal(
     lengths: &mut [u8],
     sums: &mut [i32],
 ) -> u32
-    requires { ⌜ Sound (meshNow counts (now positions) (now corners) (now links) (now generations))
+    requires { ⌜ ((k : List ℕ) × Sound (meshNow counts (now positions) (now corners) (now links) (now generations) k))
         × Cleared (counts .vertices) (now lengths) (now sums) ⌝ }
-    ensures { λ r. ⌜ (let m = meshNow counts (now (positions .entry)) (now (corners .entry)) (now (links .entry))
-        (now (generations .entry)) in
-        ((table : List ℤ) → length table ≡ entries → r ≡ limitRefusal table m)
+    ensures { λ r. ⌜ ((k : List ℕ) →
+        let m = meshNow counts (now (positions .entry)) (now (corners .entry)) (now (links .entry))
+        (now (generations .entry)) k in
+        Sound m → ((table : List ℤ) → length table ≡ entries → r ≡ limitRefusal table m)
         × (r ≡ 0 → RingSums m (now (lengths .exit)) (now (sums .exit)) × (entries ≡ 3 * counts .vertices))) ⌝ }
 {
     if !crate::closed_even(links, generations, counts.triangles) {
@@ -81,11 +82,12 @@ fn limits_by(
     lengths: &mut [u8],
     sums: &mut [i32],
 ) -> u32
-    requires { ⌜ Sound (meshNow counts (now positions) (now corners) (now links) (now generations))
+    requires { ⌜ ((k : List ℕ) × Sound (meshNow counts (now positions) (now corners) (now links) (now generations) k))
         × Cleared (counts .vertices) (now lengths) (now sums) ⌝ }
-    ensures { λ r. ⌜ (let m = meshNow counts (now (positions .entry)) (now (corners .entry)) (now (links .entry))
-        (now (generations .entry)) in
-        tableOutcome r m (now (table .exit)) ≡ limitCall (now (table .entry)) m) ⌝ }
+    ensures { λ r. ⌜ ((k : List ℕ) →
+        let m = meshNow counts (now (positions .entry)) (now (corners .entry)) (now (links .entry))
+        (now (generations .entry)) k in
+        Sound m → tableOutcome r m (now (table .exit)) ≡ limitCall (now (table .entry)) m) ⌝ }
 {
     let refusal = refusal(
         positions,
@@ -120,11 +122,12 @@ fn limits_within_128(
     counts: Counts,
     table: &mut [i32],
 ) -> u32
-    requires { ⌜ Sound (meshNow counts (now positions) (now corners) (now links) (now generations))
+    requires { ⌜ ((k : List ℕ) × Sound (meshNow counts (now positions) (now corners) (now links) (now generations) k))
         × (counts .vertices ≤ 128) ⌝ }
-    ensures { λ r. ⌜ (let m = meshNow counts (now (positions .entry)) (now (corners .entry)) (now (links .entry))
-        (now (generations .entry)) in
-        tableOutcome r m (now (table .exit)) ≡ limitCall (now (table .entry)) m) ⌝ }
+    ensures { λ r. ⌜ ((k : List ℕ) →
+        let m = meshNow counts (now (positions .entry)) (now (corners .entry)) (now (links .entry))
+        (now (generations .entry)) k in
+        Sound m → tableOutcome r m (now (table .exit)) ≡ limitCall (now (table .entry)) m) ⌝ }
 {
     let mut lengths = [0u8; 128];
     let mut sums = [0i32; 384];
@@ -149,11 +152,12 @@ fn limits_within_2048(
     counts: Counts,
     table: &mut [i32],
 ) -> u32
-    requires { ⌜ Sound (meshNow counts (now positions) (now corners) (now links) (now generations))
+    requires { ⌜ ((k : List ℕ) × Sound (meshNow counts (now positions) (now corners) (now links) (now generations) k))
         × (counts .vertices ≤ 2048) ⌝ }
-    ensures { λ r. ⌜ (let m = meshNow counts (now (positions .entry)) (now (corners .entry)) (now (links .entry))
-        (now (generations .entry)) in
-        tableOutcome r m (now (table .exit)) ≡ limitCall (now (table .entry)) m) ⌝ }
+    ensures { λ r. ⌜ ((k : List ℕ) →
+        let m = meshNow counts (now (positions .entry)) (now (corners .entry)) (now (links .entry))
+        (now (generations .entry)) k in
+        Sound m → tableOutcome r m (now (table .exit)) ≡ limitCall (now (table .entry)) m) ⌝ }
 {
     let mut lengths = [0u8; 2048];
     let mut sums = [0i32; 6144];
@@ -178,11 +182,12 @@ fn limits_within_32768(
     counts: Counts,
     table: &mut [i32],
 ) -> u32
-    requires { ⌜ Sound (meshNow counts (now positions) (now corners) (now links) (now generations))
+    requires { ⌜ ((k : List ℕ) × Sound (meshNow counts (now positions) (now corners) (now links) (now generations) k))
         × (counts .vertices ≤ 32768) ⌝ }
-    ensures { λ r. ⌜ (let m = meshNow counts (now (positions .entry)) (now (corners .entry)) (now (links .entry))
-        (now (generations .entry)) in
-        tableOutcome r m (now (table .exit)) ≡ limitCall (now (table .entry)) m) ⌝ }
+    ensures { λ r. ⌜ ((k : List ℕ) →
+        let m = meshNow counts (now (positions .entry)) (now (corners .entry)) (now (links .entry))
+        (now (generations .entry)) k in
+        Sound m → tableOutcome r m (now (table .exit)) ≡ limitCall (now (table .entry)) m) ⌝ }
 {
     let mut lengths = [0u8; 32768];
     let mut sums = [0i32; 98304];
@@ -207,10 +212,12 @@ pub fn limit_positions(
     counts: Counts,
     table: &mut [i32],
 ) -> u32
-    requires { ⌜ Sound (meshNow counts (now positions) (now corners) (now links) (now generations)) ⌝ }
-    ensures { λ r. ⌜ (let m = meshNow counts (now (positions .entry)) (now (corners .entry)) (now (links .entry))
-        (now (generations .entry)) in
-        tableOutcome r m (now (table .exit)) ≡ limitCall (now (table .entry)) m) ⌝ }
+    requires { ⌜ ((k : List ℕ)
+        × Sound (meshNow counts (now positions) (now corners) (now links) (now generations) k)) ⌝ }
+    ensures { λ r. ⌜ ((k : List ℕ) →
+        let m = meshNow counts (now (positions .entry)) (now (corners .entry)) (now (links .entry))
+        (now (generations .entry)) k in
+        Sound m → tableOutcome r m (now (table .exit)) ≡ limitCall (now (table .entry)) m) ⌝ }
 {
     if counts.vertices <= 128 {
         return limits_within_128(positions, corners, links, generations, counts, table);

@@ -8,9 +8,9 @@ use Rattle.tables.specs.Lent.{meshNow}
 use Rattle.tables.specs.declared.Worked.{Worked}
 
 -- Of a call that may change the mesh.
-abbrev pub workedOutcome : Worked → List ℤ → List ℕ → List ℕ → List ℕ → Outcome
-workedOutcome a positions corners links generations =
-    let m = meshNow (a .counts) positions corners links generations in
+abbrev pub workedOutcome : Worked → List ℤ → List ℕ → List ℕ → List ℕ → List ℕ → Outcome
+workedOutcome a positions corners links generations locks =
+    let m = meshNow (a .counts) positions corners links generations locks in
     outcomeOf (answerOf (a .refusal) (a .splits) (a .flips) 0 zeroPoint m) m noRoom
 
 -- Of a call that reads m, refuses with n or with 0, and leaves this table.

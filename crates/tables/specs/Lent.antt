@@ -15,25 +15,27 @@ use Rattle.tables.specs.declared.Triangle.{Triangle}
 abbrev pub topologyNow : Counts → List ℕ → List ℕ → List ℕ → Topology
 topologyNow n corners links generations = topologyOf (n .vertices) (n .triangles) corners links generations
 
-abbrev pub meshNow : Counts → List ℤ → List ℕ → List ℕ → List ℕ → Mesh
-meshNow n positions corners links generations =
-    meshOf (topologyNow n corners links generations) positions (n .rule)
+abbrev pub meshNow : Counts → List ℤ → List ℕ → List ℕ → List ℕ → List ℕ → Mesh
+meshNow n positions corners links generations locks =
+    meshOf (topologyNow n corners links generations) positions locks (n .rule)
 
 -- Spare tables.
-abbrev pub sparesNow : List ℤ → List ℕ → List ℕ → List ℕ → Spares
-sparesNow positions corners links generations = record {
+abbrev pub sparesNow : List ℤ → List ℕ → List ℕ → List ℕ → List ℕ → Spares
+sparesNow positions corners links generations locks = record {
   positions = positions;
   corners = corners;
   links = links;
   generations = generations;
+  locks = locks;
 }
 
 -- Tables with slots for so many vertices and triangles.
-pub record HasSlots (n : Counts) (p : List ℤ) (c l g : List ℕ) : Type 0 where
+pub record HasSlots (n : Counts) (p : List ℤ) (c l g k : List ℕ) : Type 0 where
   pub positions : 3 * n .vertices ≤ length p
   pub corners : 3 * n .triangles ≤ length c
   pub links : 3 * n .triangles ≤ length l
   pub generations : n .triangles ≤ length g
+  pub locks : n .triangles ≤ length k
 
 -- The triangles' tables agree in their slots and keep to the maximum.
 pub record TrianglesAgree (c l g : List ℕ) : Type 0 where

@@ -34,8 +34,8 @@ fn copy_coordinates(from: &[i32], count: usize, to: &mut [i32])
     }
 }
 
-// The same for generations.
-fn copy_generations(from: &[u8], count: usize, to: &mut [u8])
+// The same for generations and for locks.
+fn copy_bytes(from: &[u8], count: usize, to: &mut [u8])
     requires { ⌜ count ≤ length (now from) ⌝ }
     requires { ⌜ count ≤ length (now to) ⌝ }
     ensures { λ _. ⌜ now (to .exit) ≡ fill count (λ i. getD (now (from .entry)) i 0) (now (to .entry)) ⌝ }
@@ -53,27 +53,30 @@ pub fn copy_mesh(
     corners: &[u32],
     links: &[u32],
     generations: &[u8],
+    locks: &[u8],
     counts: Counts,
     spare_positions: &mut [i32],
     spare_corners: &mut [u32],
     spare_links: &mut [u32],
     spare_generations: &mut [u8],
+    spare_locks: &mut [u8],
 )
-    requires { ⌜ HasSlots counts (now positions) (now corners) (now links) (now generations) ⌝ }
+    requires { ⌜ HasSlots counts (now positions) (now corners) (now links) (now generations) (now locks) ⌝ }
     requires { ⌜ HasSlots counts (now «spare_positions») (now «spare_corners») (now «spare_links»)
-        (now «spare_generations») ⌝ }
+        (now «spare_generations») (now «spare_locks») ⌝ }
     ensures { λ _. ⌜
         sparesNow (now («spare_positions» .exit)) (now («spare_corners» .exit)) (now («spare_links» .exit))
-        (now («spare_generations» .exit))
+        (now («spare_generations» .exit)) (now («spare_locks» .exit))
         ≡ copied (meshNow counts (now (positions .entry)) (now (corners .entry)) (now (links .entry))
-        (now (generations .entry)))
+        (now (generations .entry)) (now (locks .entry)))
         (sparesNow (now («spare_positions» .entry)) (now («spare_corners» .entry)) (now («spare_links» .entry))
-        (now («spare_generations» .entry))) ⌝ }
+        (now («spare_generations» .entry)) (now («spare_locks» .entry))) ⌝ }
 {
     let triangles = counts.triangles as usize;
     let sides = 3 * triangles;
     copy_coordinates(positions, 3 * (counts.vertices as usize), spare_positions);
     copy(corners, sides, spare_corners);
     copy(links, sides, spare_links);
-    copy_generations(generations, triangles, spare_generations);
+    copy_bytes(generations, triangles, spare_generations);
+    copy_bytes(locks, triangles, spare_locks);
 }

@@ -2,9 +2,10 @@
 use points::Point;
 ghost use mathlib.Core.List.{List};
 ghost use mathlib.Core.Path.{_≡_};
-ghost use Prim.Native.Nat.{ℕ, _+_, _*_, _/_, _<_};
+ghost use Prim.Native.Nat.{ℕ, _+_, _*_, _/_, _≤_, _<_};
 ghost use lib.ListN.{length, getD};
 ghost use Rattle.rules.specs.Calls.{roomFor};
+ghost use Rattle.rules.specs.Split.{newUnlocked};
 ghost use Rattle.rules.specs.Tables.{putThree, relink};
 ghost use Rattle.tables.specs.declared.Counts.{Counts};
 ghost use Rattle.tables.specs.Lent.{meshNow, topologyNow, TrianglesAgree, VerticesAgree};
@@ -103,6 +104,16 @@ pub fn store(corners: &mut [u32], links: &mut [u32], generations: &mut [u8], t: 
     generations[slot] = x.generation;
 }
 
+// The locks of slot f and the next cleared, which are the new slots of a split.
+pub fn unlock_two(locks: &mut [u8], f: u32)
+    requires { ⌜ f + 2 ≤ length (now locks) ⌝ }
+    ensures { λ r. ⌜ now (locks .exit) ≡ newUnlocked f (now (locks .entry)) ⌝ }
+{
+    let slot = f as usize;
+    locks[slot] = 0;
+    locks[slot + 1] = 0;
+}
+
 // Side h linked to side k. The boundary has no slot, so that nothing is written where h is the boundary.
 pub fn relink(links: &mut [u32], h: u32, k: u32)
     ensures { λ r. ⌜ ((n : Counts) (corners generations : List ℕ) →
@@ -164,9 +175,9 @@ pub fn has_room(
     splits: u32,
     rim: u32,
 ) -> bool
-    ensures { λ r. ⌜ ((corners links : List ℕ) →
+    ensures { λ r. ⌜ ((corners links locks : List ℕ) →
         r ≡ roomFor (splits + rim) (2 * splits)
-        (meshNow counts (now (positions .entry)) corners links (now (generations .entry)))) ⌝ }
+        (meshNow counts (now (positions .entry)) corners links (now (generations .entry)) locks)) ⌝ }
 {
     let vertices = counts.vertices as u64 + (splits as u64 + rim as u64);
     let triangles = counts.triangles as u64 + 2 * (splits as u64);

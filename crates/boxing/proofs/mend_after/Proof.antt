@@ -3,7 +3,8 @@ use borrow.Author.Needs.{needs}
 use mathlib.Core.Path.{subst}
 use Prim.Native.Nat.{ℕ, _≤_}
 use native.Mathlib.Omega.{arith}
-use Rattle.boxing.proofs.Turn.{none-past, marks-right, fit-after, few-odd, near-long}
+use Rattle.refining.proofs.Locking.{few-odd}
+use Rattle.boxing.proofs.Turn.{none-past, marks-right, fit-after, near-long}
 use Rattle.boxing.proofs.mend_after.Statement.{statement}
 use Rattle.boxing.proofs.mend_after.Tie as tie
 

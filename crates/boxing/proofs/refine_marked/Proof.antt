@@ -7,8 +7,9 @@ use Rattle.rules.specs.Boxes.{Box}
 use Rattle.rules.specs.Tables.{Mesh}
 use Rattle.tables.specs.Lent.{meshNow}
 use Rattle.boxing.specs.Boxing.{boxOf, SeenFrom, Refines, Stale, Looks}
+use Rattle.refining.proofs.Locking.{follows}
 use Rattle.refining.proofs.Refusing.{sound-standing}
-use Rattle.boxing.proofs.Turn.{refine-carried, refined-sound, end-used, stale, seen-after, sees-new}
+use Rattle.boxing.proofs.Turn.{refine-carried, refined-sound, stale, seen-after, sees-new}
 use Rattle.boxing.proofs.refine_marked.Statement.{statement}
 use Rattle.boxing.proofs.refine_marked.Tie as tie
 
@@ -16,35 +17,36 @@ abbrev mesh-of : tie.Start → Mesh
 mesh-of c =
     let args = c .args in
     meshNow (args .counts) (args .positions .now) (args .corners .now) (args .links .now) (args .generations .now)
+    (args .locks .now)
 
 base-chain-requires : tie.Need-base-chain-requires
 base-chain-requires c κs =
-    let start = c .before .before .before .before .before .before .before .before in
+    let start = c .before .before .before .before .before .before .before .before .before in
     start .pre .1 .generations (start .args .t) (start .pre .2)
 
 with-neighbours-requires : tie.Need-with-neighbours-requires
 with-neighbours-requires c κs =
     let at-chain = c .before .before in
-    let start = at-chain .before .before .before .before .before .before .before .before .before in
+    let start = at-chain .before .before .before .before .before .before .before .before .before .before in
     let C = at-chain .base-chain .ensures (start .args .counts) (start .args .corners .now) in
-    rw (C .end) (end-used (start .pre .1) (start .pre .2))
+    follows (start .pre .1) (start .pre .2) C .end
 
 refine-requires : tie.Need-refine-requires
 refine-requires c κs =
-    let at-chain = c .before .before .before .before .before .before .before in
-    let start = at-chain .before .before .before .before .before .before .before .before .before in
+    let at-chain = c .before .before .before .before .before .before .before .before in
+    let start = at-chain .before .before .before .before .before .before .before .before .before .before in
     sound-standing (start .pre .1)
 
 -- The refine is carried out, and the marks are not right yet.
 module _ (c : tie.Then1) where
   abbrev at-refine : tie.After-refine
-  at-refine = c .before .before .before .before .before .before .before .before .before
+  at-refine = c .before .before .before .before .before .before .before .before .before .before .before
 
   abbrev at-chain : tie.After-base-chain
-  at-chain = at-refine .before .before .before .before .before .before .before .before
+  at-chain = at-refine .before .before .before .before .before .before .before .before .before
 
   abbrev start : tie.Start
-  start = at-chain .before .before .before .before .before .before .before .before .before
+  start = at-chain .before .before .before .before .before .before .before .before .before .before
 
   abbrev box : Box
   box = boxOf (start .args .low) (start .args .high) (start .args .below)
@@ -53,17 +55,19 @@ module _ (c : tie.Then1) where
   made =
       let last = at-refine .refine .last in
       meshNow (at-refine .refine .result .counts) (last .0) (last .1 .0) (last .1 .1 .0) (last .1 .1 .1 .0)
+      (last .1 .1 .1 .1 .0)
 
   refined : Refines (start .args .t) (mesh-of start) made
   refined = refine-carried (start .args .t) (mesh-of start) (at-refine .refine .ensures) (c .if1 .taken)
 
   not-yet : Stale box (start .args .t) (mesh-of start) made (at-chain .base-chain .result .odd)
-      (at-chain .base-chain .result .slots) (at-refine .before .before .before .before .before .with-neighbours .result)
+      (at-chain .base-chain .result .slots) (at-refine .before .before .before .before .before
+      .before .with-neighbours .result)
       (start .args .bits .now) (start .args .words .now)
   not-yet =
       let n = start .args .counts in
       let k = start .args .corners .now in
-      let near = at-refine .before .before .before .before .before .with-neighbours in
+      let near = at-refine .before .before .before .before .before .before .with-neighbours in
       stale refined (at-chain .base-chain .ensures n k) (near .ensures n k (start .args .generations .now))
       (start .pre .0 .marks)
 
@@ -137,9 +141,15 @@ same-length-10 c = search needs
 same-length-11 : tie.Need-same-length-11
 same-length-11 c = search needs
 
+same-length-12 : tie.Need-same-length-12
+same-length-12 c = search needs
+
+same-length-13 : tie.Need-same-length-13
+same-length-13 c = search needs
+
 returns-2 : tie.Need-returns-2
 returns-2 c =
-    let at-done = c .before .before .before .before .before .before .before .before .before in
+    let at-done = c .before .before .before .before .before .before .before .before .before .before .before in
     (at-done .refine .ensures, λ z. absurd (c .if1 .left z))
 
 pub refine-marked-spec : {M : Type 1} → statement M
@@ -158,9 +168,11 @@ refine-marked-spec =
     same-length-5
     same-length-6
     same-length-7
-    returns
     same-length-8
+    returns
     same-length-9
     same-length-10
     same-length-11
+    same-length-12
+    same-length-13
     returns-2)

@@ -28,18 +28,19 @@ use Rattle.boxing.proofs.refine_wanted.Statement.{statement}
 use Rattle.boxing.proofs.refine_wanted.Tie as tie
 
 abbrev Inv-loop : tie.InvT-loop
-Inv-loop positions₀ corners₀ links₀ generations₀ low high below inside₀ bits₀ words₀ handled₀ splits₀ flips₀ reached₀ t₀
-    positions corners links generations inside bits words handled splits flips reached t =
-    ((m : Mesh) (s : Spares) → Begins m s (m .topology .generations) (meshNow reached₀ positions₀ corners₀ links₀
-    generations₀)
-    → Boxing (boxOf low high below) m s handled splits flips (meshNow reached positions corners links generations))
-    × Marked (boxOf low high below) (meshNow reached positions corners links generations) inside bits words
+Inv-loop positions₀ corners₀ links₀ generations₀ locks₀ low high below inside₀ bits₀ words₀ handled₀ splits₀ flips₀
+    reached₀ t₀ positions corners links generations locks inside bits words handled splits flips reached t =
+    ((m : Mesh) (s : Spares)
+    → Begins m s (m .topology .generations) (meshNow reached₀ positions₀ corners₀ links₀ generations₀ locks₀)
+    → Boxing (boxOf low high below) m s handled splits flips
+    (meshNow reached positions corners links generations locks))
+    × Marked (boxOf low high below) (meshNow reached positions corners links generations locks) inside bits words
     × (t ≡ lowest (64 * length bits) (marked bits))
     × (length inside ≡ length inside₀) × (length bits ≡ length bits₀) × (length words ≡ length words₀)
 
 abbrev μ-loop : tie.MeasureT-loop
-μ-loop positions₀ corners₀ links₀ generations₀ low high below inside₀ bits₀ words₀ handled₀ splits₀ flips₀ reached₀ t₀
-    positions corners links generations inside bits words handled splits flips reached t =
+μ-loop positions₀ corners₀ links₀ generations₀ locks₀ low high below inside₀ bits₀ words₀ handled₀ splits₀ flips₀
+    reached₀ t₀ positions corners links generations locks inside bits words handled splits flips reached t =
     65536 - reached .triangles
 
 -- ---- before the loop
@@ -48,13 +49,14 @@ abbrev first : tie.Start Inv-loop μ-loop → Mesh
 first c =
     let args = c .args in
     meshNow (args .counts) (args .positions .now) (args .corners .now) (args .links .now) (args .generations .now)
+    (args .locks .now)
 
 first-sound : (c : tie.Start Inv-loop μ-loop) → Sound (first c)
 first-sound c = let (m, s, B) = c .pre .0 in begins-sound B
 
 mark-inside-requires : tie.Need-mark-inside-requires Inv-loop μ-loop
 mark-inside-requires c κs =
-    let start = c .before .before .before .before .before .before .before .before in
+    let start = c .before .before .before .before .before .before .before .before .before in
     let U = start .pre .2 in
     let l = first-sound start .vertexRoom in
     (l, omega (arith, U .room), λ v _. U .none v)
@@ -76,7 +78,7 @@ first-looks c A = record {
 mark-from-requires : tie.Need-mark-from-requires Inv-loop μ-loop
 mark-from-requires c κs =
     let at-inside = c .before .before .before .before .before .before .before in
-    let start = at-inside .before .before .before .before .before .before .before .before .before in
+    let start = at-inside .before .before .before .before .before .before .before .before .before .before in
     let U = start .pre .1 in (
       (_, _, first-looks start (at-inside .mark-inside .ensures), unmarked-fit (first start) U, refl),
       λ j l. U .none j,
@@ -86,7 +88,7 @@ lowest-requires : tie.Need-lowest-requires Inv-loop μ-loop
 lowest-requires c κs =
     let at-mark = c .before .before .before .before .before .before in
     let at-inside = at-mark .before .before .before .before .before .before .before .before in
-    let start = at-inside .before .before .before .before .before .before .before .before .before in
+    let start = at-inside .before .before .before .before .before .before .before .before .before .before in
     let A = at-mark .mark-from .ensures _ _ (first-looks start (at-inside .mark-inside .ensures)) refl in
     (A .fit .levels, A .fit .few)
 
@@ -94,7 +96,7 @@ loop-holds : tie.Need-loop-holds Inv-loop μ-loop
 loop-holds c =
     let at-mark = c .before .before .before .before .before .before .before in
     let at-inside = at-mark .before .before .before .before .before .before .before .before in
-    let start = at-inside .before .before .before .before .before .before .before .before .before in
+    let start = at-inside .before .before .before .before .before .before .before .before .before .before in
     let K = first-looks start (at-inside .mark-inside .ensures) in (
       λ m s B. begins-boxing B _,
       record { seen = K .seen; marks = marked-all (at-mark .mark-from .ensures _ _ K refl) },
@@ -108,15 +110,15 @@ loop-holds c =
 
 module _ (c : tie.After-refine-marked Inv-loop μ-loop) where
   abbrev in-loop : tie.Then1 Inv-loop μ-loop
-  in-loop = c .before .before .before .before .before .before .before .before
+  in-loop = c .before .before .before .before .before .before .before .before .before
 
   abbrev at-loop : tie.At-loop Inv-loop μ-loop
   at-loop = in-loop .before .before
 
   abbrev start : tie.Start Inv-loop μ-loop
   start =
-      at-loop .before .before .before .before .before .before .before .before .before .before .before .before .before
-      .before .before .before .before .before .before .before .before .before .before .before .before
+      at-loop .before .before .before .before .before .before .before .before .before .before .before .before
+      .before .before .before .before .before .before .before .before .before .before .before .before .before .before
 
   abbrev box : Box
   box = boxOf (start .args .low) (start .args .high) (start .args .below)
@@ -124,12 +126,13 @@ module _ (c : tie.After-refine-marked Inv-loop μ-loop) where
   abbrev held : Mesh
   held =
       let l = at-loop .loop in
-      meshNow (l .reached) (l .positions) (l .corners) (l .links) (l .generations)
+      meshNow (l .reached) (l .positions) (l .corners) (l .links) (l .generations) (l .locks)
 
   abbrev done : Outcome
   done =
       let last = c .refine-marked .last in
       workedOutcome (c .refine-marked .result) (last .0) (last .1 .0) (last .1 .1 .0) (last .1 .1 .1 .0)
+      (last .1 .1 .1 .1 .0)
 
   held-sound : Sound held
   held-sound = let (m, s, B) = start .pre .0 in holding-sound (at-loop .loop .inv .0 m s B .held)
@@ -170,11 +173,11 @@ module _ (c : tie.After-refine-marked Inv-loop μ-loop) where
 
 refine-marked-requires : tie.Need-refine-marked-requires Inv-loop μ-loop
 refine-marked-requires c κs =
-    let in-loop = c .before .before .before .before .before .before .before in
+    let in-loop = c .before .before .before .before .before .before .before .before in
     let at-loop = in-loop .before .before in
     let at-mark = at-loop .before .before .before .before .before .before .before .before in
     let at-inside = at-mark .before .before .before .before .before .before .before .before in
-    let start = at-inside .before .before .before .before .before .before .before .before .before in
+    let start = at-inside .before .before .before .before .before .before .before .before .before .before in
     let (m, s, B) = start .pre .0 in
     let I = at-loop .loop .inv in
     (I .1, holding-sound (I .0 m s B .held), in-loop .if1 .taken)
@@ -182,13 +185,13 @@ refine-marked-requires c κs =
 -- The turn before a failure, or before the next.
 abbrev failed : tie.Then2 Inv-loop μ-loop → tie.After-refine-marked Inv-loop μ-loop
 failed c =
-    c .before .before .before .before .before .before .before .before .before .before .before .before .before .before
-    .before .before
+    c .before .before .before .before .before .before .before .before .before .before .before .before .before
+    .before .before .before .before .before
 
 abbrev passed : tie.Else2 Inv-loop μ-loop → tie.After-refine-marked Inv-loop μ-loop
 passed c =
-    c .before .before .before .before .before .before .before .before .before .before .before .before .before .before
-    .before .before
+    c .before .before .before .before .before .before .before .before .before .before .before .before .before
+    .before .before .before .before .before
 
 same-length : tie.Need-same-length Inv-loop μ-loop
 same-length c = failed-slots (failed c) (c .if2 .taken) .positions
@@ -203,21 +206,24 @@ same-length-4 : tie.Need-same-length-4 Inv-loop μ-loop
 same-length-4 c = failed-slots (failed c) (c .if2 .taken) .generations
 
 same-length-5 : tie.Need-same-length-5 Inv-loop μ-loop
-same-length-5 c =
+same-length-5 c = failed-slots (failed c) (c .if2 .taken) .locks
+
+same-length-6 : tie.Need-same-length-6 Inv-loop μ-loop
+same-length-6 c =
     let head = at-loop (failed c) in
     let to-inside = head .before .before .before .before .before .before .before .before in
     let at-inside = to-inside .before .before .before .before .before .before .before in
     c .before .before .before .before .before .before .before .before .inside2 .given ∙ head .loop .inv .3
     ∙ at-inside .inside .given
 
-same-length-6 : tie.Need-same-length-6 Inv-loop μ-loop
-same-length-6 c =
+same-length-7 : tie.Need-same-length-7 Inv-loop μ-loop
+same-length-7 c =
     let head = at-loop (failed c) in
     let at-bits = head .before .before .before .before .before .before .before in
     c .before .before .before .before .before .before .bits2 .given ∙ head .loop .inv .4 ∙ at-bits .bits .given
 
-same-length-7 : tie.Need-same-length-7 Inv-loop μ-loop
-same-length-7 c =
+same-length-8 : tie.Need-same-length-8 Inv-loop μ-loop
+same-length-8 c =
     let head = at-loop (failed c) in
     let at-words = head .before .before .before .before .before in
     c .before .before .before .before .words2 .given ∙ head .loop .inv .5 ∙ at-words .words .given
@@ -266,42 +272,45 @@ module _ (c : tie.Else1 Inv-loop μ-loop) where
   abbrev entry : tie.Start Inv-loop μ-loop
   entry =
       last-loop .before .before .before .before .before .before .before .before .before .before .before .before
-      .before .before .before .before .before .before .before .before .before .before .before .before .before
+      .before .before .before .before .before .before .before .before .before .before .before .before .before .before
 
   -- The tables at the end are as long as at the start.
   ended-slots :
       let l = last-loop .loop in
-      SameSlots (first entry) (meshNow (l .reached) (l .positions) (l .corners) (l .links) (l .generations))
+      SameSlots (first entry) (meshNow (l .reached) (l .positions) (l .corners) (l .links) (l .generations) (l .locks))
   ended-slots =
       let (m, s, B) = entry .pre .0 in
       let D = last-loop .loop .inv .0 m s B in
       over-slots s m (D .work .mesh) (B .tables) (D .held .tables)
 
-same-length-8 : tie.Need-same-length-8 Inv-loop μ-loop
-same-length-8 c = ended-slots c .positions
-
 same-length-9 : tie.Need-same-length-9 Inv-loop μ-loop
-same-length-9 c = ended-slots c .corners
+same-length-9 c = ended-slots c .positions
 
 same-length-10 : tie.Need-same-length-10 Inv-loop μ-loop
-same-length-10 c = ended-slots c .links
+same-length-10 c = ended-slots c .corners
 
 same-length-11 : tie.Need-same-length-11 Inv-loop μ-loop
-same-length-11 c = ended-slots c .generations
+same-length-11 c = ended-slots c .links
 
 same-length-12 : tie.Need-same-length-12 Inv-loop μ-loop
-same-length-12 c =
+same-length-12 c = ended-slots c .generations
+
+same-length-13 : tie.Need-same-length-13 Inv-loop μ-loop
+same-length-13 c = ended-slots c .locks
+
+same-length-14 : tie.Need-same-length-14 Inv-loop μ-loop
+same-length-14 c =
     let to-inside = last-loop c .before .before .before .before .before .before .before .before in
     let at-inside = to-inside .before .before .before .before .before .before .before in
     last-loop c .loop .inv .3 ∙ at-inside .inside .given
 
-same-length-13 : tie.Need-same-length-13 Inv-loop μ-loop
-same-length-13 c =
+same-length-15 : tie.Need-same-length-15 Inv-loop μ-loop
+same-length-15 c =
     let at-bits = last-loop c .before .before .before .before .before .before .before in
     last-loop c .loop .inv .4 ∙ at-bits .bits .given
 
-same-length-14 : tie.Need-same-length-14 Inv-loop μ-loop
-same-length-14 c =
+same-length-16 : tie.Need-same-length-16 Inv-loop μ-loop
+same-length-16 c =
     let at-words = last-loop c .before .before .before .before .before in
     last-loop c .loop .inv .5 ∙ at-words .words .given
 
@@ -329,6 +338,7 @@ refine-wanted-spec =
     same-length-5
     same-length-6
     same-length-7
+    same-length-8
     returns
     add-splits
     add-flips
@@ -336,11 +346,12 @@ refine-wanted-spec =
     lowest-requires-2
     loop-less
     loop-again
-    same-length-8
     same-length-9
     same-length-10
     same-length-11
     same-length-12
     same-length-13
     same-length-14
+    same-length-15
+    same-length-16
     returns-2)

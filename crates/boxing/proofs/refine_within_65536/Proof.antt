@@ -17,7 +17,8 @@ slice-aggregate-refine-wanted-3 c = search needs
 
 refine-wanted-requires : tie.Need-refine-wanted-requires
 refine-wanted-requires c κs =
-    let (m, s, B) = c .before .before .before .before .before .before .before .before .before .before .pre in
+    let (m, s, B) = c .before .before .before .before .before .before .before .before .before .before .before
+    .before .pre in
     let A = begins-sound B .tables in (
       (m, s, B),
       none-put 1024 16 (omega (arith, A .fewTriangles)) (omega arith) (omega arith),
@@ -36,6 +37,9 @@ same-length-3 c = search needs
 same-length-4 : tie.Need-same-length-4
 same-length-4 c = search needs
 
+same-length-5 : tie.Need-same-length-5
+same-length-5 c = search needs
+
 returns : tie.Need-returns
 returns c = search needs
 
@@ -51,4 +55,5 @@ refine-within-65536-spec =
     same-length-2
     same-length-3
     same-length-4
+    same-length-5
     returns)

@@ -1,83 +1,20 @@
--- `cage::load_by` meets its contract: a refusal leaves the tables, and else they hold the cage.
+-- `cage::load_by` meets its contract: a refusal leaves the corners and links, and else they are the cage's.
 use borrow.Author.Needs.{needs}
 use native.Mathlib.Omega.{arith}
-use mathlib.Core.Path.{refl, sym, ap, _∙_}
-use Rattle.rules.specs.Cage.{cageOf}
-use Rattle.rules.specs.Tables.{withRule}
-use Rattle.tables.specs.declared.Counts.{Counts}
-use Rattle.cage.proofs.Room.{sized, lent-sized}
+use Rattle.cage.proofs.Sides.{stand, hold}
 use Rattle.cage.proofs.load_by.Statement.{statement}
 use Rattle.cage.proofs.load_by.Tie as tie
 
--- Any counts: what is known of the tables does not depend on them.
-none : Counts
-none = record { vertices = 0; triangles = 0; rule = 1 }
+-- Where the refusal is decided, and the start.
+abbrev decided : tie.Else1 → tie.After-refusal-of
+decided c = c .before .before .before .before .before .before .before .before .before .before .before
 
--- Where the sizes are read, and where the refusal is decided.
-abbrev sizes : tie.After-refusal-of → tie.After-number-at2
-sizes c = c .before .before .before .before .before .before
-
-abbrev start : tie.After-number-at2 → tie.Start
-start c = c .before .before .before .before .before .before .before .before .before .before .before
-
-number-at-requires : tie.Need-number-at-requires
-number-at-requires c κs =
-    let start = c .before .before .before .before .before .before .before .before .before in
-    omega (arith, start .pre .0 none .1 .size)
-
-number-at-requires-2 : tie.Need-number-at-requires-2
-number-at-requires-2 c κs =
-    let start = c .before .before .before .before .before .before .before .before .before .before in
-    omega (arith, start .pre .0 none .1 .size)
+abbrev start : tie.After-refusal-of → tie.Start
+start c =
+    c .before .before .before .before .before .before .before .before .before .before .before .before .before .before
 
 refusal-of-requires : tie.Need-refusal-of-requires
-refusal-of-requires c κs =
-    let at = c .before .before .before .before .before in
-    let pre = start at .pre in
-    let e = at .before .number-at .ensures in
-    let g = at .number-at2 .ensures in
-    let Z = sized e g (pre .0 none .0) (pre .0 none .1) in
-    (Z, rw (← Z .vertices, ← Z .triangles) (pre .1))
-
-returns : tie.Need-returns
-returns c rule known =
-    let at = c .before .before .before .before .before .before .before .before .before .before .before in
-    let pre = start (sizes at) .pre in
-    record {
-      refusal = λ n. at .refusal-of .ensures .0 rule _ known (pre .0 n .0) (pre .0 n .1);
-      sizes = λ e. absurd (c .if1 .taken e);
-      refused = λ _ n. refl;
-      carried = λ e. absurd (c .if1 .taken e);
-    }
-
-write-requires : tie.Need-write-requires
-unfolding cageOf
-write-requires c κs =
-    let at-else = c .before .before .before .before .before .before in
-    let at = at-else .before .before .before .before .before .before .before .before .before .before .before in
-    let pre = start (sizes at) .pre in
-    let A = pre .0 none .0 in
-    let S = pre .0 none .1 in
-    let e = sizes at .before .number-at .ensures in
-    let g = sizes at .number-at2 .ensures in (
-      (sym e, sym g),
-      (omega (arith, e, S .size), (at .refusal-of .ensures .1 (at-else .if1 .left), omega (arith, e, g, A, S))),
-    )
-
-returns-2 : tie.Need-returns-2
-returns-2 c rule known =
-    let at-write = c .before .before .before .before .before .before .before in
-    let at-else = at-write .before .before .before .before .before .before .before in
-    let at = at-else .before .before .before .before .before .before .before .before .before .before .before in
-    let pre = start (sizes at) .pre in
-    record {
-      refusal = λ n. at .refusal-of .ensures .0 rule _ known (pre .0 n .0) (pre .0 n .1);
-      sizes = λ _. omega (arith, pre .0 none .1 .size);
-      refused = λ n. absurd (n (at-else .if1 .left));
-      carried = λ _ n.
-          sym (lent-sized rule _ (sizes at .before .number-at .ensures) (sizes at .number-at2 .ensures))
-          ∙ ap (withRule rule) (at-write .write .ensures n);
-    }
+refusal-of-requires c κs = search needs
 
 same-length : tie.Need-same-length
 same-length c = search needs
@@ -93,6 +30,23 @@ same-length-4 c = search needs
 
 same-length-5 : tie.Need-same-length-5
 same-length-5 c = search needs
+
+returns : tie.Need-returns
+returns c =
+    let at = c .before .before .before .before .before .before .before .before .before .before .before in
+    (at .refusal-of .ensures .0, stand (c .if1 .taken))
+
+mul-sides : tie.Need-mul-sides
+mul-sides c = search needs
+
+copy-requires : tie.Need-copy-requires
+copy-requires c κs = search needs
+
+copy-requires-2 : tie.Need-copy-requires-2
+copy-requires-2 c κs =
+    let at = decided (c .before .before .before .before .before .before .before) in
+    let pre = start at .pre in
+    omega (arith, pre .0 .1 .1, pre .1 .partnerRoom)
 
 same-length-6 : tie.Need-same-length-6
 same-length-6 c = search needs
@@ -115,18 +69,22 @@ same-length-11 c = search needs
 same-length-12 : tie.Need-same-length-12
 same-length-12 c = search needs
 
-same-length-13 : tie.Need-same-length-13
-same-length-13 c = search needs
-
-same-length-14 : tie.Need-same-length-14
-same-length-14 c = search needs
+returns-2 : tie.Need-returns-2
+returns-2 c =
+    let at-copy2 = c .before .before in
+    let at-copy = at-copy2 .before .before .before .before .before in
+    let at-else = at-copy .before .before .before in
+    let at = decided at-else in
+    let zero = at-else .if1 .left in (
+      at .refusal-of .ensures .0,
+      hold _ _ zero (start at .pre .0 .0 .triangles) (at .refusal-of .ensures .1 zero) (at-copy .copy .ensures)
+          (at-copy2 .copy2 .ensures),
+    )
 
 pub load-by-spec : {M : Type 1} → statement M
 load-by-spec =
     tie.close
     (tie.spec
-    number-at-requires
-    number-at-requires-2
     refusal-of-requires
     same-length
     same-length-2
@@ -134,7 +92,9 @@ load-by-spec =
     same-length-4
     same-length-5
     returns
-    write-requires
+    mul-sides
+    copy-requires
+    copy-requires-2
     same-length-6
     same-length-7
     same-length-8
@@ -142,6 +102,4 @@ load-by-spec =
     same-length-10
     same-length-11
     same-length-12
-    same-length-13
-    same-length-14
     returns-2)

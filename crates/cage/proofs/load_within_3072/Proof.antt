@@ -1,6 +1,6 @@
 -- `cage::load_within_3072` meets its contract.
 use borrow.Author.Needs.{needs}
-use Rattle.cage.proofs.Room.{cage-sized, room-within}
+use Rattle.cage.proofs.Room.{room-within}
 use Rattle.cage.proofs.load_within_3072.Statement.{statement}
 use Rattle.cage.proofs.load_within_3072.Tie as tie
 
@@ -21,23 +21,14 @@ slice-aggregate-load-by-5 c = search needs
 
 load-by-requires : tie.Need-load-by-requires
 load-by-requires c κs =
-    let start =
-    c .before .before .before .before .before .before .before .before .before .before .before .before .before in
-    let pre = start .pre in
-    let known = pre .0 (record { vertices = 0; triangles = 0; rule = 1 }) in
-    (pre .0, room-within 3072 (cage-sized (known .0) (known .1)) (pre .1))
+    let pre = c .before .before .before .before .before .before .before .before .before .before .pre in
+    (pre .0, room-within 3072 (pre .0 .0) (pre .1))
 
 same-length : tie.Need-same-length
 same-length c = search needs
 
 same-length-2 : tie.Need-same-length-2
 same-length-2 c = search needs
-
-same-length-3 : tie.Need-same-length-3
-same-length-3 c = search needs
-
-same-length-4 : tie.Need-same-length-4
-same-length-4 c = search needs
 
 returns : tie.Need-returns
 returns c = search needs
@@ -54,6 +45,4 @@ load-within-3072-spec =
     load-by-requires
     same-length
     same-length-2
-    same-length-3
-    same-length-4
     returns)

@@ -1,6 +1,6 @@
 -- `cage::load_within_98304` meets its contract.
 use borrow.Author.Needs.{needs}
-use Rattle.cage.proofs.Room.{cage-sized, greatest-room}
+use Rattle.cage.proofs.Room.{greatest-room}
 use Rattle.cage.proofs.load_within_98304.Statement.{statement}
 use Rattle.cage.proofs.load_within_98304.Tie as tie
 
@@ -30,12 +30,10 @@ slice-aggregate-load-by-5 c = search needs
 
 load-by-requires : tie.Need-load-by-requires
 load-by-requires c κs =
-    let arrays = c .before .before .before .before .before .before .before .before .before .before in
-    let start = arrays .before .before .before .before .before .before in
-    let pre = start .pre in
-    let known = pre (record { vertices = 0; triangles = 0; rule = 1 }) in (
+    let arrays = c .before .before .before .before .before .before .before in
+    let pre = arrays .before .before .before .before .before .before .pre in (
       pre,
-      greatest-room (cage-sized (known .0) (known .1))
+      greatest-room (pre .0)
           (slice-aggregate-load-by (c .before .before .before .before))
           (slice-aggregate-load-by-2 (c .before .before .before))
           (slice-aggregate-load-by-4 (c .before)),
@@ -46,12 +44,6 @@ same-length c = search needs
 
 same-length-2 : tie.Need-same-length-2
 same-length-2 c = search needs
-
-same-length-3 : tie.Need-same-length-3
-same-length-3 c = search needs
-
-same-length-4 : tie.Need-same-length-4
-same-length-4 c = search needs
 
 returns : tie.Need-returns
 returns c = search needs
@@ -71,6 +63,4 @@ load-within-98304-spec =
     load-by-requires
     same-length
     same-length-2
-    same-length-3
-    same-length-4
     returns)

@@ -11,7 +11,7 @@ use Rattle.mesh.proofs.find_ring.Tie as tie
 
 -- The start, from the place after each test, and the mesh there.
 abbrev from-1 : tie.After-tables-agree → tie.Start
-from-1 c = c .before .before .before .before
+from-1 c = c .before .before .before .before .before
 
 abbrev from-2 : tie.After-sound-start → tie.Start
 from-2 c = from-1 (c .before .before)
@@ -23,6 +23,7 @@ abbrev mesh-of : tie.Start → Mesh
 mesh-of c =
     let args = c .args in
     meshNow (args .counts) (args .positions .now) (args .corners .now) (args .links .now) (args .generations .now)
+    (args .locks .now)
 
 agreed : (c : tie.Else1) → tablesAgree (mesh-of (from-1 (c .before))) ≡ true
 agreed c = sym (c .before .tables-agree .ensures _ _ _) ∙ not-false _ (c .if1 .left)

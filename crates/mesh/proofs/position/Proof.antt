@@ -13,28 +13,29 @@ abbrev mesh-of : tie.Start → Mesh
 mesh-of c =
     let args = c .args in
     meshNow (args .counts) (args .positions .now) (args .corners .now) (args .links .now) (args .generations .now)
+    (args .locks .now)
 
-position-refusal-requires : tie.Need-position-refusal-requires
-position-refusal-requires c κs = search needs
+slot-refusal-requires : tie.Need-slot-refusal-requires
+slot-refusal-requires c κs = search needs
 
 returns : tie.Need-returns
 returns c =
-    let start = c .before .before .before .before .before in
-    position-refused (start .args .v) (mesh-of start) _ (c .before .position-refusal .ensures) (c .if1 .taken)
+    let start = c .before .before .before .before .before .before in
+    position-refused (start .args .v) (mesh-of start) _ (c .before .slot-refusal .ensures) (c .if1 .taken)
 
 point-at-requires : tie.Need-point-at-requires
 point-at-requires c κs =
-    let start = c .before .before .before .before .before in
-    let A = position-agrees (start .args .v) (mesh-of start) _ (c .before .position-refusal .ensures) (c .if1 .left) in
+    let start = c .before .before .before .before .before .before in
+    let A = position-agrees (start .args .v) (mesh-of start) _ (c .before .slot-refusal .ensures) (c .if1 .left) in
     record { whole = A .positions; few = A .fewVertices }
 
 returns-2 : tie.Need-returns-2
 returns-2 c =
     let at-if1 = c .before in
-    let start = at-if1 .before .before .before .before .before in
+    let start = at-if1 .before .before .before .before .before .before in
     let m = mesh-of start in
     ap (λ (p : Point). outcomeOf (answerOf 0 0 0 0 (p .x, p .y, p .z) m) m noRoom) (c .point-at .ensures)
-    ∙ position-carried (start .args .v) m _ (at-if1 .before .position-refusal .ensures) (at-if1 .if1 .left)
+    ∙ position-carried (start .args .v) m _ (at-if1 .before .slot-refusal .ensures) (at-if1 .if1 .left)
 
 pub position-spec : {M : Type 1} → statement M
-position-spec = tie.close (tie.spec position-refusal-requires returns point-at-requires returns-2)
+position-spec = tie.close (tie.spec slot-refusal-requires returns point-at-requires returns-2)

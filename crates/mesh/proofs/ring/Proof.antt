@@ -12,9 +12,10 @@ abbrev mesh-of : tie.Start → Mesh
 mesh-of c =
     let args = c .args in
     meshNow (args .counts) (args .positions .now) (args .corners .now) (args .links .now) (args .generations .now)
+    (args .locks .now)
 
 abbrev from : tie.After-find-ring → tie.Start
-from c = c .before .before .before .before .before
+from c = c .before .before .before .before .before .before
 
 find-ring-requires : tie.Need-find-ring-requires
 find-ring-requires c κs = search needs

@@ -35,21 +35,22 @@ all-answered i bytes m now a b e =
     e ∙ ap (λ (k : ℕ). afterRequests k bytes m) q
 
 abbrev Inv-loop : tie.InvT-loop
-Inv-loop positions₀ corners₀ links₀ generations₀ requests at₀ i₀ positions corners links generations at i =
+Inv-loop positions₀ corners₀ links₀ generations₀ locks₀ requests at₀ i₀ positions corners links generations locks at i =
     (i ≤ length requests / 4)
     × (length positions ≡ length positions₀)
     × (length corners ≡ length corners₀)
     × (length links ≡ length links₀)
     × (length generations ≡ length generations₀)
-    × (meshNow at positions corners links generations
-    ≡ afterRequests i requests (meshNow at₀ positions₀ corners₀ links₀ generations₀))
+    × (length locks ≡ length locks₀)
+    × (meshNow at positions corners links generations locks
+    ≡ afterRequests i requests (meshNow at₀ positions₀ corners₀ links₀ generations₀ locks₀))
 
 abbrev μ-loop : tie.MeasureT-loop
-μ-loop positions₀ corners₀ links₀ generations₀ requests at₀ i₀ positions corners links generations at i =
+μ-loop positions₀ corners₀ links₀ generations₀ locks₀ requests at₀ i₀ positions corners links generations locks at i =
     length requests / 4 - i
 
 loop-holds : tie.Need-loop-holds Inv-loop μ-loop
-loop-holds c = (omega arith, refl, refl, refl, refl, none-answered _ _)
+loop-holds c = (omega arith, refl, refl, refl, refl, refl, none-answered _ _)
 
 mul-number-at : tie.Need-mul-number-at Inv-loop μ-loop
 mul-number-at c = omega arith
@@ -64,23 +65,28 @@ print-requires : tie.Need-print-requires Inv-loop μ-loop
 print-requires c κs = tt
 
 add-i : tie.Need-add-i Inv-loop μ-loop
-add-i c = omega arith
+add-i c =
+    let at-refine = c .before .before .before .before .before .before .before .before .before .before in
+    let turn = at-refine .before .before .before .before .before .before .before .before in
+    let start = turn .before .before .before .before .before .before .before in
+    omega (arith, turn .loop-test .taken, start .good)
 
 loop-less : tie.Need-loop-less Inv-loop μ-loop
 loop-less c = omega arith
 
 loop-again : tie.Need-loop-again Inv-loop μ-loop
 loop-again c =
-    let at-refine = c .before .before .before .before .before .before .before .before .before in
+    let at-refine = c .before .before .before .before .before .before .before .before .before .before .before in
     let kept = at-refine .refine .kept in
-    let head = at-refine .before .before .before .before .before .before .before in
+    let head = at-refine .before .before .before .before .before .before .before .before in
     let i = head .loop .inv in (
       omega arith,
       kept .0 ∙ i .1,
       kept .1 .0 ∙ i .2,
       kept .1 .1 .0 ∙ i .3,
       kept .1 .1 .1 .0 ∙ i .4,
-      one-more _ _ _ _ _ _ (at-refine .before .before .before .before .before .number-at .ensures) (i .5)
+      kept .1 .1 .1 .1 .0 ∙ i .5,
+      one-more _ _ _ _ _ _ (at-refine .before .before .before .before .before .before .number-at .ensures) (i .6)
           (ap (λ (o : Outcome). o .mesh) (at-refine .refine .ensures)),
     )
 
@@ -96,8 +102,11 @@ same-length-3 c = c .before .loop .inv .3
 same-length-4 : tie.Need-same-length-4 Inv-loop μ-loop
 same-length-4 c = c .before .loop .inv .4
 
+same-length-5 : tie.Need-same-length-5 Inv-loop μ-loop
+same-length-5 c = c .before .loop .inv .5
+
 returns : tie.Need-returns Inv-loop μ-loop
-returns c = all-answered _ _ _ _ (c .before .loop .inv .0) (c .loop-test .left) (c .before .loop .inv .5)
+returns c = all-answered _ _ _ _ (c .before .loop .inv .0) (c .loop-test .left) (c .before .loop .inv .6)
 
 pub answer-spec : {M : Type 1} → statement M
 answer-spec =
@@ -117,4 +126,5 @@ answer-spec =
     same-length-2
     same-length-3
     same-length-4
+    same-length-5
     returns)

@@ -39,9 +39,12 @@ same-length-3 c = search needs
 same-length-4 : tie.Need-same-length-4
 same-length-4 c = search needs
 
+same-length-5 : tie.Need-same-length-5
+same-length-5 c = search needs
+
 returns : tie.Need-returns
 returns c =
-    let at = c .before .before .before .before .before .before .before in
+    let at = c .before .before .before .before .before .before .before .before .before in
     ap (λ (o : Outcome). o .mesh .rule) (at .load .ensures) ∙ by-one _ _ refl
 
 slice-aggregate-read-full : tie.Need-slice-aggregate-read-full
@@ -62,9 +65,6 @@ slice-aggregate-load-2 c = search needs
 load-requires-2 : tie.Need-load-requires-2
 load-requires-2 c κs = search needs
 
-same-length-5 : tie.Need-same-length-5
-same-length-5 c = search needs
-
 same-length-6 : tie.Need-same-length-6
 same-length-6 c = search needs
 
@@ -74,9 +74,15 @@ same-length-7 c = search needs
 same-length-8 : tie.Need-same-length-8
 same-length-8 c = search needs
 
+same-length-9 : tie.Need-same-length-9
+same-length-9 c = search needs
+
+same-length-10 : tie.Need-same-length-10
+same-length-10 c = search needs
+
 returns-2 : tie.Need-returns-2
 returns-2 c =
-    let at = c .before .before .before .before .before .before .before in
+    let at = c .before .before .before .before .before .before .before .before .before in
     ap (λ (o : Outcome). o .mesh .rule) (at .load2 .ensures) ∙ by-one _ _ refl
 
 pub load-spec : {M : Type 1} → statement M
@@ -90,6 +96,7 @@ load-spec =
     same-length-2
     same-length-3
     same-length-4
+    same-length-5
     returns
     slice-aggregate-read-full
     read-full-requires
@@ -97,8 +104,9 @@ load-spec =
     array-share-prefix-cage
     slice-aggregate-load-2
     load-requires-2
-    same-length-5
     same-length-6
     same-length-7
     same-length-8
+    same-length-9
+    same-length-10
     returns-2)

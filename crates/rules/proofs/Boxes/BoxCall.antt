@@ -20,7 +20,7 @@ use Rattle.rules.proofs.Splits.Bases.{reached}
 use Rattle.rules.specs.Boxes.{Box, refineInBox, boxRefusal, boxCall}
 use Rattle.rules.specs.Calls.{Outcome, spareRoom, refusedWith}
 use Rattle.rules.specs.Conditions.{TooOld, TooFewSlots, BoxFits, Wanted, LowestWanted}
-use Rattle.rules.specs.Conditions.{Turns, RefineFails, old, crowded}
+use Rattle.rules.specs.Conditions.{Turns, RefineFails, old, guarded, crowded}
 use Rattle.rules.specs.Conditions.{TurnFails, SomeTurnFails, Condition, _when_, First, this, later, none}
 use Rattle.rules.specs.Conditions.{boxConditions}
 use Rattle.rules.specs.Lists.{Progress, begun, allOrNothing}
@@ -89,21 +89,27 @@ module _ (b : Box) (m : Mesh) where
         go (whole z nothing) = absurd (n z)
         go (short t N F) = record { turns = all-turns; triangle = t; next = N; fails = F }
 
-    turns-first : First (9 when SomeTurnFails 9 b m ∷ 11 when SomeTurnFails 11 b m ∷ []) (progress .refusal)
+    abbrev turnConditions : List Condition
+    turnConditions =
+        9 when SomeTurnFails 9 b m ∷ 19 when SomeTurnFails 19 b m ∷ 11 when SomeTurnFails 11 b m ∷ []
+
+    turns-first : First turnConditions (progress .refusal)
     turns-first = go (box-run .ends)
       where
         not-with : (n k : ℕ) → progress .refusal ≡ n → n ≢ k → ¬ SomeTurnFails k b m
         not-with n k e d (_, _, F) = d (sym e ∙ sym (fails-same F .1))
 
         at : {t n : ℕ} → RefineFails t (progress .work .mesh) n → progress .refusal ≡ n → SomeTurnFails n b m
-            → First (9 when SomeTurnFails 9 b m ∷ 11 when SomeTurnFails 11 b m ∷ []) n
+            → First turnConditions n
         at (old _) e F = this F
-        at (crowded _ _) e F = later (not-with 11 9 e (λ q. omega arith)) (this F)
+        at (guarded _ _) e F = later (not-with 19 9 e (λ q. omega arith)) (this F)
+        at (crowded _ _ _) e F =
+            later (not-with 11 9 e (λ q. omega arith)) (later (not-with 11 19 e (λ q. omega arith)) (this F))
 
-        go : Ends b progress
-            → First (9 when SomeTurnFails 9 b m ∷ 11 when SomeTurnFails 11 b m ∷ []) (progress .refusal)
+        go : Ends b progress → First turnConditions (progress .refusal)
         go (whole z _) =
-            rw z (later (not-with 0 9 z (λ q. omega arith)) (later (not-with 0 11 z (λ q. omega arith)) none))
+            rw z (later (not-with 0 9 z (λ q. omega arith)) (later (not-with 0 19 z (λ q. omega arith))
+            (later (not-with 0 11 z (λ q. omega arith)) none)))
         go (short t N F) = at F refl (_, _, fails-at (fails-positive F))
 
     box-makes-of : progress .refusal ≡ 0 → BoxMakes b m progress
@@ -115,6 +121,7 @@ module _ (b : Box) (m : Mesh) where
           turns = all-turns;
           noneLeft = go (R .ends);
           triangles = G .triangles;
+          locks = G .places .locks .same;
           splits = omega (arith, R .handled, R .splits);
           still = G .still;
           oldVertices = G .places .old;

@@ -6,7 +6,8 @@ use native.Mathlib.Decide.{ℕ-discrete}
 use native.Mathlib.Omega.{arith}
 use Rattle.rules.proofs.Boxes.Wanting.{Alike, wanted-alike}
 use Rattle.rules.proofs.Calls.Carried.{RefineFound, found-refined}
-use Rattle.rules.proofs.Chains.Altered.{AlteredAt, refine-alters, alters-known}
+use Rattle.rules.proofs.Chains.Altered.{refine-alters}
+use Rattle.rules.proofs.Chains.Altering.{AlteredAt, alters-known}
 use Rattle.rules.specs.Boxes.{Box, wanted}
 use Rattle.rules.specs.Split.{atFirst, refine}
 use Rattle.rules.specs.Tables.{Mesh, generation}

@@ -70,7 +70,7 @@ module _ (b : Box) {m : Mesh} where
             going = R .going;
             made = suc (R .made);
             handled = omega (arith, R .handled);
-            turns = oneTurn (wanted-next b (w .mesh) l) (F .young) f (R .turns);
+            turns = oneTurn (wanted-next b (w .mesh) l) f (R .turns);
             splits = omega (arith, R .splits);
             ends = R .ends;
           }
@@ -152,9 +152,9 @@ pub stops-same : {b : Box} {j k t n : ℕ} {w x : Work} {q : Progress} → Turns
     → RefineFails t (x .mesh) n → Turns b j w (q .work) → Ends b q → (k ≡ j) × (n ≡ q .refusal)
 stops-same noTurn N F noTurn (whole z nothing) = absurd (nothing _ (N .inUse) (N .wanted))
 stops-same noTurn N F noTurn (short t M K) = (refl, fails-once F (fails-of (lowest-same M N) K))
-stops-same noTurn N F (oneTurn M y f U) E = absurd (cannot-fail y f (fails-of (lowest-same N M) F))
-stops-same (oneTurn M y f T) N F noTurn (whole z nothing) = absurd (nothing _ (M .inUse) (M .wanted))
-stops-same (oneTurn M y f T) N F noTurn (short t O K) = absurd (cannot-fail y f (fails-of (lowest-same O M) K))
-stops-same {w = w} (oneTurn M y f T) N F (oneTurn O z g U) E =
+stops-same noTurn N F (oneTurn M f U) E = absurd (cannot-fail f (fails-of (lowest-same N M) F))
+stops-same (oneTurn M f T) N F noTurn (whole z nothing) = absurd (nothing _ (M .inUse) (M .wanted))
+stops-same (oneTurn M f T) N F noTurn (short t O K) = absurd (cannot-fail f (fails-of (lowest-same O M) K))
+stops-same {w = w} (oneTurn M f T) N F (oneTurn O g U) E =
     let S = stops-same T N F (turns-of w (lowest-same O M) U) E in
     (ap suc (S .0), S .1)

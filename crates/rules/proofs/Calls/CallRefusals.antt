@@ -1,7 +1,7 @@
 -- For each call: its refusal is the first of its conditions that holds, and what a call that is carried out has found.
 use mathlib.Core.Path.{_≡_, refl, sym, ap, _∙_, subst}
 use mathlib.Core.Logic.{_≢_}
-use mathlib.Core.Bool.{not}
+use mathlib.Core.Bool.{Bool, not}
 use mathlib.Core.List.{List}
 use Prim.Native.Nat.{ℕ, suc, _+_, _*_, _≤_, _<_, _%_, max, _-_}
 use native.Mathlib.Omega.{arith}
@@ -15,6 +15,7 @@ use Rattle.rules.proofs.Numbers.Decide.{is-any, is-or}
 use Rattle.rules.proofs.Calls.FirstThatHolds.{Judged, first-if, first-unless, judged}
 use Rattle.rules.proofs.Calls.FirstThatHolds.{judged-refusal}
 use Rattle.rules.proofs.Loads.InnerOfTwo.{six-is}
+use Rattle.rules.proofs.Chains.Altering.{alters-locked-is}
 use Rattle.rules.proofs.Chains.Refine.{chain-takes}
 use Rattle.rules.proofs.Soundness.SoundTest.{tables-agree-is, sound-is, known-rule-is}
 use Rattle.rules.specs.Below.{any}
@@ -23,17 +24,18 @@ use Rattle.rules.specs.Calls.{noRoom, ringRoom, tableRoom, limitRefusal,
 use Rattle.rules.specs.Calls.{worked, roomFor, closedEven, loadRefusal}
 use Rattle.rules.specs.Calls.{refineRefusal, wholeStepRefusal, ringRefusal, positionRefusal, loadCall, refineCall}
 use Rattle.rules.specs.Calls.{wholeStepCall, ringRead, ringCall, positionRead, positionCall, verticesOf}
-use Rattle.rules.specs.Calls.{trianglesOf, tooOld}
+use Rattle.rules.specs.Calls.{trianglesOf, tooOld, someLocked, lockRefusal, withLock, lockCall}
 use Rattle.rules.specs.Conditions.{OddInChain, atEven, atBoundary, onward, RoomFor, TooFewSlots}
 use Rattle.rules.specs.Conditions.{ClosedEven, First, none, LongRing, loadConditions, refineConditions}
 use Rattle.rules.specs.Conditions.{wholeStepConditions, limitConditions, ringConditions, positionConditions}
-use Rattle.rules.specs.Conditions.{Takes, evenEnd, boundaryEnd, TooOld, EndsAtBoundary}
+use Rattle.rules.specs.Conditions.{Takes, evenEnd, boundaryEnd, TooOld, EndsAtBoundary, SomeLocked}
+use Rattle.rules.specs.Conditions.{lockConditions}
 use Rattle.rules.specs.Ring.{ring}
 use Rattle.rules.specs.Sound.{Sound}
 use Rattle.rules.specs.Split.{atFirst, refine}
 use Rattle.rules.specs.Step.{wholeStep}
 use Rattle.rules.specs.Tables.{Topology, Mesh, sides, boundary, link, generation, vertexSlots, triangleSlots}
-use Rattle.rules.specs.Tables.{withRule}
+use Rattle.rules.specs.Tables.{lock, locked, withRule}
 
 -- ---- tests
 
@@ -103,6 +105,12 @@ too-few-is t m S u =
     same {q = q} {s′ = s′} (a, b) R =
         subst (λ (j : ℕ). RoomFor (s′ + j) (2 * s′) m) b (subst (λ (j : ℕ). RoomFor (j + q) (2 * j) m) a R)
 
+pub some-locked-is : (m : Mesh) → Decides (someLocked m) (SomeLocked m)
+unfolding someLocked
+some-locked-is m =
+    is-iff (λ (x, l, e). (x, (l, e))) (λ (x, (l, e)). (x, l, e))
+    (is-any (m .topology .triangles) (locked m) (λ x. lock m x ≡ 1) (λ x. is-eq (lock m x) 1))
+
 pub long-ring-is : (m : Topology) → Decides (any (m .vertices) (λ v. ltb 12 (length (ring m v)))) (LongRing m)
 long-ring-is m =
     is-any (m .vertices) (λ v. ltb 12 (length (ring m v))) (λ v. 12 < length (ring m v))
@@ -130,7 +138,9 @@ refine-refusal-first t m =
     first-unless 7 (sound-is m) (λ S.
     first-if 8 (unused-is t (m .topology .triangles)) (λ u.
     first-if 9 (too-old-is (m .topology) t) (λ _.
-    first-if 11 (too-few-is t m S (stable (is-lt t (m .topology .triangles)) u)) (λ _. none)))))
+    let l = stable (is-lt t (m .topology .triangles)) u in
+    first-if 19 (alters-locked-is t m S l) (λ _.
+    first-if 11 (too-few-is t m S l) (λ _. none))))))
 
 pub whole-step-refusal-first : (m : Mesh) → First (wholeStepConditions m) (wholeStepRefusal m)
 unfolding wholeStepRefusal
@@ -140,7 +150,14 @@ whole-step-refusal-first m =
     first-unless 12 (closed-even-is (m .topology) (S .someTriangle)) (λ _.
     first-if 9 (is-eq (generation (m .topology) 0) 20) (λ _.
     first-if 13 (long-ring-is (m .topology)) (λ _.
-    first-unless 11 (room-is (m .topology .triangles) (2 * m .topology .triangles) m) (λ _. none))))))
+    first-if 19 (some-locked-is m) (λ _.
+    first-unless 11 (room-is (m .topology .triangles) (2 * m .topology .triangles) m) (λ _. none)))))))
+
+pub lock-refusal-first : (t : ℕ) (m : Mesh) → First (lockConditions t m) (lockRefusal t m)
+unfolding lockRefusal
+lock-refusal-first t m =
+    first-unless 1 (tables-agree-is m)
+    (λ A. first-unless 7 (sound-is m) (λ S. first-if 8 (unused-is t (m .topology .triangles)) (λ _. none)))
 
 pub limit-refusal-first : (table : List ℤ) (m : Mesh) → First (limitConditions table m) (limitRefusal table m)
 unfolding limitRefusal
@@ -184,6 +201,11 @@ pub whole-step-judged : (m : Mesh) → Judged (wholeStepRefusal m) m noRoom (wor
 unfolding wholeStepCall
 whole-step-judged m = judged (wholeStepRefusal m) m noRoom (worked (wholeStep m))
 
+pub lock-judged : (on : Bool) (t : ℕ) (m : Mesh)
+    → Judged (lockRefusal t m) m noRoom (worked (atFirst (withLock on t m))) (lockCall on t m)
+unfolding lockCall
+lock-judged on t m = judged (lockRefusal t m) m noRoom (worked (atFirst (withLock on t m)))
+
 pub limit-judged : (table : List ℤ) (m : Mesh)
     → Judged (limitRefusal table m) m (tableRoom table) (limitRead table m) (limitCall table m)
 unfolding limitCall
@@ -209,6 +231,9 @@ refine-refusal t m = rw (judged-refusal refl (refine-judged t m)) (refine-refusa
 
 pub whole-step-refusal : (m : Mesh) → First (wholeStepConditions m) (wholeStepCall m .answer .refusal)
 whole-step-refusal m = rw (judged-refusal refl (whole-step-judged m)) (whole-step-refusal-first m)
+
+pub lock-refusal : (on : Bool) (t : ℕ) (m : Mesh) → First (lockConditions t m) (lockCall on t m .answer .refusal)
+lock-refusal on t m = rw (judged-refusal refl (lock-judged on t m)) (lock-refusal-first t m)
 
 pub limit-refusal : (table : List ℤ) (m : Mesh) → First (limitConditions table m) (limitCall table m .answer .refusal)
 limit-refusal table m = rw (judged-refusal refl (limit-judged table m)) (limit-refusal-first table m)

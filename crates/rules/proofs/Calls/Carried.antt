@@ -1,31 +1,37 @@
 -- What a call that is carried out has found, and what it makes of the mesh.
 use mathlib.Core.Path.{_≡_, refl, _∙_}
 use mathlib.Core.Logic.{_≢_, inl, inr}
+use mathlib.Core.Bool.{Bool, true, false}
 use mathlib.Core.List.{List}
-use Prim.Native.Nat.{ℕ, _*_, _<_}
+use Prim.Native.Nat.{ℕ, _*_, _<_, _≤_}
+use native.Mathlib.Decide.{ℕ-discrete}
 use native.Mathlib.Omega.{arith}
+use lib.ListN.{length, length-set}
+use lib.Seq.{getD-set-same, getD-set-other}
 use Rattle.rules.proofs.Loads.CageTests.{sizes-fit-is, corners-fit-is, coordinates-fit-is, sides-differ-is}
 use Rattle.rules.proofs.Calls.CallRefusals.{room-is, closed-even-is}
 use Rattle.rules.proofs.Calls.CallRefusals.{load-refusal-first}
-use Rattle.rules.proofs.Calls.CallRefusals.{refine-refusal-first, whole-step-refusal-first}
+use Rattle.rules.proofs.Calls.CallRefusals.{refine-refusal-first, whole-step-refusal-first, lock-refusal-first}
 use Rattle.rules.proofs.Numbers.Decide.{is-lt, stable}
 use Rattle.rules.proofs.Calls.FirstThatHolds.{none-hold}
 use Rattle.rules.proofs.Loads.Load.{fans-fit-is}
 use Rattle.rules.proofs.Chains.Refine.{Refined, refine-refined, chain-takes}
+use Rattle.rules.proofs.Soundness.Relaxed.{sound-manifold, sound-bases, manifold-sound, agree-on}
 use Rattle.rules.proofs.Soundness.SoundTest.{tables-agree-is, sound-is, known-rule-is}
 use Rattle.rules.proofs.Steps.WholeStep.{step-makes}
 use Rattle.rules.specs.Cage.{Cage, cageOf}
 use Rattle.rules.specs.Calls.{splitsOf, loadRefusal, refineRefusal, wholeStepRefusal, rimSplitsOf, verticesOf}
-use Rattle.rules.specs.Calls.{trianglesOf}
+use Rattle.rules.specs.Calls.{trianglesOf, lockRefusal, withLock}
 use Rattle.rules.specs.Conditions.{SizesFit, CornersFit, RoomFor, ClosedEven, CoordinatesFit, SidesDiffer}
-use Rattle.rules.specs.Conditions.{FansFit, SomeInnerOfTwo, TooOld, TooFewSlots, RefineFails, old, crowded}
+use Rattle.rules.specs.Conditions.{FansFit, SomeInnerOfTwo, TooOld, AltersLocked, TooFewSlots, RefineFails, old}
+use Rattle.rules.specs.Conditions.{guarded, crowded, MayRefine}
 use Rattle.rules.specs.Conditions.{First, this, later, none, refineConditions}
 use Rattle.rules.specs.Numbers.{KnownRule}
-use Rattle.rules.specs.Promises.{StepMakes}
+use Rattle.rules.specs.Promises.{StepMakes, LockMakes}
 use Rattle.rules.specs.Sound.{Sound}
 use Rattle.rules.specs.Split.{atFirst, refine}
 use Rattle.rules.specs.Step.{wholeStep}
-use Rattle.rules.specs.Tables.{Mesh, TablesAgree, generation}
+use Rattle.rules.specs.Tables.{Mesh, TablesAgree, generation, lock}
 
 -- ---- load
 
@@ -77,13 +83,17 @@ may-refine {t} {m} S u y f = record {
 
 pub refine-found : (t : ℕ) (m : Mesh) → refineRefusal t m ≡ 0 → RefineFound t m
 refine-found t m z =
-    let (_, (s, (i, (n, (r, _))))) = none-hold (refine-refusal-first t m) z tt in
+    let (_, (s, (i, (n, (_, (r, _)))))) = none-hold (refine-refusal-first t m) z tt in
     may-refine (stable (sound-is m) s) (stable (is-lt t (m .topology .triangles)) i) n r
+
+-- It splits and flips no locked triangle.
+pub refine-unlocked : (t : ℕ) (m : Mesh) → refineRefusal t m ≡ 0 → ¬ AltersLocked t m
+refine-unlocked t m z = let (_, (_, (_, (_, (l, _))))) = none-hold (refine-refusal-first t m) z tt in l
 
 -- A triangle in use of a sound mesh: its refine fails with n, or n is 0 and it may be refined.
 pub data Tried (t : ℕ) (m : Mesh) : ℕ → Type 0 where
   cannot : {n : ℕ} → RefineFails t m n → Tried t m n
-  can : ¬ TooFewSlots t m → RefineFound t m → Tried t m 0
+  can : MayRefine t m → RefineFound t m → Tried t m 0
 
 pub refine-tried : (t : ℕ) (m : Mesh) → Sound m → t < m .topology .triangles → Tried t m (refineRefusal t m)
 refine-tried t m S u = go refl (refine-refusal-first t m)
@@ -93,24 +103,33 @@ refine-tried t m S u = go refl (refine-refusal-first t m)
     go e (later _ (this p)) = absurd (p S)
     go e (later _ (later _ (this p))) = absurd (p u)
     go e (later _ (later _ (later _ (this p)))) = cannot (old p)
-    go e (later _ (later _ (later _ (later o (this p))))) = cannot (crowded o p)
-    go e (later _ (later _ (later _ (later o (later f none))))) = can f (refine-found t m e)
+    go e (later _ (later _ (later _ (later o (this p))))) = cannot (guarded o p)
+    go e (later _ (later _ (later _ (later o (later l (this p)))))) = cannot (crowded o l p)
+    go e (later _ (later _ (later _ (later o (later l (later f none)))))) =
+        can (record { young = o; unlocked = l; room = f }) (refine-found t m e)
 
 -- It fails with one number, which is not 0.
 pub fails-once : {t n k : ℕ} {m : Mesh} → RefineFails t m n → RefineFails t m k → n ≡ k
 fails-once (old o) (old p) = refl
-fails-once (old o) (crowded y f) = absurd (y o)
-fails-once (crowded y f) (old o) = absurd (y o)
-fails-once (crowded y f) (crowded z g) = refl
+fails-once (old o) (guarded y l) = absurd (y o)
+fails-once (old o) (crowded y n f) = absurd (y o)
+fails-once (guarded y l) (old o) = absurd (y o)
+fails-once (guarded y l) (guarded z k) = refl
+fails-once (guarded y l) (crowded z n f) = absurd (n l)
+fails-once (crowded y n f) (old o) = absurd (y o)
+fails-once (crowded y n f) (guarded z l) = absurd (n l)
+fails-once (crowded y n f) (crowded z k g) = refl
 
 pub fails-positive : {t n : ℕ} {m : Mesh} → RefineFails t m n → n ≢ 0
 fails-positive (old o) = λ z. omega arith
-fails-positive (crowded y f) = λ z. omega arith
+fails-positive (guarded y l) = λ z. omega arith
+fails-positive (crowded y n f) = λ z. omega arith
 
 -- What may be refined does not fail.
-pub cannot-fail : {t n : ℕ} {m : Mesh} → ¬ TooOld (m .topology) t → ¬ TooFewSlots t m → ¬ RefineFails t m n
-cannot-fail y f (old o) = y o
-cannot-fail y f (crowded _ g) = f g
+pub cannot-fail : {t n : ℕ} {m : Mesh} → MayRefine t m → ¬ RefineFails t m n
+cannot-fail M (old o) = M .young o
+cannot-fail M (guarded _ l) = M .unlocked l
+cannot-fail M (crowded _ _ f) = M .room f
 
 -- Its generation is below 20.
 pub found-young : {t : ℕ} {m : Mesh} → RefineFound t m → generation (m .topology) t < 20
@@ -132,7 +151,7 @@ pub record StepFound (m : Mesh) : Type 0 where
 
 pub step-found : (m : Mesh) → wholeStepRefusal m ≡ 0 → StepFound m
 step-found m z =
-    let (_, (s, (c, (n, (_, (r, _)))))) = none-hold (whole-step-refusal-first m) z tt in
+    let (_, (s, (c, (n, (_, (_, (r, _))))))) = none-hold (whole-step-refusal-first m) z tt in
     let S = stable (sound-is m) s in
     let C = stable (closed-even-is (m .topology) (S .someTriangle)) c in
     record {
@@ -144,3 +163,56 @@ step-found m z =
 
 pub found-step : {m : Mesh} (F : StepFound m) → StepMakes (F .closed .common) m (wholeStep m)
 found-step {m} F = step-makes m (F .sound) (F .closed) (F .young) (F .room)
+
+-- ---- locks
+
+pub record LockFound (t : ℕ) (m : Mesh) : Type 0 where
+  pub sound : Sound m
+  pub inUse : t < m .topology .triangles
+
+pub lock-found : (t : ℕ) (m : Mesh) → lockRefusal t m ≡ 0 → LockFound t m
+lock-found t m z =
+    let (_, (s, (i, _))) = none-hold (lock-refusal-first t m) z tt in
+    record { sound = stable (sound-is m) s; inUse = stable (is-lt t (m .topology .triangles)) i }
+
+pub found-locked : (on : Bool) {t : ℕ} {m : Mesh} → LockFound t m → LockMakes on t m (withLock on t m)
+found-locked on {t} {m} F = record {
+  sound =
+      manifold-sound n
+      (agree-on (S .tables)
+      (record { positions = refl; corners = refl; links = refl; generations = refl; locks = size }))
+      (sound-manifold S) (sound-bases S) (S .someVertex) (S .someTriangle) (S .vertexRoom) (S .generations) (S .range)
+      (λ x l. fits x l (ℕ-discrete x t)) (S .rule);
+  this = this;
+  others = others;
+  size = size;
+  topology = refl;
+  positions = refl;
+  rule = refl;
+}
+  where
+    S : Sound m
+    S = F .sound
+
+    n : Mesh
+    n = withLock on t m
+
+    value : ℕ
+    value = elim on [ true ↦ 1 | false ↦ 0 ]
+
+    size : length (n .locks) ≡ length (m .locks)
+    size = length-set (m .locks) t value
+
+    this : lock n t ≡ value
+    this = getD-set-same (m .locks) t value 0 (omega (arith, F .inUse, S .triangleRoom, S .tables .locks))
+
+    others : (x : ℕ) → x ≢ t → lock n x ≡ lock m x
+    others x e = getD-set-other (m .locks) t x value 0 e
+
+    low : (b : Bool) → _≤_ (elim b [ true ↦ 1 | false ↦ 0 ]) 1
+    low true = omega arith
+    low false = omega arith
+
+    fits : (x : ℕ) → x < m .topology .triangles → Dec (x ≡ t) → lock n x ≤ 1
+    fits x l (yes e) = rw (e, this) (low on)
+    fits x l (no e) = omega (arith, others x e, S .locks x l)

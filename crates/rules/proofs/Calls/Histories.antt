@@ -1,7 +1,7 @@
 -- Every history: what each call keeps, and so what holds after every list of calls.
 use mathlib.Core.Path.{_≡_, refl, sym, _∙_, subst}
 use mathlib.Core.Logic.{inl, inr}
-use mathlib.Core.Bool.{true, false}
+use mathlib.Core.Bool.{Bool, true, false}
 use mathlib.Core.List.{List, [], _∷_}
 use Prim.Native.Nat.{ℕ, _+_, _*_, _/_, _%_, _≤_, min, _-_, max}
 use native.Mathlib.Omega.{arith}
@@ -10,13 +10,12 @@ use borrow.Author.Tests.{ne-eqb}
 use Rattle.rules.proofs.Splits.Bases.{reached}
 use Rattle.rules.proofs.Loads.CageEdges.{load-characteristic}
 use Rattle.rules.proofs.Boxes.BoxCall.{box-keeps}
-use Rattle.rules.proofs.Calls.CallRefusals.{load-judged, refine-judged, whole-step-judged}
+use Rattle.rules.proofs.Calls.CallRefusals.{load-judged, refine-judged, whole-step-judged, lock-judged}
 use Rattle.rules.proofs.Calls.EveryCall.{question-stands}
 use Rattle.rules.proofs.Chains.Going.{Going, going-begins, going-on, same-characteristic}
 use Rattle.rules.proofs.Lists.ListCall.{list-keeps}
 use Rattle.rules.proofs.Calls.Carried.{LoadFound, RefineFound, load-found, refine-found, found-refined}
-use Rattle.rules.proofs.Calls.Carried.{step-found}
-use Rattle.rules.proofs.Calls.Carried.{found-step}
+use Rattle.rules.proofs.Calls.Carried.{step-found, found-step, LockFound, lock-found, found-locked}
 use Rattle.rules.proofs.Calls.FirstThatHolds.{Judged, carried, refused, judged-carried}
 use Rattle.rules.proofs.Loads.InnerOfTwo.{same-two}
 use Rattle.rules.proofs.Loads.Load.{load-sound}
@@ -25,11 +24,11 @@ use Rattle.rules.proofs.Chains.Refine.{chain-bound, chain-takes}
 use Rattle.rules.proofs.Soundness.Relaxed.{sound-manifold}
 use Rattle.rules.proofs.Splits.Parts.{mutual-links}
 use Rattle.rules.specs.Cage.{cageOf, loaded}
-use Rattle.rules.specs.Calls.{Room, noRoom, Outcome, worked, loadRefusal, refineCall, rimSplitsOf}
+use Rattle.rules.specs.Calls.{Room, noRoom, Outcome, worked, loadRefusal, refineCall, rimSplitsOf, withLock}
 use Rattle.rules.specs.Conditions.{OddInChain, atEven, atBoundary, onward, EndsAtBoundary, Takes, evenEnd}
 use Rattle.rules.specs.Conditions.{boundaryEnd, SizesFit, SomeInnerOfTwo}
-use Rattle.rules.specs.History.{Near, ReportsSplits, Kept, loads, refines, steps, refinesEach, refinesInBox, Call}
-use Rattle.rules.specs.History.{changes, asks}
+use Rattle.rules.specs.History.{Near, ReportsSplits, Kept, loads, refines, steps, refinesEach, refinesInBox}
+use Rattle.rules.specs.History.{setsLock, Call, changes, asks}
 use Rattle.rules.specs.History.{LastLoad, nothing, cage, outcome, after, opens, lastLoad, edges, characteristic}
 use Rattle.rules.specs.History.{cageCharacteristic, EveryHistory}
 use Rattle.rules.specs.Promises.{StepMakes}
@@ -76,15 +75,18 @@ step-stays {m = m} {w = w} P =
     let c : reached w .triangles ≡ f + 2 * f = omega (arith, P .triangles) in
     record { sound = P .sound; euler = same-characteristic v e f f 0 a b c }
 
+lock-stays : (on : Bool) (t : ℕ) (m : Mesh) → LockFound t m → Stays m (withLock on t m)
+lock-stays on t m F = record { sound = found-locked on F .sound; euler = refl }
+
 holds-on : {m n : Mesh} (o : LastLoad) → Stays m n → Holds o m → Holds o n
 holds-on nothing S h = tt
 holds-on (cage bytes) S h = record { sound = S .sound; euler = S .euler ∙ h .euler; noneOfTwo = h .noneOfTwo }
 
 -- A call that is refused leaves the mesh, and one that is carried out makes one that stays.
-judged-keeps : {n : ℕ} {m : Mesh} {room : Room} {success o : Outcome} (a : LastLoad) → Judged n m room success o
-    → (n ≡ 0 → Holds a m → Holds a (success .mesh)) → Holds a m → Holds a (o .mesh)
-judged-keeps a (carried z) f h = f z h
-judged-keeps a (refused z) f h = h
+judged-keeps : {n : ℕ} {m : Mesh} {room : Room} {success o : Outcome} (P : Mesh → Type 0) → Judged n m room success o
+    → (n ≡ 0 → P m → P (success .mesh)) → P m → P (o .mesh)
+judged-keeps P (carried z) f h = f z h
+judged-keeps P (refused z) f h = h
 
 -- ---- load
 
@@ -112,12 +114,16 @@ pub keeps : (c : Call) (m : Mesh) → Keeps c m
 keeps (changes (loads rule bytes)) m = record { holds = λ a. load-holds rule bytes m a (load-judged rule bytes m) }
 keeps (changes (refines t)) m = record {
   holds = λ a.
-      judged-keeps a (refine-judged t m) (λ z.
+      judged-keeps (Holds a) (refine-judged t m) (λ z.
       let F = refine-found t m z in
       holds-on a (going-stays (going-on (going-begins (F .sound)) F)));
 }
 keeps (changes steps) m = record {
-  holds = λ a. judged-keeps a (whole-step-judged m) (λ z. holds-on a (step-stays (found-step (step-found m z))));
+  holds = λ a.
+      judged-keeps (Holds a) (whole-step-judged m) (λ z. holds-on a (step-stays (found-step (step-found m z))));
+}
+keeps (changes (setsLock on t)) m = record {
+  holds = λ a. judged-keeps (Holds a) (lock-judged on t m) (λ z. holds-on a (lock-stays on t m (lock-found t m z)));
 }
 keeps (changes (refinesEach list spares)) m = record {
   holds = λ a h. list-keeps list spares m (Holds a) h (λ G. holds-on a (going-stays G) h);
@@ -131,6 +137,27 @@ history-holds : (calls : List Call) (m : Mesh) (o : LastLoad) → Holds o m → 
 unfolding lastLoad after
 history-holds [] m o h = h
 history-holds (c ∷ cs) m o h = history-holds cs (outcome c m .mesh) (opens c m o) (keeps c m .holds o h)
+
+-- ---- soundness alone
+
+call-keeps-sound : (c : Call) (m : Mesh) → Sound m → Sound (outcome c m .mesh)
+call-keeps-sound (changes (loads rule bytes)) m =
+    judged-keeps Sound (load-judged rule bytes m) (λ z _.
+    loaded-good rule bytes m (load-found rule bytes m z) .sound)
+call-keeps-sound (changes (refines t)) m =
+    judged-keeps Sound (refine-judged t m) (λ z _. found-refined (refine-found t m z) .sound)
+call-keeps-sound (changes steps) m =
+    judged-keeps Sound (whole-step-judged m) (λ z _. found-step (step-found m z) .sound)
+call-keeps-sound (changes (setsLock on t)) m =
+    judged-keeps Sound (lock-judged on t m) (λ z _. found-locked on (lock-found t m z) .sound)
+call-keeps-sound (changes (refinesEach list spares)) m = λ S. list-keeps list spares m Sound S (λ G. G .sound)
+call-keeps-sound (changes (refinesInBox b spares)) m = λ S. box-keeps b spares m Sound S (λ G. G .sound)
+call-keeps-sound (asks q) m = subst Sound (sym (question-stands q m))
+
+pub history-keeps-sound : (calls : List Call) (m : Mesh) → Sound m → Sound (after calls m)
+unfolding after
+history-keeps-sound [] m S = S
+history-keeps-sound (c ∷ cs) m S = history-keeps-sound cs (outcome c m .mesh) (call-keeps-sound c m S)
 
 -- ---- what the customer asked for
 

@@ -1,5 +1,6 @@
 -- What each call that is carried out makes.
 use mathlib.Core.Path.{_≡_, refl, sym, subst}
+use mathlib.Core.Bool.{Bool}
 use mathlib.Core.Logic.{_≢_}
 use mathlib.Core.List.{List}
 use Prim.Native.Nat.{ℕ, _*_, _%_, _<_}
@@ -9,10 +10,13 @@ use lib.ListN.{length}
 use Rattle.rules.proofs.Loads.CageEdges.{load-edges}
 use Rattle.rules.proofs.Calls.CallRefusals.{load-judged, refine-judged, whole-step-judged, ring-judged}
 use Rattle.rules.proofs.Calls.CallRefusals.{position-judged, limit-judged, limit-refusal-first, closed-even-is}
+use Rattle.rules.proofs.Calls.CallRefusals.{lock-judged}
 use Rattle.rules.proofs.Calls.Carried.{load-found, refine-found, found-refined, step-found, found-step}
+use Rattle.rules.proofs.Calls.Carried.{lock-found, found-locked}
 use Rattle.rules.proofs.Chains.Chain.{falls}
 use Rattle.rules.proofs.Calls.FirstThatHolds.{judged-carried, none-hold}
 use Rattle.rules.proofs.Numbers.Decide.{is-eq, stable}
+use Rattle.rules.proofs.Numbers.Fill.{drop-fill}
 use Rattle.rules.proofs.Soundness.SoundTest.{sound-is}
 use Rattle.rules.proofs.Steps.Limits.{limits-made}
 use Rattle.rules.proofs.Calls.Histories.{found-refines}
@@ -22,8 +26,8 @@ use Rattle.rules.proofs.Loads.Load.{loaded-loads, links-are, load-sound
 use Rattle.rules.proofs.Soundness.Relaxed.{sound-manifold, sound-bases}
 use Rattle.rules.specs.Cage.{Cage, cageOf, loaded}
 use Rattle.rules.specs.Calls.{worked, loadCall, refineCall, wholeStepCall, ringRead, ringCall, positionRead}
-use Rattle.rules.specs.Calls.{positionCall, limitRead, limitCall}
-use Rattle.rules.specs.Promises.{Loaded, ChainFalls, RefineMakes, StepMakes, LimitMakes, kobbelt}
+use Rattle.rules.specs.Calls.{positionCall, limitRead, limitCall, withLock, lockCall}
+use Rattle.rules.specs.Promises.{Loaded, ChainFalls, RefineMakes, StepMakes, LockMakes, LimitMakes, kobbelt}
 use Rattle.rules.specs.Sound.{Sound}
 use Rattle.rules.specs.Split.{atFirst, refine}
 use Rattle.rules.specs.Step.{wholeStep, limitPositions}
@@ -53,6 +57,7 @@ load-makes rule bytes m z =
         corners = R .corners;
         positions = R .positions;
         generations = R .generations;
+        unlocked = R .locks;
         links = links-are c m A v f (L .differ);
         edges = load-edges c m A v f (L .corners) (L .differ);
         noneOfTwo = λ v l x. L .noneOfTwo (v, l, x);
@@ -60,10 +65,12 @@ load-makes rule bytes m z =
           cornerSlots = R .cornerRoom;
           linkSlots = R .linkRoom;
           generationSlots = R .generationRoom;
+          lockSlots = R .lockRoom;
           positionSlots = R .positionRoom;
           corners = P .corners;
           links = P .links;
           generations = P .generations;
+          locks = drop-fill (c .triangles) (λ i. 0) (m .locks) (c .triangles) (omega arith);
           positions = loaded-positions-past c m;
         };
       },
@@ -87,6 +94,7 @@ refine-makes t m z =
         rises = R .rises;
         needed = s;
         flips = omega (arith, R .odd);
+        locks = R .places .locks .same;
         risesBy = R .risesBy;
         still = R .still;
         oldVertices = R .places .old;
@@ -119,6 +127,15 @@ whole-step-makes m z =
       subst (λ (g : ℕ). StepMakes g m (wholeStep m)) (sym (F .closed .all 0 (F .sound .someTriangle)))
           (found-step F),
     )
+
+-- ---- locks
+
+pub lock-makes : (on : Bool) (t : ℕ) (m : Mesh) → lockCall on t m .answer .refusal ≡ 0
+    → let n = withLock on t m in
+    (lockCall on t m ≡ worked (atFirst n)) × LockMakes on t m n
+lock-makes on t m z =
+    let x = judged-carried (lock-judged on t m) z in
+    (x .1, found-locked on (lock-found t m (x .0)))
 
 -- ---- limit positions
 

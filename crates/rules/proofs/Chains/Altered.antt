@@ -1,83 +1,26 @@
--- Which slots a refine writes anew, known before the work.
+-- A refine writes anew exactly the slots that are known before the work.
 use mathlib.Core.Path.{_≡_, refl, sym, ap, _∙_, subst}
 use mathlib.Core.Logic.{_≢_, _⊎_, inl, inr}
-use Prim.Native.Nat.{ℕ, zero, suc, _+_, _-_, _*_, _/_, _%_, _≤_, _<_}
+use Prim.Native.Nat.{ℕ, zero, suc, _+_, _-_, _*_, _/_, _≤_, _<_}
 use native.Mathlib.Omega.{arith}
 use native.Mathlib.Decide.{ℕ-discrete}
 use Rattle.rules.proofs.Calls.Carried.{RefineFound}
-use Rattle.rules.proofs.Chains.Chain.{Path, ends, across, path-odd, path-meets, path-next, falls, shortens}
-use Rattle.rules.proofs.Chains.Refine.{chain-path}
+use Rattle.rules.proofs.Chains.Altering.{AltersFrom, atEnd, meetsEnd, atPlace, alters-from, from-end, at-place}
+use Rattle.rules.proofs.Chains.Chain.{Path, path-odd, path-meets, path-next, falls, shortens}
 use Rattle.rules.proofs.Chains.RefineLoop.{splitEnds, Leads, Ahead, End, ahead-end, ahead-splitting, ahead-on}
 use Rattle.rules.proofs.Chains.RefineLoop.{path-of-two, path-after, ahead-stays, ahead-across, ahead}
 use Rattle.rules.proofs.Chains.RefineLoop.{refine-is-split-ends}
-use Rattle.rules.proofs.Chains.Remembered.{chainAt, path-none, path-from, path-within}
-use Rattle.rules.proofs.Chains.Runs.{Splittable, not-splittable}
+use Rattle.rules.proofs.Chains.Remembered.{path-none, path-from, path-within}
+use Rattle.rules.proofs.Chains.Runs.{not-splittable}
 use Rattle.rules.proofs.Links.Manifold.{Partnered, Manifold, BasesMeetIn, partnered, target₀}
-use Rattle.rules.proofs.Soundness.Relaxed.{sound-manifold}
 use Rattle.rules.proofs.Splits.Bases.{reached}
 use Rattle.rules.proofs.Splits.Cut.{CutResult}
 use Rattle.rules.proofs.Splits.Settled.{nowhere, unchanged-not}
 use Rattle.rules.specs.Calls.{splitsOf}
+use Rattle.rules.specs.Conditions.{Splittable, Alters, splitFirst, meetsFirst, inChain, further}
 use Rattle.rules.specs.Promises.{Written}
-use Rattle.rules.specs.Sound.{Sound}
-use Rattle.rules.specs.Split.{Work, atFirst, chainEnd, chainOdd, splitAt, refine}
+use Rattle.rules.specs.Split.{Work, atFirst, chainEnd, chainAt, splitAt, refine}
 use Rattle.rules.specs.Tables.{Topology, Mesh, next, origin, target, boundary, link, generation}
-
--- Refining t writes slot x anew: x is the triangle split first, at the end of the base chain of t; or an odd triangle
--- whose base meets that one; or an odd triangle of the chain before it.
-pub data Alters (m : Topology) : ℕ → ℕ → Type 0 where
-  splitFirst : {t x : ℕ} → Splittable m t → x ≡ t → Alters m t x
-  meetsFirst : {t x : ℕ} → Splittable m t → generation m x % 2 ≡ 1 → link m (3 * x) ≢ boundary
-      → link m (3 * x) / 3 ≡ t → Alters m t x
-  inChain : {t x : ℕ} → generation m t % 2 ≡ 1 → link m (3 * t) ≢ boundary → x ≡ t → Alters m t x
-  further : {t x : ℕ} → generation m t % 2 ≡ 1 → link m (3 * t) ≢ boundary → Alters m (link m (3 * t) / 3) x
-      → Alters m t x
-
--- ---- the places of the chain
-
--- The same, where the base chain of t leads over k odd triangles to v.
-data AltersFrom (m : Topology) (v k t x : ℕ) : Type 0 where
-  atEnd : x ≡ v → AltersFrom m v k t x
-  meetsEnd : generation m x % 2 ≡ 1 → link m (3 * x) ≢ boundary → link m (3 * x) / 3 ≡ v → AltersFrom m v k t x
-  atPlace : (i : ℕ) → i < k → x ≡ chainAt i m t → AltersFrom m v k t x
-
--- The places after the first are those from the next triangle on.
-place-on : (i : ℕ) (m : Topology) (t : ℕ) → chainAt (suc i) m t ≡ chainAt i m (link m (3 * t) / 3)
-unfolding chainAt
-place-on zero m t = refl
-place-on (suc i) m t = ap (λ (y : ℕ). link m (3 * y) / 3) (place-on i m t)
-
-module _ {m : Topology} where
-  place-here : {v k t x : ℕ} → x ≡ t → AltersFrom m v (suc k) t x
-  unfolding chainAt
-  place-here e = atPlace 0 (omega arith) e
-
-  place-further : {v k t x : ℕ} → AltersFrom m v k (link m (3 * t) / 3) x → AltersFrom m v (suc k) t x
-  place-further (atEnd e) = atEnd e
-  place-further (meetsEnd o r e) = meetsEnd o r e
-  place-further {t = t} (atPlace i l e) = atPlace (suc i) (omega arith) (e ∙ sym (place-on i m t))
-
-  alters-from : {t v k x : ℕ} → Path m t v k → Alters m t x → AltersFrom m v k t x
-  alters-from (ends f) (splitFirst _ e) = atEnd e
-  alters-from (ends f) (meetsFirst _ o r e) = meetsEnd o r e
-  alters-from (ends f) (inChain o r _) = not-splittable f o r
-  alters-from (ends f) (further o r _) = not-splittable f o r
-  alters-from (across o r p) (splitFirst f _) = not-splittable f o r
-  alters-from (across o r p) (meetsFirst f _ _ _) = not-splittable f o r
-  alters-from (across o r p) (inChain _ _ e) = place-here e
-  alters-from (across o r p) (further _ _ a) = place-further (alters-from p a)
-
-  -- What the end of a chain alters, the chain does.
-  from-end : {t v k x : ℕ} → Path m t v k → Alters m v x → Alters m t x
-  from-end (ends f) a = a
-  from-end (across o r p) a = further o r (from-end p a)
-
-  -- Each odd triangle before the end is altered.
-  at-place : {t v k x : ℕ} (i : ℕ) → i < k → Path m t v k → x ≡ chainAt i m t → Alters m t x
-  unfolding chainAt
-  at-place i l (ends f) e = absurd (omega arith)
-  at-place zero l (across o r p) e = inChain o r e
-  at-place (suc i) l (across {t = t} o r p) e = further o r (at-place i (omega arith) p (e ∙ place-on i m t))
 
 -- ---- one split
 
@@ -305,32 +248,3 @@ pub alters-rise : {t : ℕ} {m : Mesh} → RefineFound t m → (x : ℕ) → x <
 alters-rise {m = m} R x l a =
     let (k, A, e) = refine-splits R in
     rw e (ends-rise k (atFirst m) A x l a)
-
--- ---- where they are found
-
--- Slot x is that of an odd triangle of the base chain of t, of its end, or of a triangle beside its end.
-pub data AlteredAt (m : Topology) (t x : ℕ) : Type 0 where
-  onChain : (i : ℕ) → i < chainOdd m t → x ≡ chainAt i m t → AlteredAt m t x
-  isEnd : x ≡ chainEnd m t → AlteredAt m t x
-  besideEnd : (i : ℕ) → i < 3 → x ≡ link m (3 * chainEnd m t + i) / 3 → AlteredAt m t x
-
--- A triangle whose base meets v lies beside v.
-beside : {m : Topology} {v x : ℕ} → Partnered m (3 * x) → link m (3 * x) / 3 ≡ v
-    → x ≡ link m (3 * v + link m (3 * x) % 3) / 3
-beside {m} {v} {x} M e =
-    let h : 3 * v + link m (3 * x) % 3 ≡ link m (3 * x) = omega arith in
-    let b : link m (3 * v + link m (3 * x) % 3) ≡ 3 * x = ap (link m) h ∙ M .back in
-    omega arith
-
-pub alters-known : {m : Mesh} {t x : ℕ} → Sound m → t < m .topology .triangles → x < m .topology .triangles
-    → Alters (m .topology) t x → AlteredAt (m .topology) t x
-alters-known {m} {t} {x} S b l a = go (alters-from (chain-path t m S b) a)
-  where
-    go : AltersFrom (m .topology) (chainEnd (m .topology) t)
-        (chainOdd (m .topology) t - generation (m .topology) (chainEnd (m .topology) t) % 2) t x
-        → AlteredAt (m .topology) t x
-    go (atEnd e) = isEnd e
-    go (meetsEnd o q e) =
-        besideEnd (link (m .topology) (3 * x) % 3) (omega arith)
-        (beside (partnered (sound-manifold S .linked (3 * x) (omega arith)) q) e)
-    go (atPlace i j e) = onChain i (omega arith) e

@@ -8,10 +8,11 @@ use borrow.Author.Tests.{ne-eqb}
 use Rattle.rules.proofs.Splits.Cut.{CutResult}
 use Rattle.rules.proofs.Numbers.Decide.{odd-test, even-test}
 use Rattle.rules.proofs.Links.Manifold.{Partnered, Manifold, level, BasesMeetIn, level₀, partnered}
-use Rattle.rules.proofs.Chains.Runs.{Splittable, isEven, onBoundary, topOf, rimOf, not-splittable}
+use Rattle.rules.proofs.Chains.Runs.{topOf, rimOf, not-splittable}
 use Rattle.rules.proofs.Splits.Settled.{nowhere}
 use Rattle.rules.proofs.Splits.Settling.{Follow}
 use Rattle.rules.specs.Conditions.{EndsAtBoundary, stops, goesOn, OddInChain, atEven, atBoundary, onward}
+use Rattle.rules.specs.Conditions.{Splittable, isEven, onBoundary}
 use Rattle.rules.specs.Split.{chainEndWithin, chainOddWithin}
 use Rattle.rules.specs.Tables.{Topology, boundary, link, generation, odd}
 

@@ -44,7 +44,7 @@ going-begins {m} S = record {
   triangles = omega arith;
   flips = omega arith;
   still = still-all (m .topology);
-  room = record { positions = refl; corners = refl; links = refl; generations = refl };
+  room = record { positions = refl; corners = refl; links = refl; generations = refl; locks = refl };
   past = λ b i. past-same b (m .topology);
   places = places-same m;
 }
@@ -65,6 +65,7 @@ going-on {m} {w} {t} G F = rw (refine-adds t w) (record {
     corners = R .cornerRoom ∙ G .room .corners;
     links = R .linkRoom ∙ G .room .links;
     generations = R .generationRoom ∙ G .room .generations;
+    locks = R .places .locks .size ∙ G .room .locks;
   };
   past = λ b i. past-on (G .past b (omega (arith, R .triangles))) (R .past b i);
   places = places-on (G .places) (R .places);
@@ -86,9 +87,11 @@ same-past {w = w} G =
       cornerSlots = G .room .corners;
       linkSlots = G .room .links;
       generationSlots = G .room .generations;
+      lockSlots = G .room .locks;
       positionSlots = G .room .positions;
       corners = P .corners;
       links = P .links;
       generations = P .generations;
+      locks = G .places .locks .past (reached w .triangles) (omega arith);
       positions = G .places .past (reached w .vertices) (omega arith);
     }

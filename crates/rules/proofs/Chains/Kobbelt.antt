@@ -13,10 +13,11 @@ use Rattle.rules.proofs.Links.Manifold.{Manifold, BasesMeetIn}
 use Rattle.rules.proofs.Chains.Raise.{raise-stops, raise-splits, room-rest, raise-cuts}
 use Rattle.rules.proofs.Chains.Refine.{sound-room, chain-path, chain-bound}
 use Rattle.rules.proofs.Soundness.Relaxed.{sound-manifold, sound-bases}
-use Rattle.rules.proofs.Chains.Runs.{Splittable, isEven, onBoundary, split-even, split-odd, split-splitting}
+use Rattle.rules.proofs.Chains.Runs.{split-even, split-odd, split-splitting}
 use Rattle.rules.proofs.Splits.Settled.{nowhere}
 use Rattle.rules.specs.Calls.{splitsOf, verticesOf, trianglesOf}
 use Rattle.rules.specs.Conditions.{RoomFor}
+use Rattle.rules.specs.Conditions.{Splittable, isEven, onBoundary}
 use Rattle.rules.specs.Promises.{mate, kobbelt}
 use Rattle.rules.specs.Sound.{Sound}
 use Rattle.rules.specs.Split.{Work, atFirst, splitAt, raise, refine}

@@ -14,8 +14,9 @@ use Rattle.rules.proofs.Splits.Splitting.{Room, room-fewer}
 use Rattle.rules.proofs.Links.Manifold.{Manifold, BasesMeetIn}
 use Rattle.rules.proofs.Links.Past.{Past, past-on}
 use Rattle.rules.proofs.Splits.Places.{Places, places-on}
-use Rattle.rules.proofs.Chains.Runs.{Splittable, topOf, rimOf, not-splittable, split-splitting}
+use Rattle.rules.proofs.Chains.Runs.{topOf, rimOf, not-splittable, split-splitting}
 use Rattle.rules.proofs.Splits.Settled.{nowhere, still-on}
+use Rattle.rules.specs.Conditions.{Splittable}
 use Rattle.rules.specs.Promises.{RisesBy, Still, odds}
 use Rattle.rules.specs.Split.{Work, splitAt, chainEndWithin, raise}
 use Rattle.rules.specs.Tables.{Topology, boundary, link, generation}

@@ -12,12 +12,14 @@ use Rattle.rules.proofs.Splits.Splitting.{Room}
 use Rattle.rules.proofs.Links.Manifold.{Manifold, BasesMeetIn}
 use Rattle.rules.proofs.Links.Past.{Past}
 use Rattle.rules.proofs.Splits.Places.{Places}
+use Rattle.rules.proofs.Splits.Unlocking.{locks-fit}
 use Rattle.rules.proofs.Chains.Raise.{Raised, raise-chain, raise-own}
 use Rattle.rules.proofs.Soundness.Relaxed.{sound-manifold, sound-bases, manifold-sound, agree-on}
-use Rattle.rules.proofs.Chains.Runs.{Splittable, isEven, onBoundary, topOf, rimOf}
+use Rattle.rules.proofs.Chains.Runs.{topOf, rimOf}
 use Rattle.rules.proofs.Splits.Settled.{nowhere}
 use Rattle.rules.specs.Calls.{splitsOf, rimSplitsOf, verticesOf, trianglesOf}
-use Rattle.rules.specs.Conditions.{OddInChain, Takes, evenEnd, boundaryEnd, RoomFor, TooOld}
+use Rattle.rules.specs.Conditions.{OddInChain, Takes, evenEnd, boundaryEnd, RoomFor, TooOld, Splittable}
+use Rattle.rules.specs.Conditions.{isEven, onBoundary}
 use Rattle.rules.specs.History.{edges}
 use Rattle.rules.specs.Numbers.{KnownRule}
 use Rattle.rules.specs.Promises.{RisesBy, Still, odds}
@@ -95,13 +97,14 @@ module _ (t : ℕ) (m : Mesh) (S : Sound m) (b : t < m .topology .triangles) (yo
         corners = X .cornerRoom;
         links = X .linkRoom;
         generations = X .generationRoom;
+        locks = X .places .locks .size;
       }) in
       let p = X .places .size in
       let v : reached w .vertices ≤ vertexSlots (w .mesh) = omega (arith, X .vertices) in
       record {
         sound = manifold-sound (w .mesh) A (X .manifold) (X .basesMeet) (omega (arith, X .vertices, S .someVertex))
             (omega (arith, X .triangles, S .someTriangle)) v (X .most 20 (S .generations) i)
-            (X .places .range (omega (arith, A .positions)) (S .range))
+            (X .places .range (omega (arith, A .positions)) (S .range)) (locks-fit (X .places .locks) (S .locks))
             (subst KnownRule (sym (X .places .rule)) (S .rule));
         splits = omega (arith, X .splits);
         odd = omega (arith, X .odd);

@@ -14,14 +14,15 @@ use Rattle.rules.proofs.Links.Manifold.{Manifold, BasesMeetIn}
 use Rattle.rules.proofs.Chains.Raise.{raise-stops, raise-splits, room-rest}
 use Rattle.rules.proofs.Chains.Refine.{sound-room, chain-path, chain-bound}
 use Rattle.rules.proofs.Soundness.Relaxed.{SameSlots, sound-manifold, sound-bases, agree-on}
-use Rattle.rules.proofs.Chains.Remembered.{chainAt, path-last, path-within, places-stay}
-use Rattle.rules.proofs.Chains.Runs.{Splittable, isEven, onBoundary, topOf, rimOf, split-even, split-odd}
+use Rattle.rules.proofs.Chains.Remembered.{path-last, path-within, places-stay}
+use Rattle.rules.proofs.Chains.Runs.{topOf, rimOf, split-even, split-odd}
 use Rattle.rules.proofs.Chains.Runs.{split-splitting}
 use Rattle.rules.proofs.Splits.Settled.{nowhere}
 use Rattle.rules.specs.Calls.{splitsOf, rimSplitsOf}
 use Rattle.rules.specs.Conditions.{RoomFor}
+use Rattle.rules.specs.Conditions.{Splittable, isEven, onBoundary}
 use Rattle.rules.specs.Split.{Work, atFirst, flip, withFlip, settle, facePlaced, withSplit, faceSplit, chainEnd}
-use Rattle.rules.specs.Split.{chainOdd, rimPlaced, rimSplit, splitAt, raise, refine}
+use Rattle.rules.specs.Split.{chainOdd, chainAt, rimPlaced, rimSplit, splitAt, raise, refine}
 use Rattle.rules.specs.Tables.{Topology, Mesh, TablesAgree, withTopology, link, generation, isBase, vertexSlots}
 
 -- k splits, each at the end of the base chain of t.
@@ -286,7 +287,7 @@ module _ {t : ℕ} {m : Mesh} (R : RefineFound t m) where
       splits = omega arith;
       flips = omega arith;
       vertices = begun (splitsOf (m .topology) t) (omega arith) (R .room .vertices);
-      room = record { positions = refl; corners = refl; links = refl; generations = refl };
+      room = record { positions = refl; corners = refl; links = refl; generations = refl; locks = refl };
       remembered = λ i b. f i (omega arith);
     }
       where
@@ -341,6 +342,7 @@ module _ {t : ℕ} {m : Mesh} (R : RefineFound t m) where
               corners = S .corners ∙ L .corners;
               links = S .links ∙ L .links;
               generations = S .generations ∙ L .generations;
+              locks = X .places .locks .size ∙ L .locks;
             };
             remembered = λ i b. N .remembered i (omega arith) ∙ sym (ahead-stays k (N .ahead) i (omega arith));
           }

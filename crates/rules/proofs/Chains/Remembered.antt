@@ -5,14 +5,10 @@ use native.Mathlib.Omega.{arith}
 use Rattle.rules.proofs.Chains.Chain.{Path, ends, path-odd, path-meets, path-next, falls, not-v, left, stays}
 use Rattle.rules.proofs.Splits.Cut.{CutResult}
 use Rattle.rules.proofs.Links.Manifold.{Manifold, BasesMeetIn}
-use Rattle.rules.proofs.Chains.Runs.{Splittable}
 use Rattle.rules.proofs.Splits.Settled.{nowhere}
+use Rattle.rules.specs.Conditions.{Splittable}
+use Rattle.rules.specs.Split.{chainAt}
 use Rattle.rules.specs.Tables.{Topology, link, generation}
-
--- The triangle that i bases lead to from t.
-unfoldable pub chainAt : ℕ → Topology → ℕ → ℕ
-chainAt zero m t = t
-chainAt (suc i) m t = link m (3 * chainAt i m t) / 3
 
 module _ {m : Topology} where
   pub path-none : {t v : ℕ} → Path m t v 0 → v ≡ t

@@ -7,13 +7,9 @@ use Rattle.rules.proofs.Splits.Bases.{reached}
 use Rattle.rules.proofs.Numbers.Decide.{odd-test, even-test}
 use Rattle.rules.proofs.Splits.Splitting.{Room, Splitting, face-splitting, rim-splitting}
 use Rattle.rules.proofs.Links.Manifold.{Manifold}
+use Rattle.rules.specs.Conditions.{Splittable, isEven, onBoundary}
 use Rattle.rules.specs.Split.{Work, faceSplit, rimSplit, splitAt}
 use Rattle.rules.specs.Tables.{Topology, boundary, link, generation}
-
--- An even triangle, or an odd one with its base on the boundary.
-pub data Splittable (m : Topology) (v : ℕ) : Type 0 where
-  isEven : generation m v % 2 ≡ 0 → Splittable m v
-  onBoundary : generation m v % 2 ≡ 1 → link m (3 * v) ≡ boundary → Splittable m v
 
 -- 1 where its split is a rim split, 0 where it is a face split; and the generation of its odd children.
 abbrev pub rimOf : Topology → ℕ → ℕ

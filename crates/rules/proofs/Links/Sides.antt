@@ -1,7 +1,6 @@
 -- Numbers of sides, and tables written and read back by triangles.
 use mathlib.Core.Path.{_≡_, refl, sym, ap, _∙_, subst}
 use mathlib.Core.Logic.{_≢_, _⊎_, inl, inr}
-use mathlib.Core.Bool.{true, false}
 use mathlib.Core.List.{List}
 use Prim.Native.Nat.{ℕ, zero, suc, _+_, _*_, _/_, _%_, _≤_, _<_}
 use native.Mathlib.Omega.{arith}
@@ -9,8 +8,8 @@ use native.Mathlib.Decide.{ℕ-discrete}
 use native.Mathlib.Nat.{add-zero}
 use lib.ListN.{length, getD, set, length-set}
 use lib.Seq.{getD-set-same, getD-set-other}
-use lib.Dec.{eqb}
 use borrow.Author.Tests.{eq-eqb, ne-eqb}
+use Rattle.rules.specs.Actions.{renameTwo}
 use Rattle.rules.specs.Tables.{next, previous, boundary, putThree}
 
 pub next-previous : (h : ℕ) → next (previous h) ≡ h
@@ -38,13 +37,6 @@ pub previous-lt : (h f : ℕ) → h < 3 * f → previous h < 3 * f
 previous-lt h f l = omega arith
 
 -- ---- two names that change
-
--- A becomes a′ and b becomes b′; every other number keeps itself.
-unfoldable pub renameTwo : ℕ → ℕ → ℕ → ℕ → ℕ → ℕ
-renameTwo a a′ b b′ h = elim (eqb h a) [
-  | true ↦ a′
-  | false ↦ elim (eqb h b) [ true ↦ b′ | false ↦ h ]
-]
 
 module _ (a a′ b b′ : ℕ) where
   pub rename-a : renameTwo a a′ b b′ a ≡ a′

@@ -14,7 +14,7 @@ use Rattle.rules.proofs.Chains.Going.{Going, going-begins, going-on, re
 use Rattle.rules.proofs.Numbers.Decide.{Decides, is-lt, stable}
 use Rattle.rules.proofs.Splits.Bases.{reached}
 use Rattle.rules.proofs.Splits.Settled.{still-all, still-on}
-use Rattle.rules.specs.Conditions.{TooOld, TooFewSlots, Risen, EntryFails, notInUse}
+use Rattle.rules.specs.Conditions.{MayRefine, Risen, EntryFails, notInUse}
 use Rattle.rules.specs.Conditions.{notRefined, Handled, FailsAfter, allDone, passedOver, refined}
 use Rattle.rules.specs.Calls.{refineRefusal}
 use Rattle.rules.specs.Lists.{Progress, begun, goesOn, risen, entryRefusal}
@@ -30,7 +30,7 @@ use Rattle.rules.specs.Tables.{Mesh, generation}
 pub data Turn (start : Mesh) (t : ℕ) (w : Work) : ℕ → Work → Type 0 where
   fails : {n : ℕ} {x : Work} → EntryFails start t (w .mesh) n → Turn start t w n x
   passes : t < start .topology .triangles → Risen start t (w .mesh) → Turn start t w 0 w
-  refines : t < start .topology .triangles → ¬ Risen start t (w .mesh) → ¬ TooFewSlots t (w .mesh)
+  refines : t < start .topology .triangles → ¬ Risen start t (w .mesh) → MayRefine t (w .mesh)
       → RefineFound t (w .mesh) → Turn start t w 0 (refine t w)
 
 module _ (start : Mesh) (t : ℕ) (w : Work) (S : Sound (w .mesh))
@@ -74,7 +74,7 @@ module _ {start : Mesh} {t : ℕ} {w : Work} where
   turn-fails (passes l r) (notInUse n) = absurd (n l)
   turn-fails (passes l r) (notRefined l′ n K) = absurd (n r)
   turn-fails (refines l r f F) (notInUse n) = absurd (n l)
-  turn-fails (refines l r f F) (notRefined l′ n K) = absurd (cannot-fail (F .young) f K)
+  turn-fails (refines l r f F) (notRefined l′ n K) = absurd (cannot-fail f K)
 
   -- It does not fail: it is passed over or refined.
   pub turn-passes : {n : ℕ} {x : Work} → Turn start t w n x → t < start .topology .triangles → Risen start t (w .mesh)
@@ -85,12 +85,11 @@ module _ {start : Mesh} {t : ℕ} {w : Work} where
   turn-passes (refines l′ n f F) l r = absurd (n r)
 
   turn-refines : {n : ℕ} {x : Work} → Turn start t w n x → t < start .topology .triangles → ¬ Risen start t (w .mesh)
-      → ¬ TooOld (w .mesh .topology) t → ¬ TooFewSlots t (w .mesh)
-      → (n ≡ 0) × (x ≡ refine t w) × RefineFound t (w .mesh)
-  turn-refines (fails (notInUse n)) l r o f = absurd (n l)
-  turn-refines (fails (notRefined l′ n F)) l r o f = absurd (cannot-fail o f F)
-  turn-refines (passes l′ r′) l r o f = absurd (r r′)
-  turn-refines (refines l′ n q F) l r o f = (refl, refl, F)
+      → MayRefine t (w .mesh) → (n ≡ 0) × (x ≡ refine t w) × RefineFound t (w .mesh)
+  turn-refines (fails (notInUse n)) l r f = absurd (n l)
+  turn-refines (fails (notRefined l′ n F)) l r f = absurd (cannot-fail f F)
+  turn-refines (passes l′ r′) l r f = absurd (r r′)
+  turn-refines (refines l′ n q F) l r f = (refl, refl, F)
 
 -- ---- the list
 
@@ -169,7 +168,7 @@ fold m (t ∷ rest) p z G =
         record {
           going = I .going;
           still = s;
-          ends = ends-after (λ _ _ H. refined l r (F .young) n H)
+          ends = ends-after (λ _ _ H. refined l r n H)
               (omega (arith, G .still .mono t l, R .0, I .still .mono t (omega (arith, F .inUse, R .1 .grows))))
               (I .ends);
         }
@@ -180,8 +179,8 @@ pub handled-used : {m : Mesh} {list : List ℕ} {w x : Work} → Handled m list 
 handled-used allDone i b = absurd (omega arith)
 handled-used (passedOver l r H) zero b = l
 handled-used (passedOver l r H) (suc i) b = handled-used H i (omega arith)
-handled-used (refined l r o f H) zero b = l
-handled-used (refined l r o f H) (suc i) b = handled-used H i (omega arith)
+handled-used (refined l r f H) zero b = l
+handled-used (refined l r f H) (suc i) b = handled-used H i (omega arith)
 
 -- What is handled is computed.
 pub handled-computed : {m : Mesh} {list : List ℕ} {w x : Work} (k n : ℕ) → n ≡ k + length list → Going m w
@@ -195,8 +194,8 @@ handled-computed {m = m} {w = w} k n e G (passedOver {t} l r H) =
     let T = turn-passes (entry-turn m t w (G .sound) (G .still .grows)) l r in
     let I = handled-computed (suc k) n (omega arith) G H in
     (rw (T .0, T .1) (I .0), I .1)
-handled-computed {m = m} {w = w} k n e G (refined {t} l r o f H) =
-    let T = turn-refines (entry-turn m t w (G .sound) (G .still .grows)) l r o f in
+handled-computed {m = m} {w = w} k n e G (refined {t} l r f H) =
+    let T = turn-refines (entry-turn m t w (G .sound) (G .still .grows)) l r f in
     let I = handled-computed (suc k) n (omega arith) (going-on G (T .2)) H in
     (rw (T .0, T .1) (I .0), I .1)
 

@@ -24,6 +24,7 @@ going-sizes L G =
       corners = L .corners ∙ sym (R .corners);
       links = L .links ∙ sym (R .links);
       generations = L .generations ∙ sym (R .generations);
+      locks = L .locks ∙ sym (R .locks);
     }
 
 -- The tables, which were s, hold x, the copy of what refines made of m, with k splits and f flips.

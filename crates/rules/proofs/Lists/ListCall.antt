@@ -15,8 +15,9 @@ use Rattle.rules.proofs.Chains.Going.{Going, going-begins, same-past}
 use Rattle.rules.proofs.Numbers.Decide.{Decides, is-eq, is-iff, is-and, is-true, is-same, stable}
 use Rattle.rules.proofs.Soundness.SoundTest.{tables-agree-is, sound-is}
 use Rattle.rules.specs.Calls.{Outcome, _if_}
-use Rattle.rules.specs.Conditions.{EntryFails, notInUse, notRefined, old, crowded, FailsAfter, FailsWith}
-use Rattle.rules.specs.Conditions.{Condition, _when_, First, this, later, none, entryConditions, listConditions}
+use Rattle.rules.specs.Conditions.{EntryFails, notInUse, notRefined, old, guarded, crowded, FailsAfter}
+use Rattle.rules.specs.Conditions.{FailsWith, Condition, _when_, First, this, later, none, entryConditions}
+use Rattle.rules.specs.Conditions.{listConditions}
 use Rattle.rules.specs.Lists.{Progress, begun, goesOn, risen}
 use Rattle.rules.specs.Lists.{handle, refineEach, sparesRefusal}
 use Rattle.rules.specs.Lists.{allOrNothing, listCall}
@@ -29,9 +30,15 @@ pub same-sizes-is : (s : Spares) (m : Mesh) → Decides (sameSizes s m) (SameSiz
 unfolding sameSizes
 same-sizes-is s m =
     is-iff
-    (λ x. record { positions = x .0 .0 .0; corners = x .0 .0 .1; links = x .0 .1; generations = x .1 })
-    (λ R. (((R .positions, R .corners), R .links), R .generations))
-    (is-and (is-and (is-and (is-eq _ _) (is-eq _ _)) (is-eq _ _)) (is-eq _ _))
+    (λ x. record {
+      positions = x .0 .0 .0 .0;
+      corners = x .0 .0 .0 .1;
+      links = x .0 .0 .1;
+      generations = x .0 .1;
+      locks = x .1;
+    })
+    (λ R. ((((R .positions, R .corners), R .links), R .generations), R .locks))
+    (is-and (is-and (is-and (is-and (is-eq _ _) (is-eq _ _)) (is-eq _ _)) (is-eq _ _)) (is-eq _ _))
 
 -- What is refused before any entry.
 abbrev firstConditions : Spares → Mesh → List Condition
@@ -98,13 +105,16 @@ module _ (list : List ℕ) (spares : Spares) (m : Mesh) where
             → First (entryConditions list m) n
         at (notInUse _) e f = this f
         at (notRefined _ _ (old _)) e f = later (not-with 9 8 e (λ q. omega arith)) (this f)
-        at (notRefined _ _ (crowded _ _)) e f =
-            later (not-with 11 8 e (λ q. omega arith)) (later (not-with 11 9 e (λ q. omega arith)) (this f))
+        at (notRefined _ _ (guarded _ _)) e f =
+            later (not-with 19 8 e (λ q. omega arith)) (later (not-with 19 9 e (λ q. omega arith)) (this f))
+        at (notRefined _ _ (crowded _ _ _)) e f =
+            later (not-with 11 8 e (λ q. omega arith)) (later (not-with 11 9 e (λ q. omega arith))
+            (later (not-with 11 19 e (λ q. omega arith)) (this f)))
 
         no-entry : progress .refusal ≡ 0 → First (entryConditions list m) 0
         no-entry e =
             later (not-with 0 8 e (λ q. omega arith)) (later (not-with 0 9 e (λ q. omega arith))
-            (later (not-with 0 11 e (λ q. omega arith)) none))
+            (later (not-with 0 19 e (λ q. omega arith)) (later (not-with 0 11 e (λ q. omega arith)) none)))
 
         go : Dec (progress .refusal ≡ 0) → First (entryConditions list m) (progress .refusal)
         go (yes z) = subst (First (entryConditions list m)) (sym z) (no-entry z)
@@ -122,6 +132,7 @@ module _ (list : List ℕ) (spares : Spares) (m : Mesh) where
                 handled = H;
                 risen = R;
                 triangles = G .triangles;
+                locks = G .places .locks .same;
                 still = G .still;
                 oldVertices = G .places .old;
                 rule = G .places .rule;

@@ -10,7 +10,7 @@ use borrow.Author.Tests.{le-ltb}
 use Rattle.rules.proofs.Numbers.Decide.{is-true, is-same}
 use Rattle.rules.proofs.Soundness.SoundTest.{tables-agree-is, sound-is}
 use Rattle.rules.specs.Calls.{noRoom, spareRoom, worked, firstOf, _if_, unless, refineCall}
-use Rattle.rules.specs.Calls.{refineRefusal, tooOld, roomFor, verticesOf, trianglesOf}
+use Rattle.rules.specs.Calls.{refineRefusal, tooOld, altersLocked, roomFor, verticesOf, trianglesOf}
 use Rattle.rules.specs.Lists.{begun, goesOn, risen, entryRefusal}
 use Rattle.rules.specs.Lists.{entryWork, handle, handleAll, sparesRefusal}
 use Rattle.rules.specs.Lists.{allOrNothing, listCall}
@@ -30,6 +30,7 @@ module _ (t : ℕ) (spares : Spares) (m : Mesh) (Z : SameSizes spares m) where
       ∷ 7 if not b
       ∷ 8 if c
       ∷ 9 if tooOld (m .topology) t
+      ∷ 19 if altersLocked t m
       ∷ 11 if not (roomFor (verticesOf (m .topology) t) (trianglesOf (m .topology) t) m)
       ∷ []
       )

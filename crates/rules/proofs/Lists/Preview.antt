@@ -31,6 +31,7 @@ copied-agrees {s} {m} L S =
       corners = λ i b. getD-fill _ _ (s .corners) i 0 (omega (arith, L .corners, A .corners, S .triangleRoom)) b;
       links = λ i b. getD-fill _ _ (s .links) i 0 (omega (arith, L .links, A .links, S .triangleRoom)) b;
       generations = λ i b. getD-fill _ _ (s .generations) i 0 (omega (arith, L .generations, S .triangleRoom)) b;
+      locks = λ i b. getD-fill _ _ (s .locks) i 0 (omega (arith, L .locks, A .locks, S .triangleRoom)) b;
     }
 
 -- Copied twice is copied once, and the tables keep their lengths.
@@ -41,6 +42,7 @@ copied-twice m s = rw (
   fill-again (sides (m .topology)) _ (s .corners),
   fill-again (sides (m .topology)) _ (s .links),
   fill-again (m .topology .triangles) _ (s .generations),
+  fill-again (m .topology .triangles) _ (s .locks),
 )
 
 copied-sizes : (n : Mesh) (s : Spares) (m : Mesh) → sameSizes (copied n s) m ≡ sameSizes s m
@@ -50,6 +52,7 @@ copied-sizes n s m = rw (
   length-fill _ _ (s .corners),
   length-fill _ _ (s .links),
   length-fill _ _ (s .generations),
+  length-fill _ _ (s .locks),
 )
 
 -- ---- the preview and the list

@@ -25,7 +25,7 @@ use Rattle.rules.specs.Numbers.{KnownRule}
 use Rattle.rules.specs.Promises.{Opposite, Matches, only, alone}
 use Rattle.rules.specs.Sound.{OneFan, Sound, hasOneFan}
 use Rattle.rules.specs.Tables.{Topology, Mesh, TablesAgree, sides, next, origin, target, boundary, link}
-use Rattle.rules.specs.Tables.{generation, vertexSlots, triangleSlots, withRule}
+use Rattle.rules.specs.Tables.{generation, lock, vertexSlots, triangleSlots, withRule}
 
 -- ---- the partner of a side
 
@@ -68,10 +68,12 @@ pub record Loads (c : Cage) (m n : Mesh) : Type 0 where
   pub corners : (h : ℕ) → h < 3 * c .triangles → origin (n .topology) h ≡ c .corner h
   pub links : (h : ℕ) → h < 3 * c .triangles → link (n .topology) h ≡ partner c h
   pub generations : (t : ℕ) → t < c .triangles → generation (n .topology) t ≡ 0
+  pub locks : (t : ℕ) → t < c .triangles → lock n t ≡ 0
   pub positions : (i : ℕ) → i < 3 * c .vertices → getD (n .positions) i (pos 0) ≡ c .coordinate i
   pub cornerRoom : length (n .topology .corners) ≡ length (m .topology .corners)
   pub linkRoom : length (n .topology .links) ≡ length (m .topology .links)
   pub generationRoom : length (n .topology .generations) ≡ length (m .topology .generations)
+  pub lockRoom : length (n .locks) ≡ length (m .locks)
   pub positionRoom : length (n .positions) ≡ length (m .positions)
 
 module _ (c : Cage) (m : Mesh) (A : TablesAgree m)
@@ -84,11 +86,13 @@ module _ (c : Cage) (m : Mesh) (A : TablesAgree m)
     corners = λ h l. getD-fill (3 * c .triangles) (c .corner) (m .topology .corners) h 0 (omega (arith, A .corners)) l;
     links = λ h l. getD-fill (3 * c .triangles) (partner c) (m .topology .links) h 0 (omega (arith, A .links)) l;
     generations = λ t l. getD-fill (c .triangles) (λ i. 0) (m .topology .generations) t 0 triangleRoom l;
+    locks = λ t l. getD-fill (c .triangles) (λ i. 0) (m .locks) t 0 (omega (arith, A .locks)) l;
     positions = λ i l.
         getD-fill (3 * c .vertices) (c .coordinate) (m .positions) i (pos 0) (omega (arith, A .positions)) l;
     cornerRoom = length-fill (3 * c .triangles) (c .corner) (m .topology .corners);
     linkRoom = length-fill (3 * c .triangles) (partner c) (m .topology .links);
     generationRoom = length-fill (c .triangles) (λ i. 0) (m .topology .generations);
+    lockRoom = length-fill (c .triangles) (λ i. 0) (m .locks);
     positionRoom = length-fill (3 * c .vertices) (c .coordinate) (m .positions);
   }
 
@@ -100,6 +104,7 @@ module _ (c : Cage) (m : Mesh) (A : TablesAgree m)
         corners = L .cornerRoom;
         links = L .linkRoom;
         generations = L .generationRoom;
+        locks = L .lockRoom;
       })
 
   -- All triangles are even, so that there is no base.
@@ -172,7 +177,7 @@ load-sound rule bytes m A known S K R D fits =
     let L = loaded-loads c m A (S .vertexRoom) (S .triangleRoom) in
     let B = loaded-agree c m A (S .vertexRoom) (S .triangleRoom) in
     manifold-sound (withRule rule (loaded c m))
-    (agree-on B (record { positions = refl; corners = refl; links = refl; generations = refl }))
+    (agree-on B (record { positions = refl; corners = refl; links = refl; generations = refl; locks = refl }))
     (load-manifold c m A (S .vertexRoom) (S .triangleRoom) K D fits)
     (load-bases c m A (S .vertexRoom) (S .triangleRoom))
     (S .someVertex)
@@ -180,6 +185,7 @@ load-sound rule bytes m A known S K R D fits =
     (rw (L .positionRoom) (S .vertexRoom))
     (λ t l. rw (L .generations t l) (omega arith))
     (λ i l. rw (L .positions i l) (R i l))
+    (λ t l. rw (L .locks t l) (omega arith))
     known
 
 pub load-glued : (c : Cage) (m : Mesh) → TablesAgree m → c .vertices ≤ vertexSlots m → c .triangles ≤ triangleSlots m

@@ -7,19 +7,20 @@ use lib.IntN.{ℤ}
 use Rattle.rules.proofs.Mirrors.MirrorBoxes.{turns-mirror, box-refused}
 use Rattle.rules.proofs.Mirrors.MirrorLists.{mirrorProgress, handle-all-mirror, copied-mirror}
 use Rattle.rules.proofs.Mirrors.MirrorRefusals.{load-refused, refine-refused, step-refused, limit-refused}
-use Rattle.rules.proofs.Mirrors.MirrorRefusals.{ring-refused, position-refused, spares-refused, loaded-mirror}
+use Rattle.rules.proofs.Mirrors.MirrorRefusals.{lock-refused, ring-refused, position-refused, spares-refused}
+use Rattle.rules.proofs.Mirrors.MirrorRefusals.{loaded-mirror}
 use Rattle.rules.proofs.Mirrors.MirrorTables.{coordinate-mirror}
 use Rattle.rules.proofs.Mirrors.MirrorWork.{mirrorWork, refine-mirror, step-mirror, limits-mirror}
 use Rattle.rules.proofs.Mirrors.Opposites.{mirror-zero}
 use Rattle.rules.specs.Below.{fill}
 use Rattle.rules.specs.Boxes.{refineInBox, boxCall}
 use Rattle.rules.specs.Calls.{Room, Outcome, ringRoom, tableRoom, spareRoom, zeroPoint, worked, unless, loadCall}
-use Rattle.rules.specs.Calls.{refineCall, wholeStepCall, limitCall, ringCall, positionCall}
+use Rattle.rules.specs.Calls.{refineCall, wholeStepCall, lockCall, limitCall, ringCall, positionCall}
 use Rattle.rules.specs.History.{Call, outcome, after}
 use Rattle.rules.specs.Lists.{Progress, begun, refineEach, allOrNothing, listCall, previewCall}
 use Rattle.rules.specs.Mirror.{mirrorPoint, mirrorTable, mirror, mirrorSpares, mirrorRoom, mirrorOutcome}
-use Rattle.rules.specs.Mirror.{Mirrors, Rounds, load, refine, step, list, box, ring, position, limit, preview}
-use Rattle.rules.specs.Mirror.{MirrorsEach, none, next}
+use Rattle.rules.specs.Mirror.{Mirrors, Rounds, load, refine, step, list, box, lock, ring, position, limit}
+use Rattle.rules.specs.Mirror.{preview, MirrorsEach, none, next}
 use Rattle.rules.specs.Spares.{Spares}
 use Rattle.rules.specs.Split.{Work, atFirst}
 use Rattle.rules.specs.Tables.{Mesh, triangleSlots, withRule}
@@ -76,7 +77,7 @@ module _ (k : ℕ) (m : Mesh) where
 
   pub call-mirror : {c c′ : Call} → Mirrors k c c′ → (Rounds c → m .rule ≡ 2)
       → outcome c′ (mirror k m) ≡ mirrorOutcome k (outcome c m)
-  unfolding loadCall refineCall wholeStepCall boxCall limitCall ringCall positionCall previewCall
+  unfolding loadCall refineCall wholeStepCall boxCall lockCall limitCall ringCall positionCall previewCall
   call-mirror (load {rule} C) two =
       unless-mirror _ _ (load-refused k m C rule) (ring-room [])
       (worked-mirror _ (ap (λ n. atFirst (withRule rule n)) (loaded-mirror k m C)))
@@ -87,6 +88,7 @@ module _ (k : ℕ) (m : Mesh) where
   call-mirror (list {entries} {spares}) two = list-mirror entries spares
   call-mirror (box {b} {spares}) two =
       in-spares (refineInBox b m) spares (box-refused k b m spares) (turns-mirror k b (triangleSlots m) (begun m))
+  call-mirror (lock {on} {t}) two = unless-mirror _ _ (lock-refused k m t) (ring-room []) (worked-mirror _ refl)
   call-mirror (ring {v} {buffer}) two =
       unless-mirror _ _ (ring-refused k m v buffer) (ring-room buffer) (rw (no-point, ring-room))
   call-mirror (position {v}) two =

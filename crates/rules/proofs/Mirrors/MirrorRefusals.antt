@@ -10,7 +10,7 @@ use Rattle.rules.proofs.Mirrors.Opposites.{mirror-range}
 use Rattle.rules.proofs.Numbers.Fill.{fill-same}
 use Rattle.rules.specs.Cage.{cageOf, partner, loaded, sizesFit, coordinatesFit, fansFit, someInnerOfTwo}
 use Rattle.rules.specs.Calls.{loadRefusal, refineRefusal, wholeStepRefusal, limitRefusal, ringRefusal}
-use Rattle.rules.specs.Calls.{positionRefusal}
+use Rattle.rules.specs.Calls.{lockRefusal, positionRefusal, altersLocked, someLocked}
 use Rattle.rules.specs.Lists.{sparesRefusal}
 use Rattle.rules.specs.Mirror.{mirrorTable, mirror, mirrorSpares, MirrorCage}
 use Rattle.rules.specs.Sound.{isSound}
@@ -27,12 +27,16 @@ module _ (k : ℕ) (m : Mesh) where
   sound-mirror = simp (tables-mirror, length-mirror, getD-mirror, mirror-range)
 
   pub refine-refused : (t : ℕ) → refineRefusal t (mirror k m) ≡ refineRefusal t m
-  unfolding refineRefusal
+  unfolding refineRefusal altersLocked
   refine-refused t = rw (tables-mirror, sound-mirror, length-mirror k (m .positions))
 
   pub step-refused : wholeStepRefusal (mirror k m) ≡ wholeStepRefusal m
-  unfolding wholeStepRefusal
+  unfolding wholeStepRefusal someLocked
   step-refused = rw (tables-mirror, sound-mirror, length-mirror k (m .positions))
+
+  pub lock-refused : (t : ℕ) → lockRefusal t (mirror k m) ≡ lockRefusal t m
+  unfolding lockRefusal
+  lock-refused t = rw (tables-mirror, sound-mirror)
 
   pub limit-refused : (table : List ℤ) → limitRefusal (mirrorTable k table) (mirror k m) ≡ limitRefusal table m
   unfolding limitRefusal

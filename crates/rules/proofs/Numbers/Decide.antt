@@ -123,6 +123,11 @@ pub all-more : (n : ℕ) (p : ℕ → Bool) → all n p ≡ true → p n ≡ tru
 unfolding all
 all-more n p e f = rw (add-one, all, e, f)
 
+-- The same of a test so far and the test of n.
+pub all-and : {a b : Bool} (n : ℕ) (p : ℕ → Bool) → a ≡ all n p → b ≡ p n → (a && b) ≡ all (n + 1) p
+unfolding all
+all-and n p d e = rw (add-one, d, e)
+
 -- Not every number below n passes where i does not.
 pub all-fails : (n i : ℕ) (p : ℕ → Bool) → i < n → p i ≡ false → all n p ≡ false
 all-fails n i p l e =
@@ -177,3 +182,23 @@ is-any n p P d = is-iff
     go : (h : ℕ) × (h < n) × P h → Dec (lowest n p ≡ n) → lowest n p < n
     go x (yes e) = absurd (L .none (x .0) (omega (arith, x .1)) (d (x .0) .passes (x .2)))
     go x (no e) = omega (arith, L .most)
+
+-- None is below 0.
+pub any-none : (p : ℕ → Bool) → any 0 p ≡ false
+unfolding any lowest
+any-none p = refl
+
+-- Some number below n + 1 passes where one below n does, or n.
+pub any-more : (n : ℕ) (p : ℕ → Bool) → any (n + 1) p ≡ (any n p || p n)
+any-more n p =
+    is-same (is-any (n + 1) p (λ h. T (p h)) (λ h. is-self (p h)))
+    (is-iff up (λ x. down x (ℕ-discrete (x .0) n))
+    (is-or (is-any n p (λ h. T (p h)) (λ h. is-self (p h))) (is-self (p n))))
+  where
+    up : ((h : ℕ) × (h < n) × T (p h)) ⊎ T (p n) → (h : ℕ) × (h < n + 1) × T (p h)
+    up (inl (h, l, t)) = (h, omega arith, t)
+    up (inr t) = (n, omega arith, t)
+
+    down : (x : (h : ℕ) × (h < n + 1) × T (p h)) → Dec (x .0 ≡ n) → ((h : ℕ) × (h < n) × T (p h)) ⊎ T (p n)
+    down (h, l, t) (yes e) = inr (subst (λ (x : ℕ). T (p x)) e t)
+    down (h, l, t) (no e) = inl (h, omega arith, t)

@@ -11,7 +11,7 @@ use Rattle.rules.proofs.Links.Manifold.{Manifold, Joined, Base, BasesMe
 use Rattle.rules.proofs.Splits.Settled.{nowhere}
 use Rattle.rules.specs.Numbers.{InRange, KnownRule}
 use Rattle.rules.specs.Sound.{Linked, Sound}
-use Rattle.rules.specs.Tables.{Topology, Mesh, TablesAgree, boundary, link, generation, vertexSlots}
+use Rattle.rules.specs.Tables.{Topology, Mesh, TablesAgree, boundary, link, generation, lock, vertexSlots}
 
 module _ (m : Topology) (h : ℕ) where
   pub linked-joined : (link m h ≡ boundary) ⊎ Linked m h → Joined m h
@@ -67,9 +67,9 @@ sound-bases {m} S h l a b = go (S .linked h l)
 pub manifold-sound : (m : Mesh) → TablesAgree m → Manifold (m .topology) → BasesMeetIn nowhere (m .topology)
     → 1 ≤ m .topology .vertices → 1 ≤ m .topology .triangles → m .topology .vertices ≤ vertexSlots m
     → ((t : ℕ) → t < m .topology .triangles → generation (m .topology) t ≤ 20)
-    → ((i : ℕ) → i < 3 * m .topology .vertices → InRange (getD (m .positions) i (pos 0))) → KnownRule (m .rule)
-    → Sound m
-manifold-sound m A F K v f room low near known = record {
+    → ((i : ℕ) → i < 3 * m .topology .vertices → InRange (getD (m .positions) i (pos 0)))
+    → ((t : ℕ) → t < m .topology .triangles → lock m t ≤ 1) → KnownRule (m .rule) → Sound m
+manifold-sound m A F K v f room low near locks known = record {
   tables = A;
   someVertex = v;
   someTriangle = f;
@@ -81,6 +81,7 @@ manifold-sound m A F K v f room low near known = record {
   fans = F .fan;
   range = near;
   generations = low;
+  locks = locks;
   rule = known;
 }
 
@@ -90,12 +91,14 @@ pub record SameSlots (m n : Mesh) : Type 0 where
   pub corners : length (n .topology .corners) ≡ length (m .topology .corners)
   pub links : length (n .topology .links) ≡ length (m .topology .links)
   pub generations : length (n .topology .generations) ≡ length (m .topology .generations)
+  pub locks : length (n .locks) ≡ length (m .locks)
 
 pub agree-on : {m n : Mesh} → TablesAgree m → SameSlots m n → TablesAgree n
 agree-on A L = record {
   positions = omega (arith, A .positions, L .positions);
   corners = omega (arith, A .corners, L .corners, L .generations);
   links = omega (arith, A .links, L .links, L .generations);
+  locks = omega (arith, A .locks, L .locks, L .generations);
   fewVertices = omega (arith, A .fewVertices, L .positions);
   fewTriangles = omega (arith, A .fewTriangles, L .generations);
 }

@@ -16,7 +16,7 @@ use Rattle.rules.proofs.Rings.Turning.{Glued}
 use Rattle.rules.specs.Numbers.{InRange, maxCoordinate, inRange, KnownRule, knownRule}
 use Rattle.rules.specs.Sound.{Linked, OneFan, Sound, role, fiveKinds, isLinked, soundSide, hasOneFan, isSound}
 use Rattle.rules.specs.Tables.{Topology, Mesh, TablesAgree, sides, origin, target, boundary, link, generation}
-use Rattle.rules.specs.Tables.{vertexSlots, triangleSlots, tablesAgree}
+use Rattle.rules.specs.Tables.{vertexSlots, triangleSlots, tablesAgree, lock}
 
 pub le-is : (a b : ℤ) → Decides (leZ a b) (a ≤ℤ b)
 le-is a b = record { holds = λ t. record { le = t }; passes = λ x. x .le }
@@ -30,12 +30,20 @@ pub tables-agree-is : (m : Mesh) → Decides (tablesAgree m) (TablesAgree m)
 unfolding tablesAgree
 tables-agree-is m =
     is-iff
-    (λ ((((p, c), l), v), t). record { positions = p; corners = c; links = l; fewVertices = v; fewTriangles = t })
-    (λ A. ((((A .positions, A .corners), A .links), A .fewVertices), A .fewTriangles))
-    (is-and (is-and (is-and (is-and
+    (λ (((((p, c), l), k), v), t). record {
+      positions = p;
+      corners = c;
+      links = l;
+      locks = k;
+      fewVertices = v;
+      fewTriangles = t;
+    })
+    (λ A. (((((A .positions, A .corners), A .links), A .locks), A .fewVertices), A .fewTriangles))
+    (is-and (is-and (is-and (is-and (is-and
     (is-eq (length (m .positions)) (3 * vertexSlots m))
     (is-eq (length (m .topology .corners)) (3 * triangleSlots m)))
     (is-eq (length (m .topology .links)) (3 * triangleSlots m)))
+    (is-eq (length (m .locks)) (triangleSlots m)))
     (is-le (vertexSlots m) 32768))
     (is-le (triangleSlots m) 65536))
 
@@ -89,7 +97,8 @@ pub sound-is : (m : Mesh) → Decides (isSound m) (Sound m)
 unfolding isSound
 sound-is m =
     is-iff
-    (λ (((((((((tables, vertex), triangle), vertices), triangles), side), fans), range), generations), rule). record {
+    (λ ((((((((((tables, vertex), triangle), vertices), triangles), side), fans), range), generations), locks), rule).
+    record {
       tables = tables;
       someVertex = vertex;
       someTriangle = triangle;
@@ -101,6 +110,7 @@ sound-is m =
       fans = fans;
       range = range;
       generations = generations;
+      locks = locks;
       rule = rule;
     })
     (λ S.
@@ -108,14 +118,17 @@ sound-is m =
     λ h l. record { corner = S .corner h l; distinct = S .distinct h l; linked = S .linked h l } in (
       (
         (
-          ((((((S .tables, S .someVertex), S .someTriangle), S .vertexRoom), S .triangleRoom), side), S .fans),
-          S .range,
+          (
+            ((((((S .tables, S .someVertex), S .someTriangle), S .vertexRoom), S .triangleRoom), side), S .fans),
+            S .range,
+          ),
+          S .generations,
         ),
-        S .generations,
+        S .locks,
       ),
       S .rule,
     ))
-    (is-and (is-and (is-and (is-then (is-and (is-and (is-and (is-and (is-and
+    (is-and (is-and (is-and (is-and (is-then (is-and (is-and (is-and (is-and (is-and
     (tables-agree-is m)
     (is-le 1 (t .vertices)))
     (is-le 1 (t .triangles)))
@@ -127,6 +140,7 @@ sound-is m =
     (is-all (3 * t .vertices) (λ i. inRange (at i)) (λ i. InRange (at i)) (λ i l. in-range-is (at i))))
     (is-all (t .triangles) (λ x. leb (generation t x) 20) (λ x. generation t x ≤ 20)
     (λ x l. is-le (generation t x) 20)))
+    (is-all (t .triangles) (λ x. leb (lock m x) 1) (λ x. lock m x ≤ 1) (λ x l. is-le (lock m x) 1)))
     (known-rule-is (m .rule)))
   where
     t : Topology

@@ -10,7 +10,7 @@ use Rattle.rules.proofs.Spares.OverSpares.{over}
 use Rattle.rules.specs.Promises.{SamePast}
 use Rattle.rules.specs.Sound.{Sound}
 use Rattle.rules.specs.Spares.{Spares, copied, SameSizes}
-use Rattle.rules.specs.Tables.{Mesh, sides, origin, link, generation}
+use Rattle.rules.specs.Tables.{Mesh, sides, origin, link, generation, lock}
 
 -- The tables of a mesh, without its counts.
 abbrev pub tablesOf : Mesh → Spares
@@ -19,6 +19,7 @@ tablesOf m = record {
   corners = m .topology .corners;
   links = m .topology .links;
   generations = m .topology .generations;
+  locks = m .locks;
 }
 
 pub copied-back : {m n : Mesh} → SamePast m n → Sound n → copied n (tablesOf m) ≡ tablesOf n
@@ -34,6 +35,8 @@ copied-back {m} {n} P S =
           (omega (arith, A .links, S .triangleRoom)) (P .linkSlots) (P .links),
       copied-over 0 (n .topology .triangles) (m .topology .generations) (n .topology .generations) (S .triangleRoom)
           (P .generationSlots) (P .generations),
+      copied-over 0 (n .topology .triangles) (m .locks) (n .locks) (omega (arith, A .locks, S .triangleRoom))
+          (P .lockSlots) (P .locks),
     )
 
 -- What is copied from a copy.
@@ -46,6 +49,7 @@ copied-again {s} {m} t L S =
     let c : sides (m .topology) ≤ length (s .corners) = omega (arith, L .corners, A .corners, S .triangleRoom) in
     let l : sides (m .topology) ≤ length (s .links) = omega (arith, L .links, A .links, S .triangleRoom) in
     let g : m .topology .triangles ≤ length (s .generations) = omega (arith, L .generations, S .triangleRoom) in
+    let k : m .topology .triangles ≤ length (s .locks) = omega (arith, L .locks, A .locks, S .triangleRoom) in
     rw (
       fill-same (3 * m .topology .vertices) _ (λ i. getD (m .positions) i (pos 0)) (t .positions)
           (λ i b. getD-fill _ _ (s .positions) i (pos 0) p b),
@@ -54,4 +58,5 @@ copied-again {s} {m} t L S =
       fill-same (sides (m .topology)) _ (link (m .topology)) (t .links) (λ i b. getD-fill _ _ (s .links) i 0 l b),
       fill-same (m .topology .triangles) _ (generation (m .topology)) (t .generations)
           (λ i b. getD-fill _ _ (s .generations) i 0 g b),
+      fill-same (m .topology .triangles) _ (lock m) (t .locks) (λ i b. getD-fill _ _ (s .locks) i 0 k b),
     )

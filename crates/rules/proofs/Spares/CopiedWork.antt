@@ -13,13 +13,13 @@ use Rattle.rules.proofs.Chains.Raise.{raise-stops, raise-splits}
 use Rattle.rules.proofs.Links.Manifold.{Base}
 use Rattle.rules.proofs.Numbers.Decide.{is-eq, when-true, when-false}
 use Rattle.rules.proofs.Numbers.Entries.{Each}
-use Rattle.rules.proofs.Spares.Copies.{Copy, copy-three}
+use Rattle.rules.proofs.Spares.Copies.{Copy, copy-set, copy-three}
 use Rattle.rules.proofs.Spares.CopiedCuts.{LinkIn, Copied, Counted, flip-copied, face-cut-copied}
 use Rattle.rules.proofs.Spares.CopiedCuts.{rim-cut-copied, flip-counted, face-cut-counted, rim-cut-counted}
 use Rattle.rules.proofs.Splits.Bases.{reached, base-is}
 use Rattle.rules.specs.Spares.{Spares}
 use Rattle.rules.specs.Split.{Work, withSplit, withFlip, flip, thirdOf, centre, firstThird, secondThird}
-use Rattle.rules.specs.Split.{facePlaced, rimPlaced, settle, settleAll, faceSplit, rimSplit, splitAt}
+use Rattle.rules.specs.Split.{newUnlocked, facePlaced, rimPlaced, settle, settleAll, faceSplit, rimSplit, splitAt}
 use Rattle.rules.specs.Split.{chainEndWithin, chainOddWithin, chainEnd, raise, refine}
 use Rattle.rules.specs.Tables.{Topology, withTopology, origin, link, boundary, generation, odd, isBase}
 use Rattle.rules.specs.Tables.{coordinate, putThree}
@@ -34,6 +34,7 @@ pub record Over (s : Spares) (v f : ℕ) (w x : Work) : Type 0 where
   pub copyCounts : Counted v f (reached x)
   pub tables : Copied s v f f (reached w) (reached x)
   pub positions : Placed v (s .positions) (w .mesh .positions) (x .mesh .positions)
+  pub locks : Copy (λ _. Unit {0}) 0 f (s .locks) (w .mesh .locks) (x .mesh .locks)
   pub rule : x .mesh .rule ≡ w .mesh .rule
   pub splits : x .splits ≡ w .splits
   pub flips : x .flips ≡ w .flips
@@ -91,6 +92,13 @@ placed v u i j e f C =
     rw (i, j, f 0 (omega arith), f 1 (omega arith), f 2 (omega arith), ← z)
     (copy-three C v _ (omega arith) (tt, tt, tt))
 
+-- Two triangles more, unlocked.
+unlocked-over : {s l k : List ℕ} {f a b : ℕ} → a ≡ f → b ≡ f → Copy (λ _. Unit {0}) 0 f s l k
+    → Copy (λ _. Unit {0}) 0 (f + 2) s (newUnlocked a l) (newUnlocked b k)
+unlocked-over {f = f} i j C =
+    let e : max (max f (suc f)) (suc (f + 1)) ≡ f + 2 = omega arith in
+    rw (i, j, ← e) (copy-set (copy-set C f 0 (omega arith) tt) (f + 1) 0 (omega arith) tt)
+
 module _ {s : Spares} (few : length (s .links) ≤ boundary) (low : length (s .generations) ≤ boundary / 3) where
   module _ {v f : ℕ} {m n : Topology} (C : Copied s v f f m n) (h : ℕ) where
     -- The boundary reads as a side of a slot past the tables.
@@ -133,6 +141,7 @@ module _ {s : Spares} (few : length (s .links) ≤ boundary) (low : length (s .g
         tables =
             flip-copied few (O .tables) c (h / 3) l (base-below (O .tables) h i (when-true (base-is (reached w) h) e));
         positions = O .positions;
+        locks = O .locks;
         rule = O .rule;
         splits = O .splits;
         flips = ap suc (O .flips);
@@ -166,6 +175,7 @@ module _ {s : Spares} (few : length (s .links) ≤ boundary) (low : length (s .g
       tables = face-cut-copied few (O .counts) (O .copyCounts) (O .tables) t l;
       positions = placed v (suc v) (O .counts .0) (O .copyCounts .0) refl
           (λ c. third-same 0 1 2 c (omega arith) (omega arith) (omega arith)) (O .positions);
+      locks = unlocked-over (O .counts .1) (O .copyCounts .1) (O .locks);
       rule = O .rule;
       splits = ap suc (O .splits);
       flips = O .flips;
@@ -183,6 +193,7 @@ module _ {s : Spares} (few : length (s .links) ≤ boundary) (low : length (s .g
           (λ c. third-same 0 1 1 c (omega arith) (omega arith) (omega arith))
           (placed v (v + 1) (O .counts .0) (O .copyCounts .0) (omega arith)
           (λ c. third-same 0 0 1 c (omega arith) (omega arith) (omega arith)) (O .positions));
+      locks = unlocked-over (O .counts .1) (O .copyCounts .1) (O .locks);
       rule = O .rule;
       splits = ap suc (O .splits);
       flips = O .flips;

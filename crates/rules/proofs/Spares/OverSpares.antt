@@ -8,22 +8,24 @@ use native.Mathlib.Omega.{arith}
 use native.Mathlib.Decide.{decLt}
 use lib.Dec.{leb}
 use Rattle.rules.proofs.Calls.Carried.{refine-found, found-refined}
+use Rattle.rules.proofs.Chains.Altering.{SameWays, ways-back, alters-in, alters-locked-is}
+use Rattle.rules.proofs.Links.Manifold.{partnered}
 use Rattle.rules.proofs.Links.Past.{joined-below}
 use Rattle.rules.proofs.Links.Renaming.{fan-map}
 use Rattle.rules.proofs.Links.Sides.{next-lt, previous-lt}
-use Rattle.rules.proofs.Numbers.Decide.{is-le, is-same, is-true}
+use Rattle.rules.proofs.Numbers.Decide.{is-le, is-iff, is-same, is-true}
 use Rattle.rules.proofs.Soundness.Relaxed.{SameSlots, sound-manifold, agree-on}
 use Rattle.rules.proofs.Soundness.SoundTest.{tables-agree-is, sound-is}
 use Rattle.rules.proofs.Spares.Copies.{copy-is, copy-of}
 use Rattle.rules.proofs.Spares.CopiedWork.{Over, chain-end-same, chain-odd-same, refine-over}
 use Rattle.rules.proofs.Splits.Bases.{reached}
 use Rattle.rules.specs.Calls.{Test, _if_, firstOf, roomFor, rimSplitsOf, verticesOf, trianglesOf, tooOld}
-use Rattle.rules.specs.Calls.{refineRefusal}
+use Rattle.rules.specs.Calls.{refineRefusal, altersLocked}
 use Rattle.rules.specs.Sound.{Linked, Sound, here, turn}
 use Rattle.rules.specs.Spares.{Spares, copied, meshIn, SameSizes}
 use Rattle.rules.specs.Split.{Work, atFirst, withMesh, chainEndWithin, chainOdd, refine}
 use Rattle.rules.specs.Tables.{Mesh, topologyOf, meshOf, sides, next, previous, origin, link, boundary}
-use Rattle.rules.specs.Tables.{generation, coordinate}
+use Rattle.rules.specs.Tables.{generation, coordinate, lock}
 
 -- The mesh m, copied into the tables s.
 abbrev pub over : Spares → Mesh → Mesh
@@ -50,6 +52,7 @@ module _ {s : Spares} {m : Mesh} (L : SameSizes s m) (S : Sound m) where
         };
         positions =
             copy-of (omega (arith, L .positions, A .positions, S .vertexRoom)) (sym (L .positions)) tt (λ _ _. tt);
+        locks = copy-of (omega (arith, L .locks, A .locks, S .triangleRoom)) (sym (L .locks)) tt (λ _ _. tt);
         rule = refl;
         splits = refl;
         flips = refl;
@@ -61,6 +64,7 @@ module _ {s : Spares} {m : Mesh} (L : SameSizes s m) (S : Sound m) where
     corners = begun .tables .corners .copySize ∙ L .corners;
     links = begun .tables .links .copySize ∙ L .links;
     generations = begun .tables .generations .copySize ∙ L .generations;
+    locks = begun .locks .copySize ∙ L .locks;
   }
 
   pub corner-same : (h : ℕ) → h < sides (m .topology) → origin (over s m .topology) h ≡ origin (m .topology) h
@@ -72,6 +76,9 @@ module _ {s : Spares} {m : Mesh} (L : SameSizes s m) (S : Sound m) where
   pub generation-same : (t : ℕ) → t < m .topology .triangles
       → generation (over s m .topology) t ≡ generation (m .topology) t
   generation-same t l = begun .tables .generations .used t l .0
+
+  lock-same : (t : ℕ) → t < m .topology .triangles → lock (over s m) t ≡ lock m t
+  lock-same t l = begun .locks .used t l .0
 
   pub coordinate-same : (v k : ℕ) → v < m .topology .vertices → k < 3
       → coordinate (over s m) v k ≡ coordinate m v k
@@ -95,6 +102,7 @@ module _ {s : Spares} {m : Mesh} (L : SameSizes s m) (S : Sound m) where
         (λ h i e. (h, i, sym (corner-same h i) ∙ e, here)) (S .fans v l);
     range = λ i l. rw (begun .positions .used i l .0) (S .range i l);
     generations = λ t l. rw (generation-same t l) (S .generations t l);
+    locks = λ t l. rw (lock-same t l) (S .locks t l);
     rule = S .rule;
   }
     where
@@ -116,6 +124,13 @@ module _ {s : Spares} {m : Mesh} (L : SameSizes s m) (S : Sound m) where
 
   -- ---- refusals
 
+  same-ways : SameWays (m .topology .triangles) (m .topology) (over s m .topology)
+  same-ways = record {
+    generations = generation-same;
+    links = link-same;
+    inUse = λ h l n. partnered (sound-manifold S .linked h l) n .inUse;
+  }
+
   module _ (t : ℕ) (l : t < m .topology .triangles) where
     rim-splits-same : rimSplitsOf (over s m .topology) t ≡ rimSplitsOf (m .topology) t
     rim-splits-same =
@@ -128,6 +143,14 @@ module _ {s : Spares} {m : Mesh} (L : SameSizes s m) (S : Sound m) where
 
     old-same : tooOld (over s m .topology) t ≡ tooOld (m .topology) t
     old-same = rw (generation-same t l, link-same (3 * t) (omega arith))
+
+    altered-same : altersLocked t (over s m) ≡ altersLocked t m
+    altered-same =
+        is-same (alters-locked-is t (over s m) over-sound l)
+        (is-iff
+        (λ (x, (u, e), A). (x, (u, lock-same x u ∙ e), alters-in same-ways l u A))
+        (λ (x, (u, e), A). (x, (u, sym (lock-same x u) ∙ e), alters-in (ways-back same-ways) l u A))
+        (alters-locked-is t m S l))
 
     room-same :
         roomFor (verticesOf (over s m .topology) t) (trianglesOf (over s m .topology) t) (over s m)
@@ -148,11 +171,12 @@ module _ {s : Spares} {m : Mesh} (L : SameSizes s m) (S : Sound m) where
       tests n =
           8 if leb (n .topology .triangles) t
           ∷ 9 if tooOld (n .topology) t
+          ∷ 19 if altersLocked t n
           ∷ 11 if not (roomFor (verticesOf (n .topology) t) (trianglesOf (n .topology) t) n)
           ∷ []
 
       go : Dec (t < m .topology .triangles) → firstOf (tests (over s m)) ≡ firstOf (tests m)
-      go (yes l) = rw (old-same t l, room-same t l)
+      go (yes l) = rw (old-same t l, altered-same t l, room-same t l)
       go (no l) = rw (is-same (is-le (m .topology .triangles) t) (is-true (omega arith)))
 
 -- ---- refines
@@ -172,6 +196,7 @@ over-is {s} {v} {f} {w} {x} O S =
           (copy-is (omega (arith, P .tables .links .size, A .links, S .triangleRoom)) (P .tables .links) i)
           (copy-is (omega (arith, P .tables .generations .size, S .triangleRoom)) (P .tables .generations) i))
           (copy-is (omega (arith, P .positions .size, A .positions, S .vertexRoom)) (P .positions) i)
+          (copy-is (omega (arith, P .locks .size, A .locks, S .triangleRoom)) (P .locks) i)
           (P .rule i);
       splits = P .splits i;
       flips = P .flips i;

@@ -20,7 +20,7 @@ use Rattle.rules.proofs.Splits.Settled.{settled-spread, settled-flips, 
 use Rattle.rules.proofs.Splits.Settled.{unchanged-not, NewCorner, settled-new-corner}
 use Rattle.rules.proofs.Splits.Settled.{still-on, settled-still}
 use Rattle.rules.proofs.Splits.Settling.{Same, Follow}
-use Rattle.rules.specs.Promises.{Still, Written}
+use Rattle.rules.specs.Promises.{Follows, Still, Written}
 use Rattle.rules.specs.Tables.{Topology, sides, origin, boundary, link, generation}
 
 -- Side k is the base of one of them.
@@ -55,6 +55,7 @@ pub record Cut (v g : ℕ) (cs : List ℕ) (p r : ℕ) (m n : Topology) : Type 0
   pub links : (h : ℕ) → h < sides m → h / 3 ≢ v → link m h / 3 ≢ v → link n h ≡ link m h
   pub into : (h : ℕ) → h < sides m → h / 3 ≢ v → link m h / 3 ≡ v → Onto cs (link n h)
   pub bases : (h : ℕ) → h < sides n → Base n h → ((h < sides m) × (h / 3 ≢ v)) ⊎ Among cs (h / 3)
+  pub follows : Follows m n
   pub newCorner : (x : ℕ) → x < n .triangles → Written m n x → NewCorner (m .vertices) n x
   pub past : (b : ℕ) → n .triangles ≤ b → Past b m n
 
@@ -257,6 +258,7 @@ module _ (v g : ℕ) (cs : List ℕ) (p r : ℕ) (m one n : Topology) (F : Manif
     corners = λ h l e. C .corners h l (not-v (h / 3) e);
     links = λ h l e f. C .links h l (not-v (h / 3) e) (away h f);
     shift = λ h l e. slide h l (not-v (h / 3) e) (ℕ-discrete (link m h / 3) v);
+    follows = C .follows;
   }
     where
       not-v : (x : ℕ) → generation one x ≡ generation m x → x ≢ v

@@ -11,11 +11,12 @@ use Rattle.rules.proofs.Numbers.Decide.{Decides, is-eq, is-lt, is-iff, 
 use Rattle.rules.proofs.Splits.FlipKeeps.{BasesMeet, meet-back}
 use Rattle.rules.proofs.Splits.FlipRead.{Flips}
 use Rattle.rules.proofs.Links.Manifold.{Manifold, Joined, few, partnered-with, no-self}
-use Rattle.rules.proofs.Links.Sides.{renameTwo, by-rename}
+use Rattle.rules.proofs.Links.Sides.{by-rename}
 use Rattle.rules.proofs.Splits.Parts.{Parts, Parted, faceParts, rimParts}
 use Rattle.rules.proofs.Numbers.Sums.{total-same, total-change, total-zero, total-add, total-swap, total-one}
 use Rattle.rules.proofs.Numbers.Sums.{total-const, total-change₂, row, row-same, total-rows, total-two}
 use Rattle.rules.proofs.Numbers.Sums.{zero-each}
+use Rattle.rules.specs.Actions.{renameTwo}
 use Rattle.rules.specs.Below.{total, bit, count}
 use Rattle.rules.specs.History.{edges}
 use Rattle.rules.specs.Tables.{Topology, sides, boundary, link}

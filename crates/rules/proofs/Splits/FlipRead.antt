@@ -8,10 +8,11 @@ use lib.ListN.{length, set, length-set}
 use lib.Seq.{getD-set-same, getD-set-other, lt-length-set, drop-set-lt}
 use Rattle.rules.proofs.Links.Manifold.{Manifold}
 use Rattle.rules.proofs.Links.Past.{Past, drop-put, drop-told, joined-below}
-use Rattle.rules.proofs.Links.Sides.{renameTwo, rename-a, rename-b, rename-else, by-rename, relinked, put-else}
+use Rattle.rules.proofs.Links.Sides.{rename-a, rename-b, rename-else, by-rename, relinked, put-else}
 use Rattle.rules.proofs.Links.Sides.{Row}
 use Rattle.rules.proofs.Links.Sides.{put-row, row-else}
 use Rattle.rules.proofs.Splits.Parts.{mutual-links}
+use Rattle.rules.specs.Actions.{renameTwo}
 use Rattle.rules.specs.Split.{flip}
 use Rattle.rules.specs.Tables.{Topology, sides, origin, link, generation, putThree}
 
@@ -35,6 +36,7 @@ module _ (s u : ℕ) where
 
 -- n is m with s and u flipped.
 pub record Flips (s u : ℕ) (m n : Topology) : Type 0 where
+  pub makes : flip s u m ≡ n
   pub vertices : n .vertices ≡ m .vertices
   pub triangles : n .triangles ≡ m .triangles
   pub cornersS : Row (n .corners) 0 s (origin m (3 * s)) (origin m (3 * u + 2)) (origin m (3 * s + 2))
@@ -77,6 +79,7 @@ module _ (s u : ℕ) (m : Topology) (F : Manifold m) (bs : s < m .triangles) (bu
       let gs : s < length (m .generations) = omega arith in
       let gu : u < length (m .generations) = omega arith in
       record {
+        makes = refl;
         vertices = refl;
         triangles = refl;
         cornersS = row-else c₁ u b p q 0 s a q p ne (put-row (m .corners) s a q p 0 (omega arith));

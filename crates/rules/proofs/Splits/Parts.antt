@@ -8,7 +8,8 @@ use lib.ListN.{length, getD, set, drop, length-set}
 use lib.Seq.{getD-set-same, getD-set-other, lt-length-set, drop-set-lt}
 use Rattle.rules.proofs.Links.Manifold.{Manifold, Joined}
 use Rattle.rules.proofs.Links.Past.{Past, drop-put, drop-told, joined-below}
-use Rattle.rules.proofs.Links.Sides.{renameTwo, Mutual, relinked, length-put, put-else, Row, put-row, row-else}
+use Rattle.rules.proofs.Links.Sides.{Mutual, relinked, length-put, put-else, Row, put-row, row-else}
+use Rattle.rules.specs.Actions.{renameTwo}
 use Rattle.rules.specs.Split.{faceCut, rimCut}
 use Rattle.rules.specs.Tables.{Topology, sides, origin, boundary, link, generation, putThree, putTriangle, relink}
 use Rattle.rules.specs.Tables.{withCounts}
@@ -35,8 +36,18 @@ pub record Parts : Type 0 where
   pub place₂ : ℕ
   pub vertices : ℕ
 
+-- The parts written, with the partners of the sides 1 and 2 of t told the new places.
+abbrev pub parted : ℕ → Parts → Topology → Topology
+parted t p m =
+    let told = relink (link m (3 * t + 2)) (p .place₂) (relink (link m (3 * t + 1)) (p .place₁) m) in
+    let one = putTriangle t (p .own .corners) (p .own .links) (p .own .generation) told in
+    let two = putTriangle (m .triangles) (p .second .corners) (p .second .links) (p .second .generation) one in
+    withCounts (p .vertices) (m .triangles + 2)
+    (putTriangle (m .triangles + 1) (p .third .corners) (p .third .links) (p .third .generation) two)
+
 -- n is m with triangle t cut into these.
 pub record Parted (t : ℕ) (p : Parts) (m n : Topology) : Type 0 where
+  pub makes : parted t p m ≡ n
   pub vertices : n .vertices ≡ p .vertices
   pub triangles : n .triangles ≡ m .triangles + 2
   pub own : Holds n t (p .own)
@@ -97,15 +108,6 @@ cells l d t f e a b c p q r =
       λ h i j k. simp getD-set-other,
     )
 
--- The parts written, with the partners of the sides 1 and 2 of t told the new places.
-abbrev pub parted : ℕ → Parts → Topology → Topology
-parted t p m =
-    let told = relink (link m (3 * t + 2)) (p .place₂) (relink (link m (3 * t + 1)) (p .place₁) m) in
-    let one = putTriangle t (p .own .corners) (p .own .links) (p .own .generation) told in
-    let two = putTriangle (m .triangles) (p .second .corners) (p .second .links) (p .second .generation) one in
-    withCounts (p .vertices) (m .triangles + 2)
-    (putTriangle (m .triangles + 1) (p .third .corners) (p .third .links) (p .third .generation) two)
-
 module _ (t : ℕ) (p : Parts) (m : Topology) (F : Manifold m) (b : t < m .triangles) where
   -- Nothing is written past them.
   past-parted : (c : ℕ) → m .triangles + 2 ≤ c → Past c m (parted t p m)
@@ -149,6 +151,7 @@ module _ (t : ℕ) (p : Parts) (m : Topology) (F : Manifold m) (b : t < m .trian
         cells (m .generations) 0 t f e (p .own .generation) (p .second .generation) (p .third .generation) b
         (omega arith) (omega arith) in
         record {
+          makes = refl;
           vertices = refl;
           triangles = refl;
           own = record { corners = C .0; links = L .0; generation = G .0 };

@@ -5,13 +5,15 @@ use mathlib.Core.List.{List, [], _∷_}
 use Prim.Native.Nat.{ℕ, suc, _+_, _*_, _/_, _%_, _≤_, _<_}
 use native.Mathlib.Omega.{arith}
 use Rattle.rules.proofs.Links.Manifold.{Partnered, Manifold, Base, partnered, no-self}
-use Rattle.rules.proofs.Links.Sides.{renameTwo, rename-a, rename-b, rename-else, by-triangle, by-slot}
+use Rattle.rules.proofs.Links.Sides.{rename-a, rename-b, rename-else, by-triangle, by-slot}
 use Rattle.rules.proofs.Numbers.Entries.{Each}
 use Rattle.rules.proofs.Splits.Bases.{Child, boundary-not-base}
 use Rattle.rules.proofs.Splits.Cut.{Cut, Onto, Spread}
 use Rattle.rules.proofs.Splits.Edges.{boundarySides}
+use Rattle.rules.proofs.Splits.Following.{follows-one}
 use Rattle.rules.proofs.Splits.Parts.{Parts, Parted}
-use Rattle.rules.proofs.Splits.Settled.{Among, Children, Distinct, NewCorner}
+use Rattle.rules.proofs.Splits.Settled.{Among, Children, Distinct, NewCorner, unchanged-not}
+use Rattle.rules.specs.Actions.{Action, MayAct, acted, placeAfter, renameTwo}
 use Rattle.rules.specs.Promises.{Written}
 use Rattle.rules.specs.Tables.{Topology, sides, origin, boundary, link, generation}
 
@@ -21,6 +23,10 @@ Waits cs g n x = ((generation n x ≡ g) × Among cs x) ⊎ (generation n x ≡ 
 
 -- What the cut of v leaves to its flips: v and rest, of the odd generation g, with r boundary sides more.
 pub record Leaves (v g r : ℕ) (rest : List ℕ) (p : Parts) (m n : Topology) : Type 0 where
+  pub action : Action
+  pub mayAct : MayAct action m
+  pub makes : acted action m ≡ n
+  pub place : (h : ℕ) → placeAfter action m h ≡ renameTwo (3 * v + 1) (p .place₁) (3 * v + 2) (p .place₂) h
   pub odd : g % 2 ≡ 1
   pub high : generation m v < g
   pub children : Children (m .vertices) g n (v ∷ rest)
@@ -93,6 +99,8 @@ module _ (v : ℕ) (p : Parts) (m n : Topology) (F : Manifold m) (b : v < m .tri
         bases = λ h l x. by-slot v (m .triangles) (n .triangles) (Among-or h) (S .triangles) (λ e. inr (inl e))
             (based h x (L .second)) (based h x (L .third)) (λ y i j e. inl (omega arith, omega arith)) (h / 3)
             (omega arith) refl;
+        follows = follows-one (L .action) (L .mayAct) (L .makes) (λ h l e.
+            S .links h l (unchanged-not m n (λ z. omega (arith, L .high)) e) ∙ sym (L .place (link m h)));
         newCorner = by-slot v (m .triangles) (n .triangles) (λ x. Written m n x → NewCorner (m .vertices) n x)
             (S .triangles) (λ w. (3 * v + 2, omega arith, L .children .0 .fresh)) (λ w. L .newCorner₁)
             (λ w. L .newCorner₂) old;

@@ -11,9 +11,10 @@ use borrow.Author.Tests.{eq-eqb, ne-eqb}
 use Rattle.rules.proofs.Links.Manifold.{Manifold, level, Joined, target₀, target₁, target₂, rotate₀, rotate₁}
 use Rattle.rules.proofs.Links.Manifold.{rotate₂, few, no-self}
 use Rattle.rules.proofs.Links.Renaming.{Renames, linked, fan-map}
-use Rattle.rules.proofs.Links.Sides.{renameTwo, rename-a, rename-b, rename-else, previous-lt, by-triangle}
+use Rattle.rules.proofs.Links.Sides.{rename-a, rename-b, rename-else, previous-lt, by-triangle}
 use Rattle.rules.proofs.Links.Sides.{by-side}
 use Rattle.rules.proofs.Splits.Parts.{Cell, Holds, Parts, Parted}
+use Rattle.rules.specs.Actions.{renameTwo}
 use Rattle.rules.specs.Sound.{OneFan, Turns, here, turn}
 use Rattle.rules.specs.Tables.{Topology, sides, next, previous, origin, target, boundary, link, rotate}
 

@@ -1,4 +1,4 @@
--- Positions: what a split writes and what it leaves.
+-- Positions and locks: what a split writes and what it leaves.
 use mathlib.Core.Path.{_≡_, refl, sym, ap, _∙_, subst}
 use mathlib.Core.Logic.{_≢_}
 use Prim.Native.Nat.{ℕ, suc, _+_, _*_, _/_, _≤_, _<_}
@@ -8,11 +8,12 @@ use lib.ListN.{length, getD, drop, length-set}
 use lib.IntN.{ℤ, pos}
 use Rattle.rules.proofs.Links.Past.{drop-put}
 use Rattle.rules.proofs.Links.Sides.{put-else, put-row, row-each}
+use Rattle.rules.proofs.Splits.Unlocking.{Unlocks, unlocks-stay, unlocks-on}
 use Rattle.rules.specs.Numbers.{InRange}
 use Rattle.rules.specs.Tables.{Mesh, putThree}
 
 -- The vertices of m stand in n where they stood, nothing is written past those of n, and new ones are in range where
--- the old ones are; the rule goes on.
+-- the old ones are; locks stand too, new ones are clear, and the rule goes on.
 pub record Places (m n : Mesh) : Type 0 where
   pub size : length (n .positions) ≡ length (m .positions)
   pub grows : m .topology .vertices ≤ n .topology .vertices
@@ -21,6 +22,7 @@ pub record Places (m n : Mesh) : Type 0 where
   pub range : 3 * n .topology .vertices ≤ length (n .positions)
       → ((i : ℕ) → i < 3 * m .topology .vertices → InRange (getD (m .positions) i (pos 0)))
       → (i : ℕ) → i < 3 * n .topology .vertices → InRange (getD (n .positions) i (pos 0))
+  pub locks : Unlocks m n
   pub rule : n .rule ≡ m .rule
 
 pub places-same : (m : Mesh) → Places m m
@@ -30,6 +32,7 @@ places-same m = record {
   old = λ i l. refl;
   past = λ b l. refl;
   range = λ r a. a;
+  locks = unlocks-stay m m refl refl;
   rule = refl;
 }
 
@@ -40,24 +43,27 @@ places-on A B = record {
   old = λ i l. let g = A .grows in B .old i (omega arith) ∙ A .old i l;
   past = λ b l. let g = B .grows in B .past b l ∙ A .past b (omega arith);
   range = λ r a. let g = B .grows in B .range r (A .range (omega (arith, B .size)) a);
+  locks = unlocks-on (A .locks) (B .locks);
   rule = B .rule ∙ A .rule;
 }
 
 -- Neither vertices nor positions change.
 pub places-stay : (m n : Mesh) → n .positions ≡ m .positions → n .topology .vertices ≡ m .topology .vertices
-    → n .rule ≡ m .rule → Places m n
-places-stay m n p v e = record {
+    → Unlocks m n → n .rule ≡ m .rule → Places m n
+places-stay m n p v u e = record {
   size = ap length p;
   grows = omega arith;
   old = λ i l. ap (λ q. getD q i (pos 0)) p;
   past = λ b l. ap (drop (3 * b)) p;
   range = λ r a i l. subst (λ q. InRange (getD q i (pos 0))) (sym p) (a i (omega arith));
+  locks = u;
   rule = e;
 }
 
 -- A new vertex placed in the first free slot.
 module _ (m n : Mesh) (p : ℤ × ℤ × ℤ) (one : n .topology .vertices ≡ suc (m .topology .vertices))
-    (put : n .positions ≡ putThree (m .topology .vertices) p (m .positions)) (rule : n .rule ≡ m .rule) where
+    (put : n .positions ≡ putThree (m .topology .vertices) p (m .positions)) (locks : Unlocks m n)
+    (rule : n .rule ≡ m .rule) where
   v : ℕ
   v = m .topology .vertices
 
@@ -89,6 +95,7 @@ module _ (m n : Mesh) (p : ℤ × ℤ × ℤ) (one : n .topology .vertices ≡ s
     old = λ i l. read i (omega arith);
     past = λ b l. ap (drop (3 * b)) put ∙ drop-put (m .positions) v b p (omega arith);
     range = λ r a i l. go a (omega (arith, size)) i l (decLt i (3 * v));
+    locks = locks;
     rule = rule;
   }
     where

@@ -8,6 +8,7 @@ use native.Mathlib.Decide.{ℕ-discrete, decLe}
 use Rattle.rules.proofs.Splits.Bases.{Child, Settling, kept, flipped, settling-manifold}
 use Rattle.rules.proofs.Splits.Edges.{boundarySides, settling-boundary}
 use Rattle.rules.proofs.Numbers.Entries.{Each, Some, each-both, some-with}
+use Rattle.rules.proofs.Splits.Following.{follows-none, follows-one, follows-on}
 use Rattle.rules.proofs.Splits.FlipRead.{flipName, flip-name-else, by-flip-name}
 use Rattle.rules.proofs.Links.Manifold.{Manifold, BasesMeetIn}
 use Rattle.rules.proofs.Links.Past.{Past, past-same, past-on}
@@ -16,6 +17,7 @@ use Rattle.rules.proofs.Splits.Settling.{settling-past}
 use Rattle.rules.proofs.Splits.Settling.{settling-generation, settling-flips, settling-waits, Follow}
 use Rattle.rules.proofs.Splits.Settling.{settling-follow}
 use Rattle.rules.proofs.Splits.Settling.{settling-spread, settling-meets}
+use Rattle.rules.specs.Actions.{flips}
 use Rattle.rules.specs.Promises.{Still, Written}
 use Rattle.rules.specs.Tables.{Topology, sides, origin, boundary, link, generation}
 
@@ -224,6 +226,7 @@ still-all m = record {
   corners = λ h l e. refl;
   links = λ h l e f. refl;
   shift = λ h l e. inl refl;
+  follows = follows-none m;
 }
 
 pub still-on : (m k n : Topology) → Still m k → Still k n → Still m n
@@ -238,6 +241,7 @@ still-on m k n A B = record {
       let g = A .grows in
       moves h (A .shift h l (early (h / 3) (omega arith) e))
       (B .shift h (omega arith) (late (h / 3) (omega arith) e));
+  follows = follows-on (A .grows) (λ x l e. (early x l e, late x l e)) (A .follows) (B .follows);
 }
   where
     early-written : (y : ℕ) → Dec (m .triangles ≤ y) → Written m k y → Written m n y
@@ -301,6 +305,8 @@ settling-still c m n F (flipped u B S) = record {
       ∙ flip-name-else c u (link m h) (omega arith) (omega arith);
   shift = λ h l e.
       slide h (S .links h l (not-c (h / 3) e) (not-u (h / 3) e));
+  follows = follows-one (flips c u) (B .useS, B .useU, B .meet, B .odd, B .same) (S .makes)
+      (λ h l e. S .links h l (not-c (h / 3) e) (not-u (h / 3) e));
 }
   where
     to-slot : (h x : ℕ) → link n h ≡ 3 * x → generation n x ≢ generation m x

@@ -15,10 +15,12 @@ use Rattle.rules.proofs.Splits.Odds.{split-odds, rim-odds, settling-odd
 use Rattle.rules.proofs.Splits.Parts.{Parts, Parted, faceParts, parted-is, split-is, rimParts, rim-is}
 use Rattle.rules.proofs.Splits.PartsCut.{child, cut-of}
 use Rattle.rules.proofs.Splits.Places.{Places, places-stay, places-on, places-new}
+use Rattle.rules.proofs.Splits.Unlocking.{unlocks-stay, unlocks-new}
 use Rattle.rules.proofs.Numbers.Rounding.{third-in-range}
 use Rattle.rules.proofs.Splits.Settled.{Settled, done, then, Children, Distinct, children-on}
 use Rattle.rules.proofs.Splits.RimKeeps.{rim-manifold}
 use Rattle.rules.proofs.Splits.SplitKeeps.{split-manifold}
+use Rattle.rules.specs.Actions.{cutsFace, cutsRim}
 use Rattle.rules.specs.Numbers.{InRange}
 use Rattle.rules.specs.Promises.{odds}
 use Rattle.rules.specs.Split.{Work, faceCut, flip, withSplit, withFlip, centre, facePlaced, settle, settleAll}
@@ -47,6 +49,10 @@ module _ (v : ℕ) (m n : Topology) (F : Manifold m) (b : v < m .triangles) (eve
       let o : suc (generation m v) % 2 ≡ 1 = omega arith in
       let w = S .triangles in
       cut-of v p m n F b S N (suc (generation m v)) 1 0 (f ∷ e ∷ []) (omega arith) (record {
+        action = cutsFace v;
+        mayAct = (b, even);
+        makes = split-is v m ∙ S .makes;
+        place = λ h. refl;
         odd = o;
         high = omega arith;
         children = (
@@ -85,6 +91,10 @@ module _ (v : ℕ) (m n : Topology) (F : Manifold m) (b : v < m .triangles) (odd
       let o : (generation m v + 2) % 2 ≡ 1 = omega arith in
       let w = S .triangles in
       cut-of v p m n F b S N (generation m v + 2) 2 2 (e ∷ []) refl (record {
+        action = cutsRim v;
+        mayAct = (b, odd, edge);
+        makes = rim-is v m ∙ S .makes;
+        place = λ h. refl;
         odd = o;
         high = omega arith;
         children = (
@@ -147,7 +157,7 @@ counted (next-child S s) = counted-on S (counted s)
 
 -- Settling changes the topology alone.
 settle-leaves : (s : ℕ) (w : Work) → (settle s w .mesh .positions ≡ w .mesh .positions)
-    × (settle s w .mesh .rule ≡ w .mesh .rule)
+    × (settle s w .mesh .rule ≡ w .mesh .rule) × (settle s w .mesh .locks ≡ w .mesh .locks)
 unfolding settle
 settle-leaves s w = go (isBase m (link m (3 * s)))
   where
@@ -160,19 +170,20 @@ settle-leaves s w = go (isBase m (link m (3 * s)))
           | false ↦ w
         ] in
         (x .mesh .positions ≡ w .mesh .positions) × (x .mesh .rule ≡ w .mesh .rule)
-    go true = (refl, refl)
-    go false = (refl, refl)
+        × (x .mesh .locks ≡ w .mesh .locks)
+    go true = (refl, refl, refl)
+    go false = (refl, refl, refl)
 
 settle-positions : (s : ℕ) (w : Work) → settle s w .mesh .positions ≡ w .mesh .positions
 settle-positions s w = settle-leaves s w .0
 
 settled-leaves : (cs : List ℕ) (w : Work) → (settleAll cs w .mesh .positions ≡ w .mesh .positions)
-    × (settleAll cs w .mesh .rule ≡ w .mesh .rule)
-settled-leaves [] w = (refl, refl)
+    × (settleAll cs w .mesh .rule ≡ w .mesh .rule) × (settleAll cs w .mesh .locks ≡ w .mesh .locks)
+settled-leaves [] w = (refl, refl, refl)
 settled-leaves (c ∷ cs) w =
     let x = settled-leaves cs (settle c w) in
     let y = settle-leaves c w in
-    (x .0 ∙ y .0, x .1 ∙ y .1)
+    (x .0 ∙ y .0, x .1 ∙ y .1, x .2 ∙ y .2)
 
 -- A face split places its vertex at the centre, and no other.
 pub face-positions : (t : ℕ) (w : Work)
@@ -206,7 +217,8 @@ splitting-of v g p r cs w k F b C o P =
       result = result;
       splits = K .splits;
       odd = omega (arith, K .odd);
-      places = places-on P (places-stay k (x .mesh) (L .0) (result .vertices ∙ sym (C .vertices)) (L .1));
+      places = places-on P (places-stay k (x .mesh) (L .0) (result .vertices ∙ sym (C .vertices))
+          (unlocks-stay k (x .mesh) (L .2) (result .triangles ∙ sym (C .triangles))) (L .1));
     }
 
 -- A third of corners of a triangle in use is in range where the vertices are.
@@ -238,7 +250,8 @@ module _ (v : ℕ) (w : Work) (F : Manifold (reached w)) (b : v < reached w .tri
       split-manifold v m (faceCut v m) F b even S (omega arith) (omega arith) (omega arith) in
       splitting-of v _ 1 0 _ w (facePlaced v (w .mesh)) F b (face-cut v m (faceCut v m) F b even S N)
       (split-odds v m (faceCut v m) b even S)
-      (places-new (w .mesh) (facePlaced v (w .mesh)) _ (S .vertices) refl refl
+      (places-new (w .mesh) (facePlaced v (w .mesh)) _ (S .vertices) refl
+      (unlocks-new (w .mesh) (facePlaced v (w .mesh)) (S .triangles) refl) refl
       (third-fits 0 1 2 (w .mesh) v F b (omega arith) (omega arith) (omega arith)))
 
   pub rim-splitting : generation (reached w) v % 2 ≡ 1 → link (reached w) (3 * v) ≡ boundary
@@ -258,12 +271,13 @@ module _ (v : ℕ) (w : Work) (F : Manifold (reached w)) (b : v < reached w .tri
       meshOf (withCounts (m .vertices + 1) (m .triangles) m)
       (putThree (m .vertices) (firstThird (w .mesh) v 0, firstThird (w .mesh) v 1, firstThird (w .mesh) v 2)
       (w .mesh .positions))
-      (w .mesh .rule) in
+      (w .mesh .locks) (w .mesh .rule) in
       let one : Places (w .mesh) k =
-      places-new (w .mesh) k _ (omega arith) refl refl
+      places-new (w .mesh) k _ (omega arith) refl (unlocks-stay (w .mesh) k refl refl) refl
       (third-fits 0 0 1 (w .mesh) v F b (omega arith) (omega arith) (omega arith)) in
       let two : Places k (rimPlaced v (w .mesh)) =
-      places-new k (rimPlaced v (w .mesh)) _ (omega (arith, S .vertices)) refl refl
+      places-new k (rimPlaced v (w .mesh)) _ (omega (arith, S .vertices)) refl
+      (unlocks-new k (rimPlaced v (w .mesh)) (S .triangles) refl) refl
       (λ a. third-fits 0 1 1 (w .mesh) v F b (omega arith) (omega arith) (omega arith)
       (λ i l. subst InRange (one .old i l) (a i (omega arith)))) in
       splitting-of v _ 2 2 _ w (rimPlaced v (w .mesh)) F b (rim-cut v m (rimCut v m) F b odd edge S N)

@@ -26,6 +26,7 @@ module _ {m : Mesh} (R : StepFound m) where
       corners = M .corners;
       links = M .links;
       generations = M .generations;
+      locks = M .places .locks .size;
     }
 
     -- The vertices stand where they stood.

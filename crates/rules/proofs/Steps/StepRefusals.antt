@@ -10,8 +10,8 @@ use lib.ListN.{length}
 use Rattle.rules.proofs.Numbers.Decide.{is-true, is-same}
 use Rattle.rules.proofs.Calls.FirstThatHolds.{refuses, carries}
 use Rattle.rules.proofs.Soundness.SoundTest.{tables-agree-is, sound-is}
-use Rattle.rules.specs.Calls.{noRoom, refusedWith, worked, roomFor, closedEven, longRing, wholeStepRefusal}
-use Rattle.rules.specs.Calls.{wholeStepCall}
+use Rattle.rules.specs.Calls.{noRoom, refusedWith, worked, roomFor, closedEven, longRing, someLocked}
+use Rattle.rules.specs.Calls.{wholeStepRefusal, wholeStepCall}
 use Rattle.rules.specs.Calls.{_if_, firstOf, tableRoom, limitRefusal, limitRead, limitCall}
 use Rattle.rules.specs.Sound.{Sound, isSound}
 use Rattle.rules.specs.Step.{wholeStep}
@@ -24,13 +24,12 @@ tests-sound : {m : Mesh} → Sound m → isSound m ≡ true
 tests-sound {m} S = is-same (sound-is m) (is-true S)
 
 -- The refusal of a sound mesh by the answers of the later tests. A test that was not made stands for itself.
-pub step-by-tests : {m : Mesh} {c g r s : Bool} → Sound m → closedEven (m .topology) ≡ c
-    → eqb (generation (m .topology) 0) 20 ≡ g → longRing (m .topology) ≡ r
+pub step-by-tests : {m : Mesh} {c g r l s : Bool} → Sound m → closedEven (m .topology) ≡ c
+    → eqb (generation (m .topology) 0) 20 ≡ g → longRing (m .topology) ≡ r → someLocked m ≡ l
     → roomFor (m .topology .triangles) (2 * m .topology .triangles) m ≡ s
-    → firstOf (12 if not c ∷ 9 if g ∷ 13 if r ∷ 11 if not s ∷ []) ≡ wholeStepRefusal m
+    → firstOf (12 if not c ∷ 9 if g ∷ 13 if r ∷ 19 if l ∷ 11 if not s ∷ []) ≡ wholeStepRefusal m
 unfolding wholeStepRefusal
-step-by-tests {m} S c g r s =
-    rw (wholeStepRefusal, agrees S, tests-sound S, c, g, r, s)
+step-by-tests {m} S c g r l s = rw (wholeStepRefusal, agrees S, tests-sound S, c, g, r, l, s)
 
 pub step-refused : (m : Mesh) (n : ℕ) → n ≡ wholeStepRefusal m → n ≢ 0
     → refusedWith n m noRoom ≡ wholeStepCall m

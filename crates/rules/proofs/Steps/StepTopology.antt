@@ -16,9 +16,10 @@ use Rattle.rules.proofs.Links.Manifold.{Manifold, BasesMeetIn}
 use Rattle.rules.proofs.Links.Past.{Past, past-same, past-on}
 use Rattle.rules.proofs.Splits.Places.{Places, places-same, places-on}
 use Rattle.rules.proofs.Chains.Raise.{raise-cuts}
-use Rattle.rules.proofs.Chains.Runs.{isEven, split-even}
+use Rattle.rules.proofs.Chains.Runs.{split-even}
 use Rattle.rules.proofs.Splits.Settled.{nowhere}
 use Rattle.rules.proofs.Links.Sides.{put-at}
+use Rattle.rules.specs.Conditions.{isEven}
 use Rattle.rules.specs.Promises.{odds}
 use Rattle.rules.specs.Split.{Work, centre, faceSplit, refine}
 use Rattle.rules.specs.Step.{refineFirst}

@@ -11,6 +11,7 @@ use Rattle.rules.proofs.Splits.Edges.{edges-boundary, boundary-none}
 use Rattle.rules.proofs.Splits.Splitting.{Room}
 use Rattle.rules.proofs.Chains.Refine.{sound-room}
 use Rattle.rules.proofs.Soundness.Relaxed.{sound-manifold, sound-bases, manifold-sound, agree-on}
+use Rattle.rules.proofs.Splits.Unlocking.{locks-fit}
 use Rattle.rules.proofs.Rings.RingVertices.{ring-coordinates, ring-some}
 use Rattle.rules.proofs.Steps.StepPositions.{length-move, move-else, move-past, move-at}
 use Rattle.rules.proofs.Steps.StepPositions.{moved-coordinate-in-range}
@@ -122,6 +123,7 @@ module _ (m : Mesh) (S : Sound m) (C : ClosedEven (m .topology)) (young : C .com
   step-makes =
       let t = M .triangles in
       let v = M .vertices in
+      let U = M .places .locks in
       let size : length (moveVertices (m .topology .vertices) m (w .mesh .positions)) ≡ length (m .positions) =
       length-move (m .topology .vertices) m (w .mesh .positions) ∙ M .places .size in
       let A : TablesAgree (wholeStep m .mesh) =
@@ -130,6 +132,7 @@ module _ (m : Mesh) (S : Sound m) (C : ClosedEven (m .topology)) (young : C .com
         corners = M .corners;
         links = M .links;
         generations = M .generations;
+        locks = U .size;
       }) in
       let o : odds (reached w) ≡ 0 = none-odd (reached w) (λ x l. two-even (up x l) (C .even)) in
       let o′ : odds (m .topology) ≡ 0 = closed-none-odd C in
@@ -138,7 +141,7 @@ module _ (m : Mesh) (S : Sound m) (C : ClosedEven (m .topology)) (young : C .com
         sound =
             manifold-sound (wholeStep m .mesh) A (M .manifold) (M .basesMeet) (omega (arith, S .someVertex))
             (omega (arith, S .someTriangle)) (omega (arith, R .vertices))
-            (λ x l. let u = up x l in let y = low in omega arith) range
+            (λ x l. let u = up x l in let y = low in omega arith) range (locks-fit U (S .locks))
             (subst KnownRule (sym (M .places .rule)) (S .rule));
         splits = omega (arith, M .splits);
         flips = omega (arith, M .odd);
@@ -148,6 +151,7 @@ module _ (m : Mesh) (S : Sound m) (C : ClosedEven (m .topology)) (young : C .com
             let old = edges-boundary (m .topology) (sound-manifold S) in
             omega (arith, M .boundaryCount, old, edges-boundary (reached w) (M .manifold));
         generations = λ x l. let u = up x l in omega arith;
+        locks = record { old = U .same .old; new = U .same .new };
         moved = moved-to;
         placed = λ x k l i.
             move-else (m .topology .vertices) m (w .mesh .positions) (3 * (m .topology .vertices + x) + k) (omega arith)
@@ -157,10 +161,12 @@ module _ (m : Mesh) (S : Sound m) (C : ClosedEven (m .topology)) (young : C .com
           cornerSlots = M .corners;
           linkSlots = M .links;
           generationSlots = M .generations;
+          lockSlots = U .size;
           positionSlots = size;
           corners = past .corners;
           links = past .links;
           generations = past .generations;
+          locks = U .past (reached w .triangles) (omega arith);
           positions =
               move-past (m .topology .vertices) m (w .mesh .positions) (reached w .vertices) (omega arith)
               ∙ M .places .past (reached w .vertices) (omega arith);

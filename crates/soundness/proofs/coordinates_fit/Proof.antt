@@ -1,9 +1,8 @@
 -- `soundness::coordinates_fit` meets its contract.
 use borrow.Author.Needs.{needs}
 use native.Mathlib.Omega.{arith}
-use native.Mathlib.Numerals.{add-one}
-use Prim.Native.Nat.{ℕ, _+_, _-_, _≤_}
-use mathlib.Core.Bool.{Bool, _&&_}
+use Prim.Native.Nat.{ℕ, _-_, _≤_}
+use mathlib.Core.Bool.{Bool}
 use mathlib.Core.List.{List}
 use mathlib.Core.Path.{_≡_, refl}
 use lib.IntN.{ℤ, pos}
@@ -11,6 +10,7 @@ use lib.ListN.{getD}
 use mir.Syntax.{w32}
 use mir.Val.{toZ, ofZ}
 use Rattle.points.proofs.Signed.{returned}
+use Rattle.rules.proofs.Numbers.Decide.{all-and}
 use Rattle.rules.specs.Below.{all}
 use Rattle.rules.specs.Numbers.{inRange}
 use Rattle.soundness.proofs.coordinates_fit.Statement.{statement}
@@ -30,10 +30,6 @@ read : (c : tie.After-in-range-arg Inv-loop μ-loop) →
     let z = getD (c .before .before .before .args .positions .now) (c .before .before .loop .i) (pos 0) in
     toZ w32 (ofZ w32 z) ≡ z
 read c = returned w32 (c .in-range-arg .given) refl
-
-more : {a b : Bool} (n : ℕ) (p : ℕ → Bool) → a ≡ all n p → b ≡ p n → (a && b) ≡ all (n + 1) p
-unfolding all
-more n p d e = rw (add-one, d, e)
 
 loop-holds : tie.Need-loop-holds Inv-loop μ-loop
 unfolding all
@@ -58,7 +54,7 @@ loop-again : tie.Need-loop-again Inv-loop μ-loop
 loop-again c =
     let head = c .before .before .before in
     let p = inRangeAt (head .before .args .positions .now) in
-    (omega arith, more _ p (head .loop .inv .1) (rw (read (c .before)) at (c .in-range .ensures)))
+    (omega arith, all-and _ p (head .loop .inv .1) (rw (read (c .before)) at (c .in-range .ensures)))
 
 returns : tie.Need-returns Inv-loop μ-loop
 returns c =

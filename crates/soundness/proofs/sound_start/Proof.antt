@@ -10,7 +10,8 @@ use Rattle.rules.specs.Below.{all}
 use Rattle.rules.specs.Tables.{Mesh, TablesAgree, topologyOf, meshOf, tablesAgree}
 use Rattle.soundness.specs.Parts.{countsFit}
 use Rattle.soundness.proofs.Answers.{refused, passed}
-use Rattle.soundness.proofs.sound_start.Proof.Parts.{CountsFit, counts-are, coordinateFits, room, parts}
+use Rattle.soundness.proofs.sound_start.Proof.Parts.{CountsFit, counts-are, coordinateFits, lockFits}
+use Rattle.soundness.proofs.sound_start.Proof.Parts.{room, parts}
 use Rattle.soundness.proofs.sound_start.Statement.{statement}
 use Rattle.soundness.proofs.sound_start.Tie as tie
 mod Parts
@@ -21,17 +22,21 @@ mesh c =
     meshOf
     (topologyOf (args .vertices) (args .triangles) (args .corners .now) (args .links .now) (args .generations .now))
     (args .positions .now)
+    (args .locks .now)
     (args .rule)
 
 -- The start, from the place after each test.
 abbrev from-1 : tie.Else1 → tie.Start
-from-1 c = c .before .before .before .before .before
+from-1 c = c .before .before .before .before .before .before
 
 abbrev from-2 : tie.Else2 → tie.Start
 from-2 c = from-1 (c .before .before)
 
 abbrev from-3 : tie.Else3 → tie.Start
 from-3 c = from-2 (c .before .before)
+
+abbrev from-4 : tie.Else4 → tie.Start
+from-4 c = from-3 (c .before .before)
 
 -- What each test tells that is passed.
 agreed : (c : tie.Else1) → tablesAgree (mesh (from-1 c)) ≡ true
@@ -42,12 +47,17 @@ agreed c =
 counted : (c : tie.Else2) → countsFit (mesh (from-2 c)) ≡ true
 counted c =
     let args = from-2 c .args in
-    passed (c .before .counts-fit .ensures (args .corners .now) (args .links .now)) (c .if2 .left)
+    passed (c .before .counts-fit .ensures (args .corners .now) (args .links .now) (args .locks .now)) (c .if2 .left)
 
 placed : (c : tie.Else3) →
     let m = mesh (from-3 c) in
     all (3 * m .topology .vertices) (coordinateFits m) ≡ true
 placed c = passed (c .before .coordinates-fit .ensures) (c .if3 .left)
+
+locks-known : (c : tie.Else4) →
+    let m = mesh (from-4 c) in
+    all (m .topology .triangles) (lockFits m) ≡ true
+locks-known c = passed (c .before .locks-fit .ensures) (c .if4 .left)
 
 agree : (c : tie.Else1) → TablesAgree (mesh (from-1 c))
 agree c = when-true (tables-agree-is (mesh (from-1 c))) (agreed c)
@@ -60,7 +70,7 @@ tables-agree-requires c κs = search needs
 
 returns : tie.Need-returns
 returns c =
-    let args = c .before .before .before .before .before .args in
+    let args = c .before .before .before .before .before .before .args in
     let test = c .before .tables-agree .ensures (args .vertices) (args .triangles) (args .rule) in
     let none = refused test (c .if1 .taken) in
     rw (parts _, none)
@@ -72,7 +82,8 @@ returns-2 : tie.Need-returns-2
 returns-2 c =
     let else1 = c .before .before in
     let args = from-1 else1 .args in
-    let none = refused (c .before .counts-fit .ensures (args .corners .now) (args .links .now)) (c .if2 .taken) in
+    let test = c .before .counts-fit .ensures (args .corners .now) (args .links .now) (args .locks .now) in
+    let none = refused test (c .if2 .taken) in
     rw (parts _, agreed else1, none)
 
 mul-coordinates-fit : tie.Need-mul-coordinates-fit
@@ -87,18 +98,31 @@ returns-3 c =
     let none = refused (c .before .coordinates-fit .ensures) (c .if3 .taken) in
     rw (parts _, agreed (else2 .before .before), counted else2, none)
 
-start-requires : tie.Need-start-requires
-start-requires c κs =
+locks-fit-requires : tie.Need-locks-fit-requires
+locks-fit-requires c κs =
     let else2 = c .before .before in
-    let A = agree (else2 .before .before) in
-    let C = counts else2 in
-    (room (mesh (from-3 c)) A C, omega (arith, A .fewVertices, C .vertexRoom))
+    omega (arith, agree (else2 .before .before) .locks, counts else2 .triangleRoom)
 
 returns-4 : tie.Need-returns-4
 returns-4 c =
-    let else3 = c .before in
+    let else3 = c .before .before in
     let else2 = else3 .before .before in
-    rw (parts _, agreed (else2 .before .before), counted else2, placed else3) (c .start .ensures)
+    let none = refused (c .before .locks-fit .ensures) (c .if4 .taken) in
+    rw (parts _, agreed (else2 .before .before), counted else2, placed else3, none)
+
+start-requires : tie.Need-start-requires
+start-requires c κs =
+    let else2 = c .before .before .before .before in
+    let A = agree (else2 .before .before) in
+    let C = counts else2 in
+    (room (mesh (from-4 c)) A C, omega (arith, A .fewVertices, C .vertexRoom))
+
+returns-5 : tie.Need-returns-5
+returns-5 c =
+    let else4 = c .before in
+    let else3 = else4 .before .before in
+    let else2 = else3 .before .before in
+    rw (parts _, agreed (else2 .before .before), counted else2, placed else3, locks-known else4) (c .start .ensures)
 
 pub sound-start-spec : {M : Type 1} → statement M
 sound-start-spec =
@@ -111,5 +135,7 @@ sound-start-spec =
     mul-coordinates-fit
     coordinates-fit-requires
     returns-3
+    locks-fit-requires
+    returns-4
     start-requires
-    returns-4)
+    returns-5)

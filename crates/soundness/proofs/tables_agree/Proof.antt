@@ -24,22 +24,26 @@ mul-if4 c = search needs
 returns-4 : tie.Need-returns-4
 returns-4 c v f rule = is-same (is-false (λ A. c .if4 .taken (A .corners))) (tables-agree-is _)
 
-mul-result : tie.Need-mul-result
-mul-result c = search needs
+mul-if5 : tie.Need-mul-if5
+mul-if5 c = search needs
 
 returns-5 : tie.Need-returns-5
-returns-5 c v f rule = is-same
+returns-5 c v f rule = is-same (is-false (λ A. c .if5 .taken (A .links))) (tables-agree-is _)
+
+returns-6 : tie.Need-returns-6
+returns-6 c v f rule = is-same
     (is-iff
     (λ e. record {
-      positions = c .before .if3 .left;
-      corners = c .if4 .left;
-      links = e;
+      positions = c .before .before .if3 .left;
+      corners = c .before .if4 .left;
+      links = c .if5 .left;
+      locks = e;
       fewVertices = omega arith;
       fewTriangles = omega arith;
     })
-    (λ A. A .links) (is-eq _ _))
+    (λ A. A .locks) (is-eq _ _))
     (tables-agree-is _)
 
 pub tables-agree-spec : {M : Type 1} → statement M
 tables-agree-spec =
-    tie.close (tie.spec returns returns-2 mul-if3 returns-3 mul-if4 returns-4 mul-result returns-5)
+    tie.close (tie.spec returns returns-2 mul-if3 returns-3 mul-if4 returns-4 mul-if5 returns-5 returns-6)

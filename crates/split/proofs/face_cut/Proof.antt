@@ -11,11 +11,11 @@ use Rattle.split.proofs.face_cut.Tie as tie
 add-to-e : tie.Need-add-to-e
 add-to-e c = search needs
 
-add-t16 : tie.Need-add-t16
-add-t16 c = search needs
-
 add-t17 : tie.Need-add-t17
 add-t17 c = search needs
+
+add-t18 : tie.Need-add-t18
+add-t18 c = search needs
 
 mul-to-f : tie.Need-mul-to-f
 mul-to-f c = search needs
@@ -37,16 +37,23 @@ triangle-at-requires c κs = search needs
 
 children-requires : tie.Need-children-requires
 children-requires c κs =
-    let at-start = c .before .before .before .before .before .before .before .before .before .before .before .before
-    .before .before in
+    let at-start = c .before .before .before .before .before .before .before .before .before .before .before
+    .before .before .before .before in
     let n = countsOf 0 (at-start .args .work) in
     omega (arith, at-start .pre, ap (λ x. x .generation) (c .triangle-at .ensures n))
 
 replace-requires : tie.Need-replace-requires
 replace-requires c κs =
     let at-store-point = c .before .before .before .before .before .before .before .before .before in
-    let at-start = at-store-point .before .before .before .before .before .before .before .before .before in
+    let at-start = at-store-point .before .before .before .before .before .before .before .before .before .before in
     omega (arith, at-start .pre, at-store-point .store-point .kept)
+
+unlock-two-requires : tie.Need-unlock-two-requires
+unlock-two-requires c κs =
+    let at-start = c .before .before .before .before .before .before .before .before .before .before .before
+    .before .before .before .before .before .before .before .before .before .before .before .before .before
+    .before .before .before in
+    omega (arith, at-start .pre)
 
 same-length : tie.Need-same-length
 same-length c = search needs
@@ -60,28 +67,33 @@ same-length-3 c = search needs
 same-length-4 : tie.Need-same-length-4
 same-length-4 c = search needs
 
+same-length-5 : tie.Need-same-length-5
+same-length-5 c = search needs
+
 returns : tie.Need-returns
 returns c rule =
-    let at-replace = c .before .before .before .before .before .before in
+    let at-unlock-two = c .before .before in
+    let at-replace = at-unlock-two .before .before .before .before .before .before .before .before in
     let at-children = at-replace .before .before .before .before in
     let at-triangle-at = at-children .before in
     let at-store-point = at-triangle-at .before .before .before .before .before in
     let at-third-of = at-store-point .before .before in
-    let at-start = at-third-of .before .before .before .before .before .before .before in
+    let at-start = at-third-of .before .before .before .before .before .before .before .before in
     let args = at-start .args in
     let n = countsOf rule (args .work) in
     face-hands _ _ _ (at-start .pre .0 .1 .young)
-    (face-cut-steps _ _ _ _ _ _ _ (at-third-of .third-of .ensures n (args .links .now) (args .generations .now))
+    (face-cut-steps _ _ _ _ _ _ _ _
+    (at-third-of .third-of .ensures n (args .links .now) (args .generations .now) (args .locks .now))
     (at-store-point .store-point .ensures) (at-triangle-at .triangle-at .ensures n) (at-children .children .ensures)
-    (at-replace .replace .ensures n)) (at-start .pre .1)
+    (at-replace .replace .ensures n) (at-unlock-two .unlock-two .ensures)) (at-start .pre .1)
 
 pub face-cut-spec : {M : Type 1} → statement M
 face-cut-spec =
     tie.close
     (tie.spec
     add-to-e
-    add-t16
     add-t17
+    add-t18
     mul-to-f
     add-to-e-2
     mul-to-e
@@ -90,8 +102,10 @@ face-cut-spec =
     triangle-at-requires
     children-requires
     replace-requires
+    unlock-two-requires
     same-length
     same-length-2
     same-length-3
     same-length-4
+    same-length-5
     returns)

@@ -17,15 +17,14 @@ use Rattle.split.proofs.refine.Tie as tie
 mod Turns
 
 abbrev Inv-loop : tie.InvT-loop
-Inv-loop positions₀ corners₀ links₀ generations₀ t slots work₀ _ _ positions corners links generations work left end =
+Inv-loop p₀ c₀ l₀ g₀ k₀ t slots work₀ _ _ p c l g k work left end =
     ((rule : ℕ) →
-    let m = workNow rule work₀ positions₀ corners₀ links₀ generations₀ .mesh in
-    RefineFound t m → Refining t m slots left (workNow rule work positions corners links generations))
-    × (0 < left → end ≡ chainEnd (workNow 0 work positions corners links generations .mesh .topology) t)
+    let m = workNow rule work₀ p₀ c₀ l₀ g₀ k₀ .mesh in
+    RefineFound t m → Refining t m slots left (workNow rule work p c l g k))
+    × (0 < left → end ≡ chainEnd (workNow 0 work p c l g k .mesh .topology) t)
 
 abbrev μ-loop : tie.MeasureT-loop
-μ-loop positions₀ corners₀ links₀ generations₀ t slots work₀ _ _ positions corners links generations work left end =
-    left
+μ-loop _ _ _ _ _ _ _ _ _ _ _ _ _ _ _ _ left _ = left
 
 -- In the loop, with splits left.
 module _ (c : tie.In-loop Inv-loop μ-loop) where
@@ -33,15 +32,17 @@ module _ (c : tie.In-loop Inv-loop μ-loop) where
   loop-head = c .before
 
   abbrev start : tie.Start Inv-loop μ-loop
-  start = loop-head .before .before .before .before .before .before
+  start = loop-head .before .before .before .before .before .before .before
 
   abbrev first : Mesh
   first =
       let args = start .args in
       meshNow (args .counts) (args .positions .now) (args .corners .now) (args .links .now) (args .generations .now)
+      (args .locks .now)
 
   abbrev work : ℕ → rules.Work
   work rule = let l = loop-head .loop in workNow rule (l .work) (l .positions) (l .corners) (l .links) (l .generations)
+      (l .locks)
 
   -- What holds of the work so far, by the rule of the counts.
   so-far : Refining (start .args .t) first (start .args .chain .slots) (loop-head .loop .left)
@@ -57,19 +58,20 @@ module _ (c : tie.In-loop Inv-loop μ-loop) where
 -- With the split made.
 module _ (c : tie.After-split-at Inv-loop μ-loop) where
   abbrev at : tie.In-loop Inv-loop μ-loop
-  at = c .before .before .before .before .before
+  at = c .before .before .before .before .before .before
 
   abbrev next : ℕ → rules.Work
   next rule =
       let last = c .split-at .last in
-      workNow rule (c .split-at .result) (last .0) (last .1 .0) (last .1 .1 .0) (last .1 .1 .1 .0)
+      workNow rule (c .split-at .result) (last .0) (last .1 .0) (last .1 .1 .0) (last .1 .1 .1 .0) (last .1 .1 .1 .1 .0)
 
   turned : (rule : ℕ) →
       let args = start at .args in
       let n = args .counts in
       let none : Work = record { vertices = n .vertices; triangles = n .triangles; splits = 0; flips = 0 } in
       let m =
-      workNow rule none (args .positions .now) (args .corners .now) (args .links .now) (args .generations .now) .mesh in
+      workNow rule none (args .positions .now) (args .corners .now) (args .links .now) (args .generations .now)
+      (args .locks .now) .mesh in
       RefineFound (args .t) m → Refining (args .t) m (args .chain .slots) (loop-head at .loop .left - 1) (next rule)
   turned rule R =
       turn-on R (loop-head at .loop .inv .0 rule R) (more at) (at-end at) (next rule) (c .split-at .ensures rule)
@@ -79,7 +81,7 @@ splits-requires c κs = search needs
 
 loop-holds : tie.Need-loop-holds Inv-loop μ-loop
 loop-holds c =
-    let start = c .before .before .before .before .before in
+    let start = c .before .before .before .before .before .before in
     let chain = start .pre .1 in (
       λ rule R.
           rw (c .splits .ensures, chain .odd, chain .rim)
@@ -89,7 +91,7 @@ loop-holds c =
 
 split-at-requires : tie.Need-split-at-requires Inv-loop μ-loop
 split-at-requires c κs =
-    let at = c .before .before .before .before in
+    let at = c .before .before .before .before .before in
     (start at .args .counts .rule, turn-may-split (start at .pre .0) (so-far at) (more at) (at-end at))
 
 sub-left : tie.Need-sub-left Inv-loop μ-loop
@@ -98,7 +100,7 @@ sub-left c = search needs
 across-last-requires : tie.Need-across-last-requires Inv-loop μ-loop
 across-last-requires c κs =
     let at-if1 = c .before .before in
-    let at-split = at-if1 .before .before .before .before .before .before .before .before in
+    let at-split = at-if1 .before .before .before .before .before .before .before .before .before .before in
     let at-loop = at at-split in
     let R = start at-loop .pre .0 in (
       at-if1 .if1 .taken,
@@ -113,7 +115,7 @@ loop-less c = search needs
 loop-again : tie.Need-loop-again Inv-loop μ-loop
 loop-again c =
     let at-if1 = c .before .before .before in
-    let at-split = at-if1 .before .before .before .before .before .before .before .before in
+    let at-split = at-if1 .before .before .before .before .before .before .before .before .before .before in
     let at-loop = at at-split in (
       turned at-split,
       λ j.
@@ -126,19 +128,20 @@ loop-less-2 c = search needs
 
 loop-again-2 : tie.Need-loop-again-2 Inv-loop μ-loop
 loop-again-2 c =
-    let at-split = c .before .before .before .before .before .before .before .before in
+    let at-split = c .before .before .before .before .before .before .before .before .before .before in
     (turned at-split, λ j. absurd (omega (arith, c .if1 .left)))
 
 -- What holds of the work at the end.
 ended : (c : tie.After-loop Inv-loop μ-loop) →
-    let args = c .before .before .before .before .before .before .before .args in
+    let args = c .before .before .before .before .before .before .before .before .args in
     let l = c .before .loop in
     Refining (args .t)
-    (meshNow (args .counts) (args .positions .now) (args .corners .now) (args .links .now) (args .generations .now))
+    (meshNow (args .counts) (args .positions .now) (args .corners .now) (args .links .now) (args .generations .now)
+    (args .locks .now))
     (args .chain .slots) (l .left)
-    (workNow (args .counts .rule) (l .work) (l .positions) (l .corners) (l .links) (l .generations))
+    (workNow (args .counts .rule) (l .work) (l .positions) (l .corners) (l .links) (l .generations) (l .locks))
 ended c =
-    let start = c .before .before .before .before .before .before .before in
+    let start = c .before .before .before .before .before .before .before .before in
     c .before .loop .inv .0 (start .args .counts .rule) (start .pre .0)
 
 same-length : tie.Need-same-length Inv-loop μ-loop
@@ -153,10 +156,13 @@ same-length-3 c = ended c .room .links
 same-length-4 : tie.Need-same-length-4 Inv-loop μ-loop
 same-length-4 c = ended c .room .generations
 
+same-length-5 : tie.Need-same-length-5 Inv-loop μ-loop
+same-length-5 c = ended c .room .locks
+
 returns : tie.Need-returns Inv-loop μ-loop
 returns c =
     let none : c .before .loop .left ≡ 0 = omega (arith, c .loop-test .left) in
-    let start = c .before .before .before .before .before .before .before in
+    let start = c .before .before .before .before .before .before .before .before in
     refining-ends (start .pre .0) (rw none at (ended c))
 
 pub refine-spec : {M : Type 1} → statement M
@@ -178,4 +184,5 @@ refine-spec =
     same-length-2
     same-length-3
     same-length-4
+    same-length-5
     returns)

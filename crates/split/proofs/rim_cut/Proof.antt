@@ -14,11 +14,11 @@ add-w c = search needs
 add-to-e : tie.Need-add-to-e
 add-to-e c = search needs
 
-add-t18 : tie.Need-add-t18
-add-t18 c = search needs
-
 add-t19 : tie.Need-add-t19
 add-t19 c = search needs
+
+add-t20 : tie.Need-add-t20
+add-t20 c = search needs
 
 mul-to-t : tie.Need-mul-to-t
 mul-to-t c = search needs
@@ -39,23 +39,25 @@ store-point-requires : tie.Need-store-point-requires
 store-point-requires c κs = search needs
 
 store-point-requires-2 : tie.Need-store-point-requires-2
-store-point-requires-2 c κs = search needs
+store-point-requires-2 c κs =
+    let at-store-point = c .before .before in
+    let at-start = at-store-point .before .before .before .before .before .before .before .before .before .before
+    .before .before .before in
+    omega (arith, at-start .pre, at-store-point .store-point .kept)
 
 triangle-at-requires : tie.Need-triangle-at-requires
 triangle-at-requires c κs =
     let at-store-point2 = c .before .before .before .before in
     let at-store-point = at-store-point2 .before .before .before in
-    let at-start = at-store-point .before .before .before .before .before .before .before .before .before
-    .before .before
-    .before in
+    let at-start = at-store-point .before .before .before .before .before .before .before .before .before .before
+    .before .before .before in
     omega (arith, at-start .pre, at-store-point .store-point .kept, at-store-point2 .store-point2 .kept)
 
 rim-children-requires : tie.Need-rim-children-requires
 rim-children-requires c κs =
     let at-store-point = c .before .before .before .before .before .before .before .before in
-    let at-start = at-store-point .before .before .before .before .before .before .before .before .before
-    .before .before
-    .before in
+    let at-start = at-store-point .before .before .before .before .before .before .before .before .before .before
+    .before .before .before in
     let n = countsOf 0 (at-start .args .work) in
     omega (arith, at-start .pre, ap (λ x. x .generation) (c .triangle-at .ensures n))
 
@@ -63,10 +65,16 @@ replace-requires : tie.Need-replace-requires
 replace-requires c κs =
     let at-store-point2 = c .before .before .before .before .before .before .before .before .before in
     let at-store-point = at-store-point2 .before .before .before in
-    let at-start = at-store-point .before .before .before .before .before .before .before .before .before
-    .before .before
-    .before in
+    let at-start = at-store-point .before .before .before .before .before .before .before .before .before .before
+    .before .before .before in
     omega (arith, at-start .pre, at-store-point .store-point .kept, at-store-point2 .store-point2 .kept)
+
+unlock-two-requires : tie.Need-unlock-two-requires
+unlock-two-requires c κs =
+    let at-start = c .before .before .before .before .before .before .before .before .before .before .before
+    .before .before .before .before .before .before .before .before .before .before .before .before .before
+    .before .before .before .before .before .before .before .before .before in
+    omega (arith, at-start .pre)
 
 same-length : tie.Need-same-length
 same-length c = search needs
@@ -80,24 +88,29 @@ same-length-3 c = search needs
 same-length-4 : tie.Need-same-length-4
 same-length-4 c = search needs
 
+same-length-5 : tie.Need-same-length-5
+same-length-5 c = search needs
+
 returns : tie.Need-returns
 returns c rule =
-    let at-replace = c .before .before .before .before .before .before in
+    let at-unlock-two = c .before .before in
+    let at-replace = at-unlock-two .before .before .before .before .before .before .before .before in
     let at-rim-children = at-replace .before .before .before .before in
     let at-triangle-at = at-rim-children .before in
     let at-store-point2 = at-triangle-at .before .before .before .before .before in
     let at-store-point = at-store-point2 .before .before .before in
     let at-third-of2 = at-store-point .before .before in
     let at-third-of = at-third-of2 .before .before .before in
-    let at-start = at-third-of .before .before .before .before .before .before .before in
+    let at-start = at-third-of .before .before .before .before .before .before .before .before in
     let args = at-start .args in
     let n = countsOf rule (args .work) in
     rim-hands _ _ _ (at-start .pre .0 .1 .young)
-    (rim-cut-steps _ _ _ _ _ _ _ _ _ (at-third-of .third-of .ensures n (args .links .now) (args .generations .now))
-    (at-third-of2 .third-of2 .ensures n (args .links .now) (args .generations .now))
+    (rim-cut-steps _ _ _ _ _ _ _ _ _ _
+    (at-third-of .third-of .ensures n (args .links .now) (args .generations .now) (args .locks .now))
+    (at-third-of2 .third-of2 .ensures n (args .links .now) (args .generations .now) (args .locks .now))
     (at-store-point .store-point .ensures) (at-store-point2 .store-point2 .ensures)
     (at-triangle-at .triangle-at .ensures n) (at-rim-children .rim-children .ensures)
-    (at-replace .replace .ensures n)) (at-start .pre .1)
+    (at-replace .replace .ensures n) (at-unlock-two .unlock-two .ensures)) (at-start .pre .1)
 
 pub rim-cut-spec : {M : Type 1} → statement M
 rim-cut-spec =
@@ -105,8 +118,8 @@ rim-cut-spec =
     (tie.spec
     add-w
     add-to-e
-    add-t18
     add-t19
+    add-t20
     mul-to-t
     add-to-e-2
     mul-to-e
@@ -117,8 +130,10 @@ rim-cut-spec =
     triangle-at-requires
     rim-children-requires
     replace-requires
+    unlock-two-requires
     same-length
     same-length-2
     same-length-3
     same-length-4
+    same-length-5
     returns)

@@ -16,8 +16,9 @@ add-settle-three c = search needs
 
 settle-three-requires : tie.Need-settle-three-requires
 settle-three-requires c κs =
-    let at = c .before .before .before .before .before .before .before .before .before .before in
-    let start = at .before .before .before .before .before .before .before .before .before .before .before in
+    let at = c .before .before .before .before .before .before .before .before .before .before .before .before in
+    let start = at .before .before .before .before .before .before .before .before .before .before .before
+    .before .before in
     omega (arith, start .pre, at .face-cut .ensures 0, at .face-cut .kept)
 
 rim-cut-requires : tie.Need-rim-cut-requires
@@ -28,8 +29,9 @@ add-settle-two c = search needs
 
 settle-two-requires : tie.Need-settle-two-requires
 settle-two-requires c κs =
-    let at = c .before .before .before .before .before .before .before .before .before .before in
-    let start = at .before .before .before .before .before .before .before .before .before .before .before in
+    let at = c .before .before .before .before .before .before .before .before .before .before .before .before in
+    let start = at .before .before .before .before .before .before .before .before .before .before .before
+    .before .before in
     omega (arith, start .pre, at .rim-cut .ensures 0, at .rim-cut .kept)
 
 same-length : tie.Need-same-length
@@ -47,9 +49,9 @@ same-length-4 c = search needs
 returns : tie.Need-returns
 returns c rule =
     let at-settle-three = c .before .before .before .before .before .before in
-    let at-face-cut = at-settle-three .before .before .before .before .before .before .before .before .before .before
-    .before in
-    at-settle-three .settle-three .ensures rule _ ∙ at-face-cut .face-cut .ensures rule .settled
+    let at-face-cut = at-settle-three .before .before .before .before .before .before .before .before .before
+    .before .before .before .before in
+    at-settle-three .settle-three .ensures rule _ _ ∙ at-face-cut .face-cut .ensures rule .settled
 
 same-length-5 : tie.Need-same-length-5
 same-length-5 c = search needs
@@ -63,12 +65,18 @@ same-length-7 c = search needs
 same-length-8 : tie.Need-same-length-8
 same-length-8 c = search needs
 
+same-length-9 : tie.Need-same-length-9
+same-length-9 c = search needs
+
+same-length-10 : tie.Need-same-length-10
+same-length-10 c = search needs
+
 returns-2 : tie.Need-returns-2
 returns-2 c rule =
     let at-settle-two = c .before .before .before .before .before .before in
-    let at-rim-cut = at-settle-two .before .before .before .before .before .before .before .before .before .before
-    .before in
-    at-settle-two .settle-two .ensures rule _ ∙ at-rim-cut .rim-cut .ensures rule .settled
+    let at-rim-cut = at-settle-two .before .before .before .before .before .before .before .before .before
+    .before .before .before .before in
+    at-settle-two .settle-two .ensures rule _ _ ∙ at-rim-cut .rim-cut .ensures rule .settled
 
 pub split-at-spec : {M : Type 1} → statement M
 split-at-spec =
@@ -85,9 +93,11 @@ split-at-spec =
     same-length-2
     same-length-3
     same-length-4
-    returns
     same-length-5
+    returns
     same-length-6
     same-length-7
     same-length-8
+    same-length-9
+    same-length-10
     returns-2)

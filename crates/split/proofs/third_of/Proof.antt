@@ -48,12 +48,12 @@ thirds-requires : tie.Need-thirds-requires
 thirds-requires c κs = search needs
 
 returns : tie.Need-returns
-returns c n links generations =
+returns c n links generations locks =
     let at3 = c .before in
     let at2 = at3 .before .before in
     let at1 = at2 .before .before in
     let start = at1 .before .before .before in
-    let m = meshNow n (start .args .positions .now) (start .args .corners .now) links generations in
+    let m = meshNow n (start .args .positions .now) (start .args .corners .now) links generations locks in
     third-steps m (start .args .t) (start .args .h) (start .args .i) (start .args .j) _ _ _ _
     (at1 .point-at .ensures) (at2 .point-at2 .ensures) (at3 .point-at3 .ensures) (c .thirds .ensures)
 

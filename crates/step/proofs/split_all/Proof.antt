@@ -32,13 +32,13 @@ next-may-split {m} {i} R at l =
     }
 
 abbrev Inv-loop : tie.InvT-loop
-Inv-loop positions₀ corners₀ links₀ generations₀ f t₀ work₀ positions corners links generations t work =
+Inv-loop positions₀ corners₀ links₀ generations₀ locks₀ f t₀ work₀ positions corners links generations locks t work =
     (t ≤ f) × ((rule : ℕ) →
-    let m = workNow rule work₀ positions₀ corners₀ links₀ generations₀ .mesh in
-    StepFound m → workNow rule work positions corners links generations ≡ refineFirst t (atFirst m))
+    let m = workNow rule work₀ positions₀ corners₀ links₀ generations₀ locks₀ .mesh in
+    StepFound m → workNow rule work positions corners links generations locks ≡ refineFirst t (atFirst m))
 
 abbrev μ-loop : tie.MeasureT-loop
-μ-loop positions₀ corners₀ links₀ generations₀ f t₀ work₀ positions corners links generations t work = f - t
+μ-loop _ _ _ _ _ f _ _ _ _ _ _ _ t _ = f - t
 
 loop-holds : tie.Need-loop-holds Inv-loop μ-loop
 unfolding refineFirst
@@ -46,10 +46,10 @@ loop-holds c = (omega arith, λ rule F. refl)
 
 split-at-requires : tie.Need-split-at-requires Inv-loop μ-loop
 split-at-requires c κs =
-    let head = c .before .before .before .before .before in
-    let start = head .before .before .before .before in
+    let head = c .before .before .before .before .before .before in
+    let start = head .before .before .before .before .before in
     let rule = start .args .counts .rule in
-    let taken = c .before .before .before .before .loop-test .taken in
+    let taken = c .before .before .before .before .before .loop-test .taken in
     (rule, next-may-split (start .pre) (head .loop .inv .1 rule (start .pre)) taken)
 
 add-t : tie.Need-add-t Inv-loop μ-loop
@@ -60,8 +60,8 @@ loop-less c = search needs
 
 loop-again : tie.Need-loop-again Inv-loop μ-loop
 loop-again c =
-    let at-split-at = c .before .before .before .before .before .before .before in
-    let turn = at-split-at .before .before .before .before .before in
+    let at-split-at = c .before .before .before .before .before .before .before .before .before in
+    let turn = at-split-at .before .before .before .before .before .before in
     let head = turn .before in (
       omega arith,
       λ rule F.
@@ -71,13 +71,14 @@ loop-again c =
 
 -- At the end of the loop the tables have the slots that they had.
 slots : (c : tie.At-loop Inv-loop μ-loop) →
-    let args = c .before .before .before .before .args in
+    let args = c .before .before .before .before .before .args in
     let l = c .loop in
     SameSlots
-    (meshNow (args .counts) (args .positions .now) (args .corners .now) (args .links .now) (args .generations .now))
-    (workNow (args .counts .rule) (l .work) (l .positions) (l .corners) (l .links) (l .generations) .mesh)
+    (meshNow (args .counts) (args .positions .now) (args .corners .now) (args .links .now) (args .generations .now)
+    (args .locks .now))
+    (workNow (args .counts .rule) (l .work) (l .positions) (l .corners) (l .links) (l .generations) (l .locks) .mesh)
 slots c =
-    let start = c .before .before .before .before in
+    let start = c .before .before .before .before .before in
     step-slots (start .pre) (c .loop .inv .1 (start .args .counts .rule) (start .pre)) (c .loop .inv .0)
 
 same-length : tie.Need-same-length Inv-loop μ-loop
@@ -92,9 +93,12 @@ same-length-3 c = slots (c .before) .links
 same-length-4 : tie.Need-same-length-4 Inv-loop μ-loop
 same-length-4 c = slots (c .before) .generations
 
+same-length-5 : tie.Need-same-length-5 Inv-loop μ-loop
+same-length-5 c = slots (c .before) .locks
+
 returns : tie.Need-returns Inv-loop μ-loop
 returns c =
-    let start = c .before .before .before .before .before in
+    let start = c .before .before .before .before .before .before in
     let e : c .before .loop .t ≡ start .args .counts .triangles = omega arith in
     rw e at (c .before .loop .inv .1 (start .args .counts .rule) (start .pre))
 
@@ -113,4 +117,5 @@ split-all-spec =
     same-length-2
     same-length-3
     same-length-4
+    same-length-5
     returns)

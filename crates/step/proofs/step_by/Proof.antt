@@ -29,29 +29,29 @@ same-length-5 c = omega (arith, c .before .before .before .before .refusal .kept
 same-length-6 : tie.Need-same-length-6
 same-length-6 c = omega (arith, c .before .before .before .before .refusal .kept)
 
+same-length-7 : tie.Need-same-length-7
+same-length-7 c = omega (arith, c .before .before .before .before .refusal .kept)
+
 returns : tie.Need-returns
 returns c = step-refused _ _ (c .before .before .before .before .refusal .ensures .0) (c .if1 .taken)
 
 whole-step-requires : tie.Need-whole-step-requires
 whole-step-requires c κs =
-    let carried = c .before .before .before .before .before .before in
+    let carried = c .before .before .before .before .before .before .before in
     let at-refusal = carried .before .before .before .before in (
       step-found _ (sym (at-refusal .refusal .ensures .0) ∙ carried .if1 .left),
       at-refusal .refusal .ensures .1 (carried .if1 .left),
     )
 
-module _ (c : tie.After-slice-known8) where
+module _ (c : tie.After-slice-known10) where
   abbrev at-step : tie.After-whole-step
-  at-step = c .before .before .before .before .before .before .before
+  at-step = c .before .before .before .before .before .before .before .before .before
 
   abbrev carried : tie.Else1
-  carried = at-step .before .before .before .before .before .before .before
+  carried = at-step .before .before .before .before .before .before .before .before
 
   abbrev at-refusal : tie.After-refusal
   at-refusal = carried .before .before .before .before
-
-same-length-7 : tie.Need-same-length-7
-same-length-7 c = omega (arith, at-step c .whole-step .kept, at-refusal c .refusal .kept)
 
 same-length-8 : tie.Need-same-length-8
 same-length-8 c = omega (arith, at-step c .whole-step .kept, at-refusal c .refusal .kept)
@@ -67,6 +67,12 @@ same-length-11 c = omega (arith, at-step c .whole-step .kept, at-refusal c .refu
 
 same-length-12 : tie.Need-same-length-12
 same-length-12 c = omega (arith, at-step c .whole-step .kept, at-refusal c .refusal .kept)
+
+same-length-13 : tie.Need-same-length-13
+same-length-13 c = omega (arith, at-step c .whole-step .kept, at-refusal c .refusal .kept)
+
+same-length-14 : tie.Need-same-length-14
+same-length-14 c = omega (arith, at-step c .whole-step .kept, at-refusal c .refusal .kept)
 
 returns-2 : tie.Need-returns-2
 returns-2 c =
@@ -84,12 +90,14 @@ step-by-spec =
     same-length-4
     same-length-5
     same-length-6
+    same-length-7
     returns
     whole-step-requires
-    same-length-7
     same-length-8
     same-length-9
     same-length-10
     same-length-11
     same-length-12
+    same-length-13
+    same-length-14
     returns-2)

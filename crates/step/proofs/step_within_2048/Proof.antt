@@ -12,7 +12,7 @@ slice-aggregate-step-by-2 c = search needs
 
 step-by-requires : tie.Need-step-by-requires
 step-by-requires c κs =
-    let pre = c .before .before .before .before .before .before .before .before .before .pre in
+    let pre = c .before .before .before .before .before .before .before .before .before .before .before .pre in
     (pre .0, cleared _ 2048 (pre .1))
 
 same-length : tie.Need-same-length
@@ -27,8 +27,11 @@ same-length-3 c = search needs
 same-length-4 : tie.Need-same-length-4
 same-length-4 c = search needs
 
+same-length-5 : tie.Need-same-length-5
+same-length-5 c = search needs
+
 returns : tie.Need-returns
-returns c = c .before .before .before .before .before .before .before .before .before .step-by .ensures
+returns c = c .before .before .before .before .before .before .before .before .before .before .before .step-by .ensures
 
 pub step-within-2048-spec : {M : Type 1} → statement M
 step-within-2048-spec =
@@ -41,4 +44,5 @@ step-within-2048-spec =
     same-length-2
     same-length-3
     same-length-4
+    same-length-5
     returns)

@@ -19,7 +19,7 @@ use Rattle.step.proofs.whole_step.Tie as tie
 whole-step-steps : (m : Mesh) (w : Work) (positions : List ℤ) → w ≡ refineFirst (m .topology .triangles) (atFirst m)
     → positions ≡ moveVertices (m .topology .vertices) m (w .mesh .positions)
     → _≡_ {A = Work} (record {
-      mesh = meshOf (w .mesh .topology) positions (w .mesh .rule);
+      mesh = meshOf (w .mesh .topology) positions (w .mesh .locks) (w .mesh .rule);
       splits = w .splits;
       flips = w .flips;
     })
@@ -48,13 +48,13 @@ split-all-requires c κs = search needs
 
 move-all-requires : tie.Need-move-all-requires
 move-all-requires c κs =
-    let at-split = c .before .before .before .before .before .before .before .before in
-    let start = at-split .before .before .before .before .before .before .before .before .before in
+    let at-split = c .before .before .before .before .before .before .before .before .before .before in
+    let start = at-split .before .before .before .before .before .before .before .before .before .before .before in
     (_, movable (start .pre .0) (start .pre .1) (at-split .split-all .ensures))
 
 module _ (c : tie.After-positions2) where
   abbrev at-split : tie.After-split-all
-  at-split = c .before .before .before .before .before .before .before .before .before .before
+  at-split = c .before .before .before .before .before .before .before .before .before .before .before .before
 
 same-length : tie.Need-same-length
 same-length c = omega (arith, at-split c .split-all .kept, c .before .move-all .kept)
@@ -68,10 +68,13 @@ same-length-3 c = omega (arith, at-split c .split-all .kept)
 same-length-4 : tie.Need-same-length-4
 same-length-4 c = omega (arith, at-split c .split-all .kept)
 
+same-length-5 : tie.Need-same-length-5
+same-length-5 c = omega (arith, at-split c .split-all .kept)
+
 returns : tie.Need-returns
 returns c =
     let split = at-split c .split-all .ensures in
-    let start = at-split c .before .before .before .before .before .before .before .before .before in
+    let start = at-split c .before .before .before .before .before .before .before .before .before .before .before in
     whole-step-steps _ _ _ split (c .before .move-all .ensures _ (movable (start .pre .0) (start .pre .1) split))
 
 pub whole-step-spec : {M : Type 1} → statement M
@@ -84,4 +87,5 @@ whole-step-spec =
     same-length-2
     same-length-3
     same-length-4
+    same-length-5
     returns)

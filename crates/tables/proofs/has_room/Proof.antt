@@ -39,16 +39,16 @@ add-triangles : tie.Need-add-triangles
 add-triangles c = search needs
 
 returns : tie.Need-returns
-returns c corners links =
+returns c corners links locks =
     let args = c .before .before .before .args in
     room-by-triangles (args .splits + args .rim) (2 * args .splits)
-    (meshNow (args .counts) (args .positions .now) corners links (args .generations .now)) (c .if1 .taken)
+    (meshNow (args .counts) (args .positions .now) corners links (args .generations .now) locks) (c .if1 .taken)
 
 returns-2 : tie.Need-returns-2
-returns-2 c corners links =
+returns-2 c corners links locks =
     let args = c .before .before .before .args in
     no-room (args .splits + args .rim) (2 * args .splits)
-    (meshNow (args .counts) (args .positions .now) corners links (args .generations .now)) (c .if1 .left)
+    (meshNow (args .counts) (args .positions .now) corners links (args .generations .now) locks) (c .if1 .left)
 
 pub has-room-spec : {M : Type 1} → statement M
 has-room-spec =

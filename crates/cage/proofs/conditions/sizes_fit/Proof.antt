@@ -8,7 +8,7 @@ use Rattle.cage.proofs.conditions.sizes_fit.Statement.{statement}
 use Rattle.cage.proofs.conditions.sizes_fit.Tie as tie
 
 returns : tie.Need-returns
-returns c n k l = is-same (is-false (λ S. omega (arith, S .header))) (sizes-fit-is _ _)
+returns c n d l k = is-same (is-false (λ S. omega (arith, S .header))) (sizes-fit-is _ _)
 
 number-at-requires : tie.Need-number-at-requires
 number-at-requires c κs = search needs
@@ -24,19 +24,19 @@ wide-requires-2 c κs = search needs
 
 returns-2 : tie.Need-returns-2
 unfolding cageOf
-returns-2 c n k l = is-same (is-false (λ S. omega (arith, S .someVertex))) (sizes-fit-is _ _)
+returns-2 c n d l k = is-same (is-false (λ S. omega (arith, S .someVertex))) (sizes-fit-is _ _)
 
 returns-3 : tie.Need-returns-3
 unfolding cageOf
-returns-3 c n k l = is-same (is-false (λ S. omega (arith, S .someTriangle))) (sizes-fit-is _ _)
+returns-3 c n d l k = is-same (is-false (λ S. omega (arith, S .someTriangle))) (sizes-fit-is _ _)
 
 returns-4 : tie.Need-returns-4
 unfolding cageOf
-returns-4 c n k l = is-same (is-false (λ S. omega (arith, S .vertexRoom))) (sizes-fit-is _ _)
+returns-4 c n d l k = is-same (is-false (λ S. omega (arith, S .vertexRoom))) (sizes-fit-is _ _)
 
 returns-5 : tie.Need-returns-5
 unfolding cageOf
-returns-5 c n k l = is-same (is-false (λ S. omega (arith, S .triangleRoom))) (sizes-fit-is _ _)
+returns-5 c n d l k = is-same (is-false (λ S. omega (arith, S .triangleRoom))) (sizes-fit-is _ _)
 
 add-if6 : tie.Need-add-if6
 add-if6 c = search needs
@@ -49,11 +49,11 @@ add-if6-2 c = search needs
 
 returns-6 : tie.Need-returns-6
 unfolding cageOf
-returns-6 c n k l = is-same (is-false (λ S. omega (arith, S .size))) (sizes-fit-is _ _)
+returns-6 c n d l k = is-same (is-false (λ S. omega (arith, S .size))) (sizes-fit-is _ _)
 
 returns-7 : tie.Need-returns-7
 unfolding cageOf
-returns-7 c n k l =
+returns-7 c n d l k =
     is-same
     (is-true (record {
       header = omega arith;

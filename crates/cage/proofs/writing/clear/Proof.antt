@@ -10,18 +10,17 @@ use Rattle.cage.proofs.writing.clear.Statement.{statement}
 use Rattle.cage.proofs.writing.clear.Tie as tie
 
 abbrev Inv-loop : tie.InvT-loop
-Inv-loop count generations₀ i₀ generations i =
-    (i ≤ count) × (length generations ≡ length generations₀) × (generations ≡ fill i (λ k. 0) generations₀)
+Inv-loop count table₀ i₀ table i = (i ≤ count) × (length table ≡ length table₀) × (table ≡ fill i (λ k. 0) table₀)
 
 abbrev μ-loop : tie.MeasureT-loop
-μ-loop count generations₀ i₀ generations i = count - i
+μ-loop count table₀ i₀ table i = count - i
 
 loop-holds : tie.Need-loop-holds Inv-loop μ-loop
 unfolding fill
 loop-holds c = search needs
 
-slice-write-generations : tie.Need-slice-write-generations Inv-loop μ-loop
-slice-write-generations c = search needs
+slice-write-table : tie.Need-slice-write-table Inv-loop μ-loop
+slice-write-table c = search needs
 
 add-i : tie.Need-add-i Inv-loop μ-loop
 add-i c = search needs
@@ -49,7 +48,7 @@ clear-spec =
     Inv-loop
     μ-loop
     loop-holds
-    slice-write-generations
+    slice-write-table
     add-i
     loop-less
     loop-again

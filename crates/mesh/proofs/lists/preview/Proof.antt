@@ -20,16 +20,16 @@ same-length-3 c = search needs
 same-length-4 : tie.Need-same-length-4
 same-length-4 c = search needs
 
+same-length-5 : tie.Need-same-length-5
+same-length-5 c = search needs
+
 returns : tie.Need-returns
 returns c = preview-refused _ _ _ (c .before .refusal .ensures) _ (c .if1 .taken)
 
 preview-requires : tie.Need-preview-requires
 preview-requires c κs =
-    let at-if1 = c .before .before .before .before in
+    let at-if1 = c .before .before .before .before .before in
     may-work _ _ _ (at-if1 .before .refusal .ensures) (at-if1 .if1 .left)
-
-same-length-5 : tie.Need-same-length-5
-same-length-5 c = search needs
 
 same-length-6 : tie.Need-same-length-6
 same-length-6 c = search needs
@@ -40,10 +40,16 @@ same-length-7 c = search needs
 same-length-8 : tie.Need-same-length-8
 same-length-8 c = search needs
 
+same-length-9 : tie.Need-same-length-9
+same-length-9 c = search needs
+
+same-length-10 : tie.Need-same-length-10
+same-length-10 c = search needs
+
 returns-2 : tie.Need-returns-2
 returns-2 c =
-    let at-preview = c .before .before .before .before .before .before .before in
-    let at-if1 = at-preview .before .before .before .before .before in
+    let at-preview = c .before .before .before .before .before .before .before .before .before in
+    let at-if1 = at-preview .before .before .before .before .before .before in
     at-preview .preview .ensures
     ∙ preview-carried _ _ _ (at-if1 .before .refusal .ensures) _ (at-if1 .if1 .left)
 
@@ -56,10 +62,12 @@ preview-spec =
     same-length-2
     same-length-3
     same-length-4
+    same-length-5
     returns
     preview-requires
-    same-length-5
     same-length-6
     same-length-7
     same-length-8
+    same-length-9
+    same-length-10
     returns-2)

@@ -35,6 +35,12 @@ same-length-7 c = search needs
 same-length-8 : tie.Need-same-length-8
 same-length-8 c = search needs
 
+same-length-9 : tie.Need-same-length-9
+same-length-9 c = search needs
+
+same-length-10 : tie.Need-same-length-10
+same-length-10 c = search needs
+
 returns : tie.Need-returns
 returns c =
     let at-refusal = c .before .before in
@@ -42,14 +48,8 @@ returns c =
 
 refine-list-requires : tie.Need-refine-list-requires
 refine-list-requires c κs =
-    let at-if1 = c .before .before .before .before .before .before .before .before in
+    let at-if1 = c .before .before .before .before .before .before .before .before .before .before in
     may-work _ _ _ (at-if1 .before .refusal .ensures) (at-if1 .if1 .left)
-
-same-length-9 : tie.Need-same-length-9
-same-length-9 c = search needs
-
-same-length-10 : tie.Need-same-length-10
-same-length-10 c = search needs
 
 same-length-11 : tie.Need-same-length-11
 same-length-11 c = search needs
@@ -69,11 +69,23 @@ same-length-15 c = search needs
 same-length-16 : tie.Need-same-length-16
 same-length-16 c = search needs
 
+same-length-17 : tie.Need-same-length-17
+same-length-17 c = search needs
+
+same-length-18 : tie.Need-same-length-18
+same-length-18 c = search needs
+
+same-length-19 : tie.Need-same-length-19
+same-length-19 c = search needs
+
+same-length-20 : tie.Need-same-length-20
+same-length-20 c = search needs
+
 returns-2 : tie.Need-returns-2
 returns-2 c =
-    let to-list = c .before .before .before .before .before .before .before in
-    let at-list = to-list .before .before .before .before .before .before .before in
-    let at-if1 = at-list .before .before .before .before .before .before .before .before .before in
+    let to-list = c .before .before .before .before .before .before .before .before .before in
+    let at-list = to-list .before .before .before .before .before .before .before .before .before in
+    let at-if1 = at-list .before .before .before .before .before .before .before .before .before .before .before in
     at-list .refine-list .ensures
     ∙ list-carried _ _ _ (at-if1 .before .refusal .ensures) _ (at-if1 .if1 .left)
 
@@ -91,14 +103,18 @@ refine-list-spec =
     same-length-6
     same-length-7
     same-length-8
-    returns
-    refine-list-requires
     same-length-9
     same-length-10
+    returns
+    refine-list-requires
     same-length-11
     same-length-12
     same-length-13
     same-length-14
     same-length-15
     same-length-16
+    same-length-17
+    same-length-18
+    same-length-19
+    same-length-20
     returns-2)

@@ -9,7 +9,7 @@ tables-agree-requires c κs = search needs
 
 returns : tie.Need-returns
 returns c =
-    let start = c .before .before .before .before .before .before .before .before in
+    let start = c .before .before .before .before .before .before .before .before .before .before in
     work-one _ _ (start .args .fits) _ (c .before .tables-agree .ensures _ _ _) (c .if1 .taken)
 
 same-sizes-requires : tie.Need-same-sizes-requires
@@ -18,7 +18,7 @@ same-sizes-requires c κs = search needs
 returns-2 : tie.Need-returns-2
 returns-2 c =
     let at-if1 = c .before .before in
-    let start = at-if1 .before .before .before .before .before .before .before .before in
+    let start = at-if1 .before .before .before .before .before .before .before .before .before .before in
     work-seventeen _ _ (start .args .fits) _ (at-if1 .before .tables-agree .ensures _ _ _) (at-if1 .if1 .left) _
     (c .before .same-sizes .ensures) (c .if2 .taken)
 
@@ -26,7 +26,7 @@ returns-3 : tie.Need-returns-3
 returns-3 c =
     let at-if2 = c .before in
     let at-if1 = at-if2 .before .before in
-    let start = at-if1 .before .before .before .before .before .before .before .before in
+    let start = at-if1 .before .before .before .before .before .before .before .before .before .before in
     work-eighteen _ _ (start .args .fits) _ (at-if1 .before .tables-agree .ensures _ _ _) (at-if1 .if1 .left) _
     (at-if2 .before .same-sizes .ensures) (at-if2 .if2 .left) (c .if3 .taken)
 
@@ -38,7 +38,7 @@ returns-4 c =
     let at-if3 = c .before .before in
     let at-if2 = at-if3 .before in
     let at-if1 = at-if2 .before .before in
-    let start = at-if1 .before .before .before .before .before .before .before .before in
+    let start = at-if1 .before .before .before .before .before .before .before .before .before .before in
     work-seven _ _ (start .args .fits) _ (at-if1 .before .tables-agree .ensures _ _ _) (at-if1 .if1 .left) _
     (at-if2 .before .same-sizes .ensures) (at-if2 .if2 .left) (at-if3 .if3 .left) _ (c .before .is-sound .ensures)
     (c .if4 .taken)
@@ -48,7 +48,7 @@ returns-5 c =
     let at-if3 = c .before .before in
     let at-if2 = at-if3 .before in
     let at-if1 = at-if2 .before .before in
-    let start = at-if1 .before .before .before .before .before .before .before .before in
+    let start = at-if1 .before .before .before .before .before .before .before .before .before .before in
     work-none _ _ (start .args .fits) _ (at-if1 .before .tables-agree .ensures _ _ _) (at-if1 .if1 .left) _
     (at-if2 .before .same-sizes .ensures) (at-if2 .if2 .left) (at-if3 .if3 .left) _ (c .before .is-sound .ensures)
     (c .if4 .left)

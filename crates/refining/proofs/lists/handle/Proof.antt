@@ -11,10 +11,11 @@ abbrev mesh-of : tie.Start → Mesh
 mesh-of c =
     let args = c .args in
     meshNow (args .counts) (args .positions .now) (args .corners .now) (args .links .now) (args .generations .now)
+    (args .locks .now)
 
 returns : tie.Need-returns
 returns c m W =
-    let start = c .before .before .before .before .before in
+    let start = c .before .before .before .before .before .before in
     entry-eight m (mesh-of start) _ _ _ W (c .if1 .taken)
 
 generation-at-requires : tie.Need-generation-at-requires
@@ -31,7 +32,7 @@ returns-2 c m W =
     let at-second = c .before in
     let at-first = at-second .before .before in
     let at-if1 = at-first .before in
-    let start = at-if1 .before .before .before .before .before in
+    let start = at-if1 .before .before .before .before .before .before in
     entry-passed m (mesh-of start) _ _ _ W (at-if1 .if1 .left)
     (rw (at-first .generation-at .ensures, at-second .generation-at2 .ensures) at (c .if2 .taken))
 
@@ -50,14 +51,17 @@ same-length-4 c = search needs
 same-length-5 : tie.Need-same-length-5
 same-length-5 c = search needs
 
+same-length-6 : tie.Need-same-length-6
+same-length-6 c = search needs
+
 returns-3 : tie.Need-returns-3
 returns-3 c m W =
-    let at-refine = c .before .before .before .before .before .before .before in
-    let at-if2 = at-refine .before .before .before .before .before in
+    let at-refine = c .before .before .before .before .before .before .before .before .before in
+    let at-if2 = at-refine .before .before .before .before .before .before in
     let at-second = at-if2 .before in
     let at-first = at-second .before .before in
     let at-if1 = at-first .before in
-    let start = at-if1 .before .before .before .before .before in
+    let start = at-if1 .before .before .before .before .before .before in
     at-refine .refine .ensures
     ∙ entry-refined m (mesh-of start) _ _ _ W (at-if1 .if1 .left)
     (rw (at-first .generation-at .ensures, at-second .generation-at2 .ensures) at (at-if2 .if2 .left))
@@ -76,4 +80,5 @@ handle-spec =
     same-length-3
     same-length-4
     same-length-5
+    same-length-6
     returns-3)

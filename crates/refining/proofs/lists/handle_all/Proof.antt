@@ -21,37 +21,38 @@ use Rattle.refining.proofs.lists.handle_all.Statement.{statement}
 use Rattle.refining.proofs.lists.handle_all.Tie as tie
 
 abbrev Inv-loop : tie.InvT-loop
-Inv-loop positions₀ corners₀ links₀ generations₀ counts list start at₀ splits₀ flips₀ reached₀ positions corners links
-    generations at splits flips reached =
+Inv-loop positions₀ corners₀ links₀ generations₀ locks₀ counts list start at₀ splits₀ flips₀ reached₀ positions corners
+    links generations locks at splits flips reached =
     (at ≤ length list)
-    × ((m : Mesh) (s : Spares) → Begins m s start (meshNow counts positions₀ corners₀ links₀ generations₀)
-    → Doing m s list at splits flips (meshNow reached positions corners links generations))
+    × ((m : Mesh) (s : Spares) → Begins m s start (meshNow counts positions₀ corners₀ links₀ generations₀ locks₀)
+    → Doing m s list at splits flips (meshNow reached positions corners links generations locks))
 
 abbrev μ-loop : tie.MeasureT-loop
-μ-loop positions₀ corners₀ links₀ generations₀ counts list start at₀ splits₀ flips₀ reached₀ positions corners links
-    generations at splits flips reached =
+μ-loop positions₀ corners₀ links₀ generations₀ locks₀ counts list start at₀ splits₀ flips₀ reached₀ positions corners
+    links generations locks at splits flips reached =
     length list - at
 
 -- With an entry handled.
 module _ (c : tie.After-handle Inv-loop μ-loop) where
   abbrev in-loop : tie.In-loop Inv-loop μ-loop
-  in-loop = c .before .before .before .before .before .before
+  in-loop = c .before .before .before .before .before .before .before
 
   abbrev at-loop : tie.At-loop Inv-loop μ-loop
   at-loop = in-loop .before
 
   abbrev start : tie.Start Inv-loop μ-loop
-  start = at-loop .before .before .before .before .before .before
+  start = at-loop .before .before .before .before .before .before .before
 
   abbrev first : Mesh
   first =
       let args = start .args in
       meshNow (args .counts) (args .positions .now) (args .corners .now) (args .links .now) (args .generations .now)
+      (args .locks .now)
 
   abbrev done : Outcome
   done =
       let last = c .handle .last in
-      workedOutcome (c .handle .result) (last .0) (last .1 .0) (last .1 .1 .0) (last .1 .1 .1 .0)
+      workedOutcome (c .handle .result) (last .0) (last .1 .0) (last .1 .1 .0) (last .1 .1 .1 .0) (last .1 .1 .1 .1 .0)
 
   more : at-loop .loop .at < length (start .args .list .now)
   more = omega (arith, in-loop .loop-test .taken)
@@ -80,17 +81,18 @@ module _ (c : tie.After-handle Inv-loop μ-loop) where
 
 -- The entry handled, where it fails.
 abbrev handled : tie.Then1 Inv-loop μ-loop → tie.After-handle Inv-loop μ-loop
-handled c = c .before .before .before .before .before .before .before .before .before .before
+handled c = c .before .before .before .before .before .before .before .before .before .before .before .before
 
 -- The tables at the end are as long as at the start.
 ended-slots : (c : tie.After-loop Inv-loop μ-loop) →
-    let args = c .before .before .before .before .before .before .before .args in
+    let args = c .before .before .before .before .before .before .before .before .args in
     let l = c .before .loop in
     SameSlots
-    (meshNow (args .counts) (args .positions .now) (args .corners .now) (args .links .now) (args .generations .now))
-    (meshNow (l .reached) (l .positions) (l .corners) (l .links) (l .generations))
+    (meshNow (args .counts) (args .positions .now) (args .corners .now) (args .links .now) (args .generations .now)
+    (args .locks .now))
+    (meshNow (l .reached) (l .positions) (l .corners) (l .links) (l .generations) (l .locks))
 ended-slots c =
-    let start = c .before .before .before .before .before .before .before in
+    let start = c .before .before .before .before .before .before .before .before in
     let (m, s, B) = start .pre in
     let D = c .before .loop .inv .1 m s B in
     over-slots s m (D .work .mesh) (B .tables) (D .held .tables)
@@ -106,8 +108,8 @@ shared-slice-read-handle c = search needs
 
 handle-requires : tie.Need-handle-requires Inv-loop μ-loop
 handle-requires c κs =
-    let at-loop = c .before .before .before .before .before .before in
-    let (m, s, B) = at-loop .before .before .before .before .before .before .pre in
+    let at-loop = c .before .before .before .before .before .before .before in
+    let (m, s, B) = at-loop .before .before .before .before .before .before .before .pre in
     sound-standing (holding-sound (at-loop .loop .inv .1 m s B .held))
 
 same-length : tie.Need-same-length Inv-loop μ-loop
@@ -122,25 +124,31 @@ same-length-3 c = failed-slots (handled c) (c .if1 .taken) .links
 same-length-4 : tie.Need-same-length-4 Inv-loop μ-loop
 same-length-4 c = failed-slots (handled c) (c .if1 .taken) .generations
 
+same-length-5 : tie.Need-same-length-5 Inv-loop μ-loop
+same-length-5 c = failed-slots (handled c) (c .if1 .taken) .locks
+
 returns : tie.Need-returns Inv-loop μ-loop
 returns c m s B = stops (handled c) m s B (c .if1 .taken)
 
 add-splits : tie.Need-add-splits Inv-loop μ-loop
 add-splits c =
     let at-if1 = c .before in
-    let at-handle = at-if1 .before .before .before .before .before .before .before .before .before .before in
+    let at-handle = at-if1 .before .before .before .before .before .before .before .before .before .before
+    .before .before in
     omega (arith, few at-handle (at-if1 .if1 .left) .0)
 
 add-flips : tie.Need-add-flips Inv-loop μ-loop
 add-flips c =
     let at-if1 = c .before .before in
-    let at-handle = at-if1 .before .before .before .before .before .before .before .before .before .before in
+    let at-handle = at-if1 .before .before .before .before .before .before .before .before .before .before
+    .before .before in
     omega (arith, few at-handle (at-if1 .if1 .left) .1)
 
 add-at : tie.Need-add-at Inv-loop μ-loop
 add-at c =
-    let at-handle = c .before .before .before .before .before .before .before .before .before .before .before .before in
-    omega (arith, in-loop at-handle .loop-test .taken, start at-handle .good .1 .1 .1 .1 .1 .0 .0)
+    let at-handle = c .before .before .before .before .before .before .before .before .before .before .before
+    .before .before .before in
+    omega (arith, in-loop at-handle .loop-test .taken, start at-handle .good .1 .1 .1 .1 .1 .1 .0 .0)
 
 loop-less : tie.Need-loop-less Inv-loop μ-loop
 loop-less c = search needs
@@ -148,20 +156,24 @@ loop-less c = search needs
 loop-again : tie.Need-loop-again Inv-loop μ-loop
 loop-again c =
     let at-if1 = c .before .before in
-    let at-handle = at-if1 .before .before .before .before .before .before .before .before .before .before in
+    let at-handle = at-if1 .before .before .before .before .before .before .before .before .before .before
+    .before .before in
     (omega (arith, more at-handle), λ m s B. goes-on at-handle m s B (at-if1 .if1 .left))
 
-same-length-5 : tie.Need-same-length-5 Inv-loop μ-loop
-same-length-5 c = ended-slots c .positions
-
 same-length-6 : tie.Need-same-length-6 Inv-loop μ-loop
-same-length-6 c = ended-slots c .corners
+same-length-6 c = ended-slots c .positions
 
 same-length-7 : tie.Need-same-length-7 Inv-loop μ-loop
-same-length-7 c = ended-slots c .links
+same-length-7 c = ended-slots c .corners
 
 same-length-8 : tie.Need-same-length-8 Inv-loop μ-loop
-same-length-8 c = ended-slots c .generations
+same-length-8 c = ended-slots c .links
+
+same-length-9 : tie.Need-same-length-9 Inv-loop μ-loop
+same-length-9 c = ended-slots c .generations
+
+same-length-10 : tie.Need-same-length-10 Inv-loop μ-loop
+same-length-10 c = ended-slots c .locks
 
 returns-2 : tie.Need-returns-2 Inv-loop μ-loop
 returns-2 c m s B =
@@ -182,14 +194,16 @@ handle-all-spec =
     same-length-2
     same-length-3
     same-length-4
+    same-length-5
     returns
     add-splits
     add-flips
     add-at
     loop-less
     loop-again
-    same-length-5
     same-length-6
     same-length-7
     same-length-8
+    same-length-9
+    same-length-10
     returns-2)

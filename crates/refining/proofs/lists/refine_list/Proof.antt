@@ -1,5 +1,6 @@
 -- `refining::lists::refine_list` meets its contract.
 use borrow.Author.Needs.{needs}
+use native.Mathlib.Omega.{arith}
 use Rattle.refining.proofs.Batching.{list-made}
 use Rattle.refining.proofs.lists.refine_list.Statement.{statement}
 use Rattle.refining.proofs.lists.refine_list.Tie as tie
@@ -9,11 +10,22 @@ work-in-spares-requires c κs = search needs
 
 carry-back-requires : tie.Need-carry-back-requires
 carry-back-requires c κs =
-    let to-work = c .before .before .before .before .before .before .before .before in
-    let at-work = to-work .before .before .before .before .before .before .before in
-    let to-start = at-work .before .before .before .before .before .before .before .before in
-    let start = to-start .before .before .before .before .before .before .before .before in
+    let to-work = c .before .before .before .before .before .before .before .before .before .before .before
+    .before .before .before .before .before in
+    let at-work = to-work .before .before .before in
+    let to-start = at-work .before .before .before .before .before .before .before .before .before .before in
+    let start = to-start .before .before .before .before .before .before .before .before .before .before in
     (_, _, list-made _ (start .pre) (at-work .work-in-spares .ensures))
+
+-- The copy back, and the work, from the end.
+module _ (c : tie.After-slice-known16) where
+  abbrev at-carry : tie.After-carry-back
+  at-carry = c .before .before .before .before .before .before .before .before .before
+
+  abbrev at-work : tie.After-work-in-spares
+  at-work =
+      let to-work = at-carry .before .before .before .before .before .before .before .before .before .before in
+      to-work .before .before .before .before .before .before .before .before .before .before
 
 same-length : tie.Need-same-length
 same-length c = search needs
@@ -31,22 +43,25 @@ same-length-5 : tie.Need-same-length-5
 same-length-5 c = search needs
 
 same-length-6 : tie.Need-same-length-6
-same-length-6 c = search needs
+same-length-6 c = omega (arith, at-work c .work-in-spares .kept)
 
 same-length-7 : tie.Need-same-length-7
-same-length-7 c = search needs
+same-length-7 c = omega (arith, at-work c .work-in-spares .kept)
 
 same-length-8 : tie.Need-same-length-8
-same-length-8 c = search needs
+same-length-8 c = omega (arith, at-work c .work-in-spares .kept)
+
+same-length-9 : tie.Need-same-length-9
+same-length-9 c = omega (arith, at-work c .work-in-spares .kept)
+
+same-length-10 : tie.Need-same-length-10
+same-length-10 c = omega (arith, at-work c .work-in-spares .kept)
 
 returns : tie.Need-returns
 returns c =
-    let at-carry = c .before .before .before .before .before .before .before in
-    let to-work = at-carry .before .before .before .before .before .before .before .before in
-    let at-work = to-work .before .before .before .before .before .before .before .before in
-    let to-start = at-work .before .before .before .before .before .before .before .before in
-    let start = to-start .before .before .before .before .before .before .before .before in
-    at-carry .carry-back .ensures _ _ (list-made _ (start .pre) (at-work .work-in-spares .ensures))
+    let to-start = at-work c .before .before .before .before .before .before .before .before .before .before in
+    let start = to-start .before .before .before .before .before .before .before .before .before .before in
+    at-carry c .carry-back .ensures _ _ (list-made _ (start .pre) (at-work c .work-in-spares .ensures))
 
 pub refine-list-spec : {M : Type 1} → statement M
 refine-list-spec =
@@ -62,4 +77,6 @@ refine-list-spec =
     same-length-6
     same-length-7
     same-length-8
+    same-length-9
+    same-length-10
     returns)

@@ -11,23 +11,26 @@ abbrev mesh-of : tie.Start → Mesh
 mesh-of c =
     let args = c .args in
     meshNow (args .counts) (args .positions .now) (args .corners .now) (args .links .now) (args .generations .now)
+    (args .locks .now)
 
 abbrev spares-of : tie.Start → Spares
 spares-of c =
     let args = c .args in
     sparesNow (args .spare-positions .now) (args .spare-corners .now) (args .spare-links .now)
-    (args .spare-generations .now)
+    (args .spare-generations .now) (args .spare-locks .now)
 
 copy-mesh-requires : tie.Need-copy-mesh-requires
 copy-mesh-requires c κs =
-    let start = c .before .before .before .before .before .before .before .before .before .before .before in
+    let start = c .before .before .before .before .before .before .before .before .before .before .before .before
+    .before .before in
     slots-there (start .args .counts) (start .pre)
 
 handle-all-requires : tie.Need-handle-all-requires
 handle-all-requires c κs =
-    let at-copy = c .before .before .before .before .before .before .before .before .before .before .before in
-    let to-start = at-copy .before .before .before .before .before .before in
-    let start = to-start .before .before .before .before .before .before in
+    let at-copy = c .before .before .before .before .before .before .before .before .before .before .before
+    .before .before .before in
+    let to-start = at-copy .before .before .before .before .before .before .before .before in
+    let start = to-start .before .before .before .before .before .before .before in
     (mesh-of start, spares-of start, may-begin (start .pre) (at-copy .copy-mesh .ensures))
 
 same-length : tie.Need-same-length
@@ -42,13 +45,16 @@ same-length-3 c = search needs
 same-length-4 : tie.Need-same-length-4
 same-length-4 c = search needs
 
+same-length-5 : tie.Need-same-length-5
+same-length-5 c = search needs
+
 returns : tie.Need-returns
 returns c =
-    let at-handle = c .before .before .before .before .before .before .before in
-    let to-copy = at-handle .before .before .before .before .before .before in
+    let at-handle = c .before .before .before .before .before .before .before .before .before in
+    let to-copy = at-handle .before .before .before .before .before .before .before .before .before in
     let at-copy = to-copy .before .before .before .before .before .before in
-    let to-start = at-copy .before .before .before .before .before .before in
-    let start = to-start .before .before .before .before .before .before in
+    let to-start = at-copy .before .before .before .before .before .before .before .before in
+    let start = to-start .before .before .before .before .before .before .before in
     at-handle .handle-all .ensures (mesh-of start) (spares-of start)
     (may-begin (start .pre) (at-copy .copy-mesh .ensures))
 
@@ -62,4 +68,5 @@ work-in-spares-spec =
     same-length-2
     same-length-3
     same-length-4
+    same-length-5
     returns)

@@ -10,8 +10,8 @@ returns c p s M = failed-is _ (M .done) (c .if1 .taken)
 
 copy-mesh-requires : tie.Need-copy-mesh-requires
 copy-mesh-requires c κs =
-    let at-if1 = c .before .before .before .before in
-    let start = at-if1 .before .before .before .before .before .before .before .before .before in
+    let at-if1 = c .before .before .before .before .before in
+    let start = at-if1 .before .before .before .before .before .before .before .before .before .before .before in
     let (p, s, M) = start .pre in
     slots-back (start .args .counts) _ (M .sizes) (M .going) (M .done)
 
@@ -27,10 +27,13 @@ same-length-3 c = search needs
 same-length-4 : tie.Need-same-length-4
 same-length-4 c = search needs
 
+same-length-5 : tie.Need-same-length-5
+same-length-5 c = search needs
+
 returns-2 : tie.Need-returns-2
 returns-2 c p s M =
-    let at-copy = c .before .before .before .before .before .before .before in
-    let at-if1 = at-copy .before .before .before .before .before in
+    let at-copy = c .before .before .before .before .before .before .before .before .before in
+    let at-if1 = at-copy .before .before .before .before .before .before in
     copied-is (M .sizes) (M .going) (rw (at-if1 .if1 .left) at (M .done)) (at-copy .copy-mesh .ensures)
 
 pub carry-back-spec : {M : Type 1} → statement M
@@ -43,4 +46,5 @@ carry-back-spec =
     same-length-2
     same-length-3
     same-length-4
+    same-length-5
     returns-2)

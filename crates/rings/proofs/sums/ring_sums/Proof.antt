@@ -21,8 +21,8 @@ use Rattle.rings.proofs.sums.ring_sums.Tie as tie
 
 -- ---- before the first side
 
-module _ {n : Counts} {positions : List ℤ} {corners links generations : List ℕ}
-    (C : Closed (meshNow n positions corners links generations)) where
+module _ {n : Counts} {positions : List ℤ} {corners links generations locks : List ℕ}
+    (C : Closed (meshNow n positions corners links generations locks)) where
   summable : Summable n positions corners
   summable =
       let S = C .sound in
@@ -87,7 +87,7 @@ add-triangle-requires : tie.Need-add-triangle-requires Inv-loop μ-loop
 add-triangle-requires c κs =
     let turn = c .before .before in
     let head = turn .before in
-    (summable (head .before .before .before .pre .0 .2), turn .loop-test .taken, head .loop .inv .3)
+    (summable (head .before .before .before .pre .0 .3), turn .loop-test .taken, head .loop .inv .3)
 
 same-length : tie.Need-same-length Inv-loop μ-loop
 same-length c =
@@ -100,7 +100,7 @@ same-length-2 c =
     omega (arith, at-triangle .add-triangle .kept, at-triangle .before .before .before .before .loop .inv .2)
 
 returns : tie.Need-returns Inv-loop μ-loop
-returns c l g C =
+returns c l g k C =
     let at-triangle = c .before .before .before .before in
     record {
       whole = λ e. absurd (subst T (sym e) tt);
@@ -130,7 +130,7 @@ same-length-4 : tie.Need-same-length-4 Inv-loop μ-loop
 same-length-4 c = c .before .loop .inv .2
 
 returns-2 : tie.Need-returns-2 Inv-loop μ-loop
-returns-2 c l g C =
+returns-2 c l g k C =
     let e : c .before .loop .t ≡ c .before .before .before .before .args .counts .triangles = omega arith in
     record { whole = λ _. ring-sums C (rw e at (c .before .loop .inv .3)); crowded = λ q. absurd (subst T q tt) }
 

@@ -3,6 +3,7 @@ use Prim.Native.Nat.{ℕ, _*_, _≤_, _<_}
 use native.Mathlib.Omega.{arith}
 use mathlib.Core.Bool.{Bool, _&&_}
 use mathlib.Core.Path.{_≡_}
+use lib.Dec.{leb}
 use lib.IntN.{pos}
 use lib.ListN.{getD}
 use Rattle.rules.proofs.Numbers.Decide.{Decides, is-le, is-iff, is-then, is-and, is-all, is-same}
@@ -12,6 +13,7 @@ use Rattle.rules.specs.Below.{all}
 use Rattle.rules.specs.Numbers.{InRange, inRange, KnownRule}
 use Rattle.rules.specs.Sound.{OneFan, Sound, hasOneFan, isSound}
 use Rattle.rules.specs.Tables.{Mesh, TablesAgree, tablesAgree, vertexSlots, triangleSlots, sides, boundary}
+use Rattle.rules.specs.Tables.{lock}
 use Rattle.soundness.proofs.Triangles.{TriangleFits, triangles-are, sound-side, sides-glued, triangle-fits}
 use Rattle.soundness.specs.Parts.{Room, countsFit, isSurface}
 
@@ -67,11 +69,15 @@ module _ (m : Mesh) where
   abbrev pub coordinateFits : ℕ → Bool
   coordinateFits i = inRange (getD (m .positions) i (pos 0))
 
+  abbrev pub lockFits : ℕ → Bool
+  lockFits t = leb (lock m t) 1
+
   pub parts : isSound m
-      ≡ (tablesAgree m && countsFit m && all (3 * m .topology .vertices) coordinateFits && isSurface (m .topology))
+      ≡ (tablesAgree m && countsFit m && all (3 * m .topology .vertices) coordinateFits
+      && all (m .topology .triangles) lockFits && isSurface (m .topology))
   parts = is-same (sound-is m)
       (is-iff
-      (λ (((A, C), R), (F, fans)). record {
+      (λ ((((A, C), R), K), (F, fans)). record {
         tables = A;
         someVertex = C .someVertex;
         someTriangle = C .someTriangle;
@@ -83,12 +89,14 @@ module _ (m : Mesh) where
         fans = fans;
         range = R;
         generations = λ t l. F t l .low;
+        locks = K;
         rule = C .rule;
       })
-      (λ S. (((S .tables, counts S), S .range), (triangle S, S .fans)))
-      (is-then (is-and (is-and (tables-agree-is m) counts-are)
+      (λ S. ((((S .tables, counts S), S .range), S .locks), (triangle S, S .fans)))
+      (is-then (is-and (is-and (is-and (tables-agree-is m) counts-are)
       (is-all (3 * m .topology .vertices) coordinateFits (λ i. InRange (getD (m .positions) i (pos 0)))
       (λ i l. in-range-is (getD (m .positions) i (pos 0)))))
-      (λ ((A, C), R). is-then (triangles-are (m .topology))
+      (is-all (m .topology .triangles) lockFits (λ t. lock m t ≤ 1) (λ t l. is-le (lock m t) 1)))
+      (λ (((A, C), R), K). is-then (triangles-are (m .topology))
       (λ F. is-all (m .topology .vertices) (hasOneFan (m .topology)) (OneFan (m .topology))
       (λ v l. one-fan-is (m .topology) (sides-glued (m .topology) (few A C) F) v)))))

@@ -15,10 +15,10 @@ use Rattle.step.specs.Moves.{Movable}
 use Rattle.step.proofs.limits.limits_by.Statement.{statement}
 use Rattle.step.proofs.limits.limits_by.Tie as tie
 
-abbrev mesh : tie.Start → Mesh
-mesh c =
+abbrev mesh : tie.Start → List ℕ → Mesh
+mesh c k =
     let args = c .args in
-    meshNow (args .counts) (args .positions .now) (args .corners .now) (args .links .now) (args .generations .now)
+    meshNow (args .counts) (args .positions .now) (args .corners .now) (args .links .now) (args .generations .now) k
 
 movable : {m : Mesh} {lengths : List ℕ} {sums : List ℤ} → Sound m → RingSums m lengths sums
     → Movable (m .topology .vertices) (m .rule) m (m .positions) lengths sums
@@ -49,14 +49,15 @@ same-length-2 : tie.Need-same-length-2
 same-length-2 c = search needs
 
 returns : tie.Need-returns
-returns c =
-    limit-refused _ _ _ (c .before .before .before .before .refusal .ensures .0 _ refl) (c .if1 .taken)
+returns c k S =
+    limit-refused _ _ _ (c .before .before .before .before .refusal .ensures k S .0 _ refl) (c .if1 .taken)
 
 write-all-requires : tie.Need-write-all-requires
 write-all-requires c κs =
     let carried = c .before .before .before in
-    let found = at-refusal carried .refusal .ensures .1 (carried .if1 .left) in
-    ((mesh (start carried), movable (start carried .pre .0) (found .0)), omega (arith, found .1))
+    let (k, S) = start carried .pre .0 in
+    let found = at-refusal carried .refusal .ensures k S .1 (carried .if1 .left) in
+    ((mesh (start carried) k, movable S (found .0)), omega (arith, found .1))
 
 same-length-3 : tie.Need-same-length-3
 same-length-3 c = search needs
@@ -68,13 +69,13 @@ same-length-5 : tie.Need-same-length-5
 same-length-5 c = search needs
 
 returns-2 : tie.Need-returns-2
-returns-2 c =
+returns-2 c k S =
     let at-write = c .before in
     let carried = at-write .before .before .before .before in
-    let found = at-refusal carried .refusal .ensures .1 (carried .if1 .left) in
-    let m = mesh (start carried) in
-    ap (tableOutcome 0 m) (at-write .write-all .ensures m (movable (start carried .pre .0) (found .0)))
-    ∙ limit-carried _ m (sym (carried .if1 .left) ∙ at-refusal carried .refusal .ensures .0 _ refl)
+    let found = at-refusal carried .refusal .ensures k S in
+    let m = mesh (start carried) k in
+    ap (tableOutcome 0 m) (at-write .write-all .ensures m (movable S (found .1 (carried .if1 .left) .0)))
+    ∙ limit-carried _ m (sym (carried .if1 .left) ∙ found .0 _ refl)
 
 pub limits-by-spec : {M : Type 1} → statement M
 limits-by-spec =

@@ -1,4 +1,4 @@
--- `tables::copies::copy_generations` meets its contract: the first i entries are copied.
+-- `tables::copies::copy_bytes` meets its contract: the first i entries are copied.
 use borrow.Author.Needs.{needs}
 use Prim.Native.Nat.{_-_, _≤_}
 use native.Mathlib.Omega.{arith}
@@ -6,8 +6,8 @@ use mathlib.Core.Path.{_≡_, refl}
 use lib.ListN.{length, getD, length-set}
 use Rattle.rules.proofs.Numbers.Fill.{fill-more}
 use Rattle.rules.specs.Below.{fill}
-use Rattle.tables.proofs.copies.copy_generations.Statement.{statement}
-use Rattle.tables.proofs.copies.copy_generations.Tie as tie
+use Rattle.tables.proofs.copies.copy_bytes.Statement.{statement}
+use Rattle.tables.proofs.copies.copy_bytes.Tie as tie
 
 abbrev Inv-loop : tie.InvT-loop
 Inv-loop from count to₀ i₀ to i =
@@ -45,8 +45,8 @@ returns c =
     let e : c .before .loop .i ≡ c .before .before .args .count = omega arith in
     rw e at (c .before .loop .inv .2)
 
-pub copy-generations-spec : {M : Type 1} → statement M
-copy-generations-spec =
+pub copy-bytes-spec : {M : Type 1} → statement M
+copy-bytes-spec =
     tie.close
     (tie.spec
     Inv-loop

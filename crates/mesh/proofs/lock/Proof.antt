@@ -1,0 +1,48 @@
+-- `mesh::lock` meets its contract.
+use borrow.Author.Needs.{needs}
+use Rattle.rules.specs.Tables.{Mesh}
+use Rattle.tables.specs.Lent.{meshNow}
+use Rattle.mesh.proofs.Refusing.{lock-refused, lock-carried, lock-room}
+use Rattle.mesh.proofs.lock.Statement.{statement}
+use Rattle.mesh.proofs.lock.Tie as tie
+
+abbrev mesh-of : tie.Start → Mesh
+mesh-of c =
+    let args = c .args in
+    meshNow (args .counts) (args .positions .now) (args .corners .now) (args .links .now) (args .generations .now)
+    (args .locks .now)
+
+abbrev from : tie.After-slot-refusal → tie.Start
+from c = c .before .before .before .before .before .before
+
+slot-refusal-requires : tie.Need-slot-refusal-requires
+slot-refusal-requires c κs = search needs
+
+set-lock-requires : tie.Need-set-lock-requires
+set-lock-requires c κs =
+    let at = c .before .before in
+    let s = from at in
+    lock-room (s .args .on) (s .args .t) (mesh-of s) _ (at .slot-refusal .ensures) (c .before .if1 .taken)
+
+same-length : tie.Need-same-length
+same-length c = search needs
+
+returns : tie.Need-returns
+returns c =
+    let at-set = c .before .before in
+    let at-if1 = at-set .before .before in
+    let at = at-if1 .before in
+    let s = from at in
+    rw (at-set .set-lock .ensures, at-if1 .if1 .taken)
+    (lock-carried (s .args .on) (s .args .t) (mesh-of s) _ (at .slot-refusal .ensures) (at-if1 .if1 .taken))
+
+same-length-2 : tie.Need-same-length-2
+same-length-2 c = search needs
+
+returns-2 : tie.Need-returns-2
+returns-2 c =
+    let s = from (c .before) in
+    lock-refused (s .args .on) (s .args .t) (mesh-of s) _ (c .before .slot-refusal .ensures) (c .if1 .left)
+
+pub lock-spec : {M : Type 1} → statement M
+lock-spec = tie.close (tie.spec slot-refusal-requires set-lock-requires same-length returns same-length-2 returns-2)

@@ -1,0 +1,132 @@
+-- A locked triangle stands after every call but a load, and so after every list of calls without one.
+use mathlib.Core.Path.{_≡_, refl, sym, ap, _∙_, subst}
+use mathlib.Core.Bool.{Bool, true, false}
+use mathlib.Core.List.{List, [], _∷_}
+use mathlib.Core.Logic.{_≢_}
+use Prim.Native.Nat.{ℕ, zero, suc, _*_, _<_}
+use native.Mathlib.Decide.{ℕ-discrete}
+use native.Mathlib.Omega.{arith}
+use lib.IntN.{pos}
+use lib.ListN.{getD}
+use Rattle.rules.proofs.Boxes.BoxCall.{box-refusal, box-makes}
+use Rattle.rules.proofs.Calls.CallRefusals.{refine-judged, whole-step-refusal}
+use Rattle.rules.proofs.Calls.Carried.{refine-found, refine-unlocked}
+use Rattle.rules.proofs.Calls.EveryCall.{refused-is, question-stands}
+use Rattle.rules.proofs.Calls.FirstThatHolds.{judged-carried, none-hold}
+use Rattle.rules.proofs.Calls.Outcomes.{refine-makes, lock-makes}
+use Rattle.rules.proofs.Chains.Going.{going-begins}
+use Rattle.rules.proofs.Lists.ListCall.{list-refusal, list-makes}
+use Rattle.rules.proofs.Locks.LeftAlone.{refine-leaves, handled-leaves, turns-leave}
+use Rattle.rules.proofs.Locks.Standing.{stands-same, stands-on, still-stands}
+use Rattle.rules.proofs.Numbers.Decide.{stable}
+use Rattle.rules.proofs.Soundness.SoundTest.{sound-is}
+use Rattle.rules.specs.Boxes.{refineInBox, boxRefusal}
+use Rattle.rules.specs.Calls.{Outcome, wholeStepCall, lockCall, withLock}
+use Rattle.rules.specs.Conditions.{Locked, SomeLocked}
+use Rattle.rules.specs.History.{loads, refines, steps, refinesEach, refinesInBox, setsLock, Call, changes, asks}
+use Rattle.rules.specs.History.{ringOf, positionOf, limitsOf, previewOf, outcome, after}
+use Rattle.rules.specs.Lists.{Progress, refineEach, sparesRefusal}
+use Rattle.rules.specs.Promises.{refusedWork, refusedAs, SameLocks, Still, LockMakes, Stands, NoLoad, NoClearing}
+use Rattle.rules.specs.Promises.{LeaveLocked}
+use Rattle.rules.specs.Sound.{Sound}
+use Rattle.rules.specs.Spares.{Spares}
+use Rattle.rules.specs.Split.{atFirst}
+use Rattle.rules.specs.Tables.{Mesh, lock, generation}
+
+-- ---- refused
+
+refused-work : (first : ℕ) (p : Progress) (spares : Spares) (n : ℕ) (m : Mesh)
+    → refusedWork first p spares n m .mesh ≡ m
+refused-work zero p spares n m = refl
+refused-work (suc k) p spares n m = refl
+
+refused-mesh : (c : Call) (n : ℕ) (m : Mesh) → refusedAs c n m .mesh ≡ m
+refused-mesh (changes (loads rule bytes)) n m = refl
+refused-mesh (changes (refines t)) n m = refl
+refused-mesh (changes steps) n m = refl
+refused-mesh (changes (refinesEach list spares)) n m =
+    refused-work (sparesRefusal spares m) (refineEach list m) spares n m
+refused-mesh (changes (refinesInBox b spares)) n m = refused-work (boxRefusal b spares m) (refineInBox b m) spares n m
+refused-mesh (changes (setsLock on t)) n m = refl
+refused-mesh (asks (ringOf v buffer)) n m = refl
+refused-mesh (asks (positionOf v)) n m = refl
+refused-mesh (asks (limitsOf table)) n m = refl
+refused-mesh (asks (previewOf list spares)) n m = refused-work (sparesRefusal spares m) (refineEach list m) spares n m
+
+-- A refused call leaves the mesh.
+refused-stands : (c : Call) (m : Mesh) → outcome c m .answer .refusal ≢ 0 → outcome c m .mesh ≡ m
+refused-stands c m n = ap (λ (o : Outcome). o .mesh) (refused-is c m n) ∙ refused-mesh c _ m
+
+-- ---- carried out
+
+-- What a call leaves of a locked triangle.
+abbrev Left : ℕ → Call → Mesh → Mesh → Type 0
+Left x c m n = Stands x m n × (NoClearing x c m → Locked n x)
+
+left-same : {x : ℕ} {c : Call} {m n : Mesh} → Locked m x → n ≡ m → Left x c m n
+left-same {x} {c} {m} L e = subst (Left x c m) (sym e) (stands-same (L .0) refl refl, (λ _. L))
+
+-- Splits and flips that leave its generation.
+left-still : {x : ℕ} {c : Call} {m n k : Mesh} → Locked m x → k ≡ n → Sound m → Still (m .topology) (n .topology)
+    → ((i : ℕ) → i < 3 * m .topology .vertices → getD (n .positions) i (pos 0) ≡ getD (m .positions) i (pos 0))
+    → SameLocks m n → generation (n .topology) x ≡ generation (m .topology) x → Left x c m k
+left-still {x} {c} {m} (l, d) e S T old K g =
+    subst (Left x c m) (sym e)
+    (still-stands S T old l g, (λ _. (omega (arith, T .grows), K .old x l ∙ d)))
+
+-- A whole step is refused while a triangle is locked.
+pub step-locked : (m : Mesh) → SomeLocked m → wholeStepCall m .answer .refusal ≢ 0
+step-locked m L z = let (_, (_, (_, (_, (_, (l, _)))))) = none-hold (whole-step-refusal m) z tt in l L
+
+carried-stands : (x : ℕ) (c : Call) (m : Mesh) → Locked m x → NoLoad c m → outcome c m .answer .refusal ≡ 0
+    → Left x c m (outcome c m .mesh)
+carried-stands x (changes (loads rule bytes)) m L n z = absurd (n rule bytes refl z)
+carried-stands x (changes (refines t)) m L n z =
+    let (e, M) = refine-makes t m z in
+    let r = judged-carried (refine-judged t m) z .0 in
+    let F = refine-found t m r in
+    left-still L (ap (λ (o : Outcome). o .mesh) e) (F .sound) (M .still) (M .oldVertices) (M .locks)
+    (refine-leaves (atFirst m) F (refine-unlocked t m r) L .0)
+carried-stands x (changes steps) m L n z = absurd (step-locked m (x, L) z)
+carried-stands x (changes (refinesEach list spares)) m L n z =
+    let (e, _, M) = list-makes list spares m z in
+    let (_, (_, (s, _))) = none-hold (list-refusal list spares m) z tt in
+    let S = stable (sound-is m) s in
+    left-still L (ap (λ (o : Outcome). o .mesh) e) S (M .still) (M .oldVertices) (M .locks)
+    (handled-leaves (going-begins S) L (M .handled))
+carried-stands x (changes (refinesInBox b spares)) m L n z =
+    let (e, M) = box-makes b spares m z in
+    let (_, (_, (_, (s, _)))) = none-hold (box-refusal b spares m) z tt in
+    let S = stable (sound-is m) s in
+    left-still L (ap (λ (o : Outcome). o .mesh) e) S (M .still) (M .oldVertices) (M .locks)
+    (turns-leave (going-begins S) L (M .turns))
+carried-stands x (changes (setsLock on t)) m (l, d) n z =
+    let (e, M) = lock-makes on t m z in
+    subst (Left x (changes (setsLock on t)) m) (sym (ap (λ (o : Outcome). o .mesh) e))
+    (stands-same l refl refl, (λ c. (l, keeps on M c z (ℕ-discrete x t))))
+  where
+    keeps : (on : Bool) → LockMakes on t m (withLock on t m) → NoClearing x (changes (setsLock on t)) m
+        → lockCall on t m .answer .refusal ≡ 0 → Dec (x ≡ t) → lock (withLock on t m) x ≡ 1
+    keeps on M c z (no q) = M .others x q ∙ d
+    keeps true M c z (yes q) = rw q (M .this)
+    keeps false M c z (yes q) = absurd (c (ap (λ (t : ℕ). changes (setsLock false t)) (sym q)) z)
+carried-stands x (asks q) m L n z = left-same L (question-stands q m)
+
+-- ---- every call, and every list of calls
+
+pub call-stands : (x : ℕ) (c : Call) (m : Mesh) → Locked m x → NoLoad c m
+    → Stands x m (outcome c m .mesh) × (NoClearing x c m → Locked (outcome c m .mesh) x)
+call-stands x c m L n = go (ℕ-discrete (outcome c m .answer .refusal) 0)
+  where
+    go : Dec (outcome c m .answer .refusal ≡ 0) → Left x c m (outcome c m .mesh)
+    go (yes z) = carried-stands x c m L n z
+    go (no z) = left-same L (refused-stands c m z)
+
+pub history-stands : (x : ℕ) (cs : List Call) (m : Mesh) → Locked m x → LeaveLocked x cs m
+    → Stands x m (after cs m) × Locked (after cs m) x
+unfolding after
+history-stands x [] m L N = (stands-same (L .0) refl refl, L)
+history-stands x (c ∷ cs) m L (n, k, N) =
+    let a = call-stands x c m L n in
+    let b = history-stands x cs (outcome c m .mesh) (a .1 k) N in
+    (stands-on (a .0) (b .0), b .1)
