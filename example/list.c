@@ -1,17 +1,18 @@
-/* Loads an octahedron, and previews lists of its triangles: one that is then carried out, and two that would fail. Then
-   refines what is inside of a box. */
+/* Loads an octahedron, and previews lists of its triangles: one is then carried out, three would fail, one of them at a
+   locked triangle. Then refines what is inside of a box. */
 #include "rawplinth.h"
 
 #include <stdio.h>
 
 enum { VERTEX_SLOTS = 12, TRIANGLE_SLOTS = 20 };
 
-/* Four tables for the mesh, and four of the same sizes to work in. */
+/* Five tables for the mesh, and five of the same sizes to work in. */
 typedef struct {
     int32_t positions[3 * VERTEX_SLOTS];
     uint32_t corners[3 * TRIANGLE_SLOTS];
     uint32_t links[3 * TRIANGLE_SLOTS];
     uint8_t generations[TRIANGLE_SLOTS];
+    uint8_t locks[TRIANGLE_SLOTS];
 } tables;
 
 static tables mesh, spares;
@@ -19,7 +20,7 @@ static tables mesh, spares;
 /* The tables with their lengths, as every call takes them. */
 #define LENT(t) \
     (t).positions, 3 * VERTEX_SLOTS, (t).corners, 3 * TRIANGLE_SLOTS, (t).links, 3 * TRIANGLE_SLOTS, (t).generations, \
-        TRIANGLE_SLOTS
+        TRIANGLE_SLOTS, (t).locks, TRIANGLE_SLOTS
 
 /* The sizes, the coordinates and the corners. */
 static const int32_t cage[] = {
@@ -39,6 +40,7 @@ static rawplinth_counts refine_each(rawplinth_counts counts, const uint32_t *lis
         break;
     case RAWPLINTH_NOT_IN_USE:
     case RAWPLINTH_GENERATION:
+    case RAWPLINTH_LOCKED:
     case RAWPLINTH_NO_SLOTS:
         printf("entry %zu, triangle %u: refused with %u\n", look.handled, list[look.handled], look.refusal);
         return counts;
@@ -81,6 +83,11 @@ int main(void)
     refine_each(counts, (const uint32_t[]){3, 4, 5, 6}, 4);
     /* Triangle 14 comes into use by the first entry, but was not when the call began. */
     refine_each(counts, (const uint32_t[]){3, 14}, 2);
+    /* Triangle 5 bears the maker's mark and is locked. What is beside it may be refined. */
+    done = rawplinth_lock(LENT(mesh), counts, 5);
+    if (done.refusal != RAWPLINTH_OK)
+        return 1;
+    refine_each(counts, (const uint32_t[]){4, 6, 5}, 3);
 
     /* A lettered panel. It holds vertex 3, which lies on a face of its box. */
     rawplinth_point low = {-1024, -9216, -1024}, high = {1024, -6144, 1024};

@@ -10,9 +10,11 @@ static int32_t positions[3 * VERTICES];
 static uint32_t corners[3 * TRIANGLES];
 static uint32_t links[3 * TRIANGLES];
 static uint8_t generations[TRIANGLES];
+static uint8_t locks[TRIANGLES];
 
-/* The four tables with their lengths, as every call takes them. */
-#define TABLES positions, 3 * VERTICES, corners, 3 * TRIANGLES, links, 3 * TRIANGLES, generations, TRIANGLES
+/* The five tables with their lengths, as every call takes them. */
+#define TABLES \
+    positions, 3 * VERTICES, corners, 3 * TRIANGLES, links, 3 * TRIANGLES, generations, TRIANGLES, locks, TRIANGLES
 
 /* The sizes, the coordinates and the corners: 9 mm from the centre to each vertex. */
 static int32_t cage[] = {

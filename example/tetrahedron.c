@@ -1,4 +1,4 @@
-/* Loads a tetrahedron, refines a triangle, and reads a ring and a position. */
+/* Loads a tetrahedron, refines a triangle, reads a ring and a position, and locks a triangle. */
 #include "rawplinth.h"
 
 #include <stdio.h>
@@ -9,10 +9,12 @@ static int32_t positions[3 * VERTEX_SLOTS];
 static uint32_t corners[3 * TRIANGLE_SLOTS];
 static uint32_t links[3 * TRIANGLE_SLOTS];
 static uint8_t generations[TRIANGLE_SLOTS];
+static uint8_t locks[TRIANGLE_SLOTS];
 
-/* The four tables with their lengths, as every call takes them. */
+/* The five tables with their lengths, as every call takes them. */
 #define TABLES \
-    positions, 3 * VERTEX_SLOTS, corners, 3 * TRIANGLE_SLOTS, links, 3 * TRIANGLE_SLOTS, generations, TRIANGLE_SLOTS
+    positions, 3 * VERTEX_SLOTS, corners, 3 * TRIANGLE_SLOTS, links, 3 * TRIANGLE_SLOTS, generations, TRIANGLE_SLOTS, \
+        locks, TRIANGLE_SLOTS
 
 /* The sizes, the coordinates and the corners. */
 static const int32_t cage[] = {
@@ -53,5 +55,15 @@ int main(void)
 
     done = rawplinth_refine(TABLES, counts, 99);
     printf("triangle 99: refused with %u\n", done.refusal);
+
+    /* Triangle 1 is to stay as it is, until it is unlocked. Refining triangle 0 again would split it. */
+    done = rawplinth_lock(TABLES, counts, 1);
+    if (done.refusal != RAWPLINTH_OK)
+        return 1;
+    done = rawplinth_refine(TABLES, counts, 0);
+    printf("beside a locked triangle: refused with %u\n", done.refusal);
+    rawplinth_unlock(TABLES, counts, 1);
+    done = rawplinth_refine(TABLES, counts, 0);
+    printf("with it unlocked: %u split, %u flip\n", done.splits, done.flips);
     return 0;
 }

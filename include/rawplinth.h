@@ -14,7 +14,7 @@ extern "C" {
 
 /* Raised by every new call and every change of a signature, a struct or an answer; docs/changes/README.md has a line
    for each. */
-#define RAWPLINTH_VERSION 8
+#define RAWPLINTH_VERSION 9
 
 /* What a side without a partner links to. */
 #define RAWPLINTH_BOUNDARY UINT32_C(4294967295)
@@ -59,7 +59,8 @@ enum {
     RAWPLINTH_COORDINATES = 4,     /* a coordinate beyond 16777216 either way */
     RAWPLINTH_SIDE_TWICE = 5,      /* two triangles with the same directed side */
     RAWPLINTH_FANS = 6,            /* a vertex with no triangle, several fans, or two triangles and no boundary */
-    RAWPLINTH_NOT_SOUND = 7,       /* no mesh by the rules: a fresh store, damaged tables, a rule neither 1 nor 2 */
+    RAWPLINTH_NOT_SOUND = 7,       /* no mesh by the rules: a fresh store, damaged tables, a rule neither 1 nor 2, or a
+                                      lock neither 0 nor 1 */
     RAWPLINTH_NOT_IN_USE = 8,      /* no such triangle or vertex in use */
     RAWPLINTH_GENERATION = 9,      /* generation 20, the last, or 19 with the base on the boundary */
     RAWPLINTH_CHAIN_OPEN = 10,     /* no call returns it: a base chain that ends at the boundary is split there */
@@ -70,11 +71,12 @@ enum {
     RAWPLINTH_TABLE_LENGTH = 15,   /* a table that has not exactly three entries for each vertex in use */
     RAWPLINTH_RULE = 16,           /* a load by a rule that is neither 1 nor 2 */
     RAWPLINTH_SPARES = 17,         /* a spare table of another length than the mesh's */
-    RAWPLINTH_BOX = 18             /* a box whose low corner is above its high one in a coordinate, or a generation
+    RAWPLINTH_BOX = 18,            /* a box whose low corner is above its high one in a coordinate, or a generation
                                       above 20 */
+    RAWPLINTH_LOCKED = 19          /* a locked triangle that would be split or flipped; in a whole step any */
 };
 
-/* The answer of load, refine and whole step. */
+/* The answer of load, refine, whole step, lock and unlock, the last two without splits and flips. */
 typedef struct {
     uint32_t refusal;
     uint32_t splits; /* splits made, at the boundary or not */
@@ -126,7 +128,7 @@ typedef struct {
     rawplinth_counts counts;
 } rawplinth_limit_read;
 
-/* Every call is lent the same four tables, each a pointer and its number of entries:
+/* Every call is lent the same five tables, each a pointer and its number of entries:
 
      positions     3 for each vertex slot, in units of 1/1024 mm, within 16777216 either way
      corners       3 for each triangle slot
@@ -135,6 +137,12 @@ typedef struct {
      generations   1 for each triangle slot: 0 to 20, 0 after a load. An odd triangle was made by a split, with side 0
                    as its base; a flip across the base makes it even. The base chain of an odd triangle goes on to the
                    triangle across its base, until an even one or the boundary
+     locks         1 for each triangle slot: 1 for a triangle that is locked, else 0; 0 after a load and for what a
+                   split makes. A mesh that was saved before version 9 goes on with zeros
+
+   A locked triangle stays as it is until it is unlocked or a cage is loaded: its corners, their positions, its
+   generation, and the sides that its links name. Where a split or a flip beside it moves such a side to another place,
+   the link follows.
 
    Whatever they hold, a call does what it says or is refused, with the first number of its list that applies. Slots
    past the counts are written only where a call takes them into use.
@@ -151,6 +159,7 @@ rawplinth_worked rawplinth_load(
     uint32_t *corners, size_t corners_length,
     uint32_t *links, size_t links_length,
     uint8_t *generations, size_t generations_length,
+    uint8_t *locks, size_t locks_length,
     rawplinth_counts counts,
     uint32_t rule,
     const uint8_t *cage, size_t cage_length);
@@ -160,13 +169,17 @@ rawplinth_worked rawplinth_load(
    side is cut in three at two new vertices, and the odd triangle before it in the chain is flipped. So a chain of m odd
    triangles takes m splits, or m-1 at the boundary, one at least. Each takes one vertex and two triangles, the one at
    the boundary two vertices.
-   Refuses with 1, 7, 8, 9, 11, in this order. Writes slots in use and those that it takes. Needs 0.14 MB of
-   stack, as do ring and position. */
+   Split or flipped are the odd triangles of the base chain, the triangle at its end, which is split first, and the odd
+   ones whose base meets that: if one of these is locked, the call is refused with 19. Of other triangles at most links
+   follow, be they locked or not.
+   Refuses with 1, 7, 8, 9, 19, 11, in this order. Writes slots in use and those that it takes. Needs 0.14 MB of
+   stack, as do lock, unlock, ring and position. */
 rawplinth_worked rawplinth_refine(
     int32_t *positions, size_t positions_length,
     uint32_t *corners, size_t corners_length,
     uint32_t *links, size_t links_length,
     uint8_t *generations, size_t generations_length,
+    uint8_t *locks, size_t locks_length,
     rawplinth_counts counts,
     uint32_t triangle);
 
@@ -174,24 +187,27 @@ rawplinth_worked rawplinth_refine(
    that an earlier entry makes is refused with 8. A triangle whose generation is above what it was at the start, by its
    own entry or by another's, is passed over, so that it does no harm to list a triangle twice. An empty list is carried
    out with zeros.
-   The work is done in four spare tables, each as long as the mesh's own of that name; what they hold before does not
+   The work is done in five spare tables, each as long as the mesh's own of that name; what they hold before does not
    matter. Unless 1, 17 or 7 refuses, they are left with the mesh after the last entry that was handled, or as it was
    given if none was, in the slots which that mesh has in use; their other slots keep their content. So it is where an
    entry fails, too, and `spares` of the answer are the counts of what they hold. They must not overlap each other, the
    list or the mesh's tables.
-   Refuses with 1, 17, 7, in this order, then with what the first entry that fails is refused with: 8, 9 or 11. Writes
-   the spare tables, and if no entry fails the mesh: slots in use and those that it takes. Needs 0.14 MB of stack. */
+   Refuses with 1, 17, 7, in this order, then with what the first entry that fails is refused with: 8, 9, 19 or 11.
+   Writes the spare tables, and if no entry fails the mesh: slots in use and those that it takes. Needs 0.14 MB of
+   stack. */
 rawplinth_batch_worked rawplinth_refine_list(
     int32_t *positions, size_t positions_length,
     uint32_t *corners, size_t corners_length,
     uint32_t *links, size_t links_length,
     uint8_t *generations, size_t generations_length,
+    uint8_t *locks, size_t locks_length,
     rawplinth_counts counts,
     const uint32_t *list, size_t list_length,
     int32_t *spare_positions, size_t spare_positions_length,
     uint32_t *spare_corners, size_t spare_corners_length,
     uint32_t *spare_links, size_t spare_links_length,
-    uint8_t *spare_generations, size_t spare_generations_length);
+    uint8_t *spare_generations, size_t spare_generations_length,
+    uint8_t *spare_locks, size_t spare_locks_length);
 
 /* Does with the spare tables what refine_list would do with the same mesh and list, and answers what it would; but the
    mesh is only read, and keeps its counts. Where no entry fails, the spare tables are left with the mesh that
@@ -203,12 +219,14 @@ rawplinth_batch_foreseen rawplinth_preview(
     const uint32_t *corners, size_t corners_length,
     const uint32_t *links, size_t links_length,
     const uint8_t *generations, size_t generations_length,
+    const uint8_t *locks, size_t locks_length,
     rawplinth_counts counts,
     const uint32_t *list, size_t list_length,
     int32_t *spare_positions, size_t spare_positions_length,
     uint32_t *spare_corners, size_t spare_corners_length,
     uint32_t *spare_links, size_t spare_links_length,
-    uint8_t *spare_generations, size_t spare_generations_length);
+    uint8_t *spare_generations, size_t spare_generations_length,
+    uint8_t *spare_locks, size_t spare_locks_length);
 
 /* Refines inside a box, all or nothing: as long as some triangle in use is of a generation below `below` and has a
    corner in the box, the one in the lowest slot is refined. A corner on a face of the box is in it, and a triangle that
@@ -218,35 +236,61 @@ rawplinth_batch_foreseen rawplinth_preview(
    The box has all points from `low` to `high` in each coordinate, which may be any 32-bit numbers, and `below` is from
    0 to 20. Where there is no such triangle, the call is carried out with zeros.
    A triangle that cannot be refined is not passed over: the call fails with it.
-   The work is done in four spare tables, lent as refine_list's. Unless 1, 17, 18 or 7 refuses, they are left with the
+   The work is done in five spare tables, lent as refine_list's. Unless 1, 17, 18 or 7 refuses, they are left with the
    mesh after the last refine that was made, or as it was given if none was, in the slots which that mesh has in use;
    their other slots keep their content. So it is where a refine fails, too, and `spares` of the answer are the counts
    of what they hold.
-   Refuses with 1, 17, 18, 7, in this order, then with what the first refine that fails is refused with: 9, which takes
-   a `below` of 20 and a triangle of generation 19 with its base on the boundary, or 11. Writes the spare tables, and if
-   no refine fails the mesh: slots in use and those that it takes. Needs 0.15 MB of stack. */
+   Refuses with 1, 17, 18, 7, in this order, then with what the first refine that fails is refused with: 9, 19 or 11. A
+   9 takes a `below` of 20 and a triangle of generation 19 with its base on the boundary. Writes the spare tables, and
+   if no refine fails the mesh: slots in use and those that it takes. Needs 0.15 MB of stack. */
 rawplinth_batch_worked rawplinth_refine_box(
     int32_t *positions, size_t positions_length,
     uint32_t *corners, size_t corners_length,
     uint32_t *links, size_t links_length,
     uint8_t *generations, size_t generations_length,
+    uint8_t *locks, size_t locks_length,
     rawplinth_counts counts,
     rawplinth_point low, rawplinth_point high, uint32_t below,
     int32_t *spare_positions, size_t spare_positions_length,
     uint32_t *spare_corners, size_t spare_corners_length,
     uint32_t *spare_links, size_t spare_links_length,
-    uint8_t *spare_generations, size_t spare_generations_length);
+    uint8_t *spare_generations, size_t spare_generations_length,
+    uint8_t *spare_locks, size_t spare_locks_length);
 
 /* Refines every triangle of a closed mesh of one even generation, and smooths the old vertices, all at once, each
-   coordinate to the nearest, a half by the mesh's rule.
-   Refuses with 1, 7, 12, 9, 13, 11, in this order. Writes slots in use and those that it takes. Needs 0.6 MB of stack,
-   as does limit. */
+   coordinate to the nearest, a half by the mesh's rule. It moves everything, and so is refused with 19 while any
+   triangle is locked.
+   Refuses with 1, 7, 12, 9, 13, 19, 11, in this order. Writes slots in use and those that it takes. Needs 0.6 MB of
+   stack, as does limit. */
 rawplinth_worked rawplinth_whole_step(
     int32_t *positions, size_t positions_length,
     uint32_t *corners, size_t corners_length,
     uint32_t *links, size_t links_length,
     uint8_t *generations, size_t generations_length,
+    uint8_t *locks, size_t locks_length,
     rawplinth_counts counts);
+
+/* Locks a triangle, which may be locked already, and answers the counts as they stand.
+   Refuses with 1, 7, 8, in this order. Writes its lock. */
+rawplinth_worked rawplinth_lock(
+    const int32_t *positions, size_t positions_length,
+    const uint32_t *corners, size_t corners_length,
+    const uint32_t *links, size_t links_length,
+    const uint8_t *generations, size_t generations_length,
+    uint8_t *locks, size_t locks_length,
+    rawplinth_counts counts,
+    uint32_t triangle);
+
+/* Unlocks a triangle, which may be unlocked already, and answers the counts as they stand.
+   Refuses with 1, 7, 8, in this order. Writes its lock. */
+rawplinth_worked rawplinth_unlock(
+    const int32_t *positions, size_t positions_length,
+    const uint32_t *corners, size_t corners_length,
+    const uint32_t *links, size_t links_length,
+    const uint8_t *generations, size_t generations_length,
+    uint8_t *locks, size_t locks_length,
+    rawplinth_counts counts,
+    uint32_t triangle);
 
 /* Reads the ring of a vertex v: from a triangle (v,a,b) it writes a and goes on across b-v, from the lowest slot that
    holds v until it is back; at the boundary from the triangle whose v-a is on it to the last one, whose b it writes
@@ -257,6 +301,7 @@ rawplinth_ring_read rawplinth_ring(
     const uint32_t *corners, size_t corners_length,
     const uint32_t *links, size_t links_length,
     const uint8_t *generations, size_t generations_length,
+    const uint8_t *locks, size_t locks_length,
     rawplinth_counts counts,
     uint32_t vertex,
     uint32_t *buffer, size_t buffer_length);
@@ -268,6 +313,7 @@ rawplinth_position_read rawplinth_position(
     const uint32_t *corners, size_t corners_length,
     const uint32_t *links, size_t links_length,
     const uint8_t *generations, size_t generations_length,
+    const uint8_t *locks, size_t locks_length,
     rawplinth_counts counts,
     uint32_t vertex);
 
@@ -280,6 +326,7 @@ rawplinth_limit_read rawplinth_limit(
     const uint32_t *corners, size_t corners_length,
     const uint32_t *links, size_t links_length,
     const uint8_t *generations, size_t generations_length,
+    const uint8_t *locks, size_t locks_length,
     rawplinth_counts counts,
     int32_t *table, size_t table_length);
 

@@ -3,7 +3,7 @@
 
 /// Raised with that of the header. A program may go without it.
 #[allow(dead_code)]
-pub const RAWPLINTH_VERSION: u32 = 8;
+pub const RAWPLINTH_VERSION: u32 = 9;
 
 /// The rules by which a mesh rounds halves: up, or away from zero.
 pub const RAWPLINTH_HALF_UP: u32 = 1;
@@ -27,7 +27,7 @@ pub struct Point {
     pub z: i32,
 }
 
-/// The answer of load, refine and whole step. Refine splits at the boundary, too, and no call returns 10.
+/// The answer of load, refine, whole step, lock and unlock. Refine splits at the boundary, too, and no call returns 10.
 #[repr(C)]
 #[derive(Clone, Copy, Debug, Default, PartialEq, Eq)]
 pub struct Worked {
@@ -103,6 +103,8 @@ unsafe extern "C" {
         links_length: usize,
         generations: *mut u8,
         generations_length: usize,
+        locks: *mut u8,
+        locks_length: usize,
         counts: Counts,
         rule: u32,
         cage: *const u8,
@@ -118,6 +120,8 @@ unsafe extern "C" {
         links_length: usize,
         generations: *mut u8,
         generations_length: usize,
+        locks: *mut u8,
+        locks_length: usize,
         counts: Counts,
         triangle: u32,
     ) -> Worked;
@@ -131,7 +135,39 @@ unsafe extern "C" {
         links_length: usize,
         generations: *mut u8,
         generations_length: usize,
+        locks: *mut u8,
+        locks_length: usize,
         counts: Counts,
+    ) -> Worked;
+
+    pub fn rawplinth_lock(
+        positions: *const i32,
+        positions_length: usize,
+        corners: *const u32,
+        corners_length: usize,
+        links: *const u32,
+        links_length: usize,
+        generations: *const u8,
+        generations_length: usize,
+        locks: *mut u8,
+        locks_length: usize,
+        counts: Counts,
+        triangle: u32,
+    ) -> Worked;
+
+    pub fn rawplinth_unlock(
+        positions: *const i32,
+        positions_length: usize,
+        corners: *const u32,
+        corners_length: usize,
+        links: *const u32,
+        links_length: usize,
+        generations: *const u8,
+        generations_length: usize,
+        locks: *mut u8,
+        locks_length: usize,
+        counts: Counts,
+        triangle: u32,
     ) -> Worked;
 
     pub fn rawplinth_ring(
@@ -143,6 +179,8 @@ unsafe extern "C" {
         links_length: usize,
         generations: *const u8,
         generations_length: usize,
+        locks: *const u8,
+        locks_length: usize,
         counts: Counts,
         vertex: u32,
         buffer: *mut u32,
@@ -158,6 +196,8 @@ unsafe extern "C" {
         links_length: usize,
         generations: *const u8,
         generations_length: usize,
+        locks: *const u8,
+        locks_length: usize,
         counts: Counts,
         vertex: u32,
     ) -> PositionRead;
@@ -171,6 +211,8 @@ unsafe extern "C" {
         links_length: usize,
         generations: *const u8,
         generations_length: usize,
+        locks: *const u8,
+        locks_length: usize,
         counts: Counts,
         table: *mut i32,
         table_length: usize,
@@ -185,6 +227,8 @@ unsafe extern "C" {
         links_length: usize,
         generations: *mut u8,
         generations_length: usize,
+        locks: *mut u8,
+        locks_length: usize,
         counts: Counts,
         list: *const u32,
         list_length: usize,
@@ -196,6 +240,8 @@ unsafe extern "C" {
         spare_links_length: usize,
         spare_generations: *mut u8,
         spare_generations_length: usize,
+        spare_locks: *mut u8,
+        spare_locks_length: usize,
     ) -> BatchWorked;
 
     pub fn rawplinth_preview(
@@ -207,6 +253,8 @@ unsafe extern "C" {
         links_length: usize,
         generations: *const u8,
         generations_length: usize,
+        locks: *const u8,
+        locks_length: usize,
         counts: Counts,
         list: *const u32,
         list_length: usize,
@@ -218,6 +266,8 @@ unsafe extern "C" {
         spare_links_length: usize,
         spare_generations: *mut u8,
         spare_generations_length: usize,
+        spare_locks: *mut u8,
+        spare_locks_length: usize,
     ) -> BatchForeseen;
 
     pub fn rawplinth_refine_box(
@@ -229,6 +279,8 @@ unsafe extern "C" {
         links_length: usize,
         generations: *mut u8,
         generations_length: usize,
+        locks: *mut u8,
+        locks_length: usize,
         counts: Counts,
         low: Point,
         high: Point,
@@ -241,5 +293,7 @@ unsafe extern "C" {
         spare_links_length: usize,
         spare_generations: *mut u8,
         spare_generations_length: usize,
+        spare_locks: *mut u8,
+        spare_locks_length: usize,
     ) -> BatchWorked;
 }

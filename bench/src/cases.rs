@@ -12,6 +12,10 @@ pub const LONGEST_AT_BOUNDARY: &str = "refine at the boundary, chain of 10";
 /// The calls that round halves, by either rule.
 pub const STEPS: [&str; 2] = ["whole step", "whole step, rule 2"];
 pub const LIMITS: [&str; 2] = ["limit", "limit, rule 2"];
+/// The longest chain where every triangle is locked that the refine does not alter, and a whole step where the last
+/// triangle is.
+pub const LONGEST_BESIDE_LOCKS: &str = "refine, chain of 10, beside locks";
+pub const LOCKED_STEP: &str = "whole step, locked";
 /// Lists: of triangles in a row, each refined by one split, and of one triangle again and again, which is passed over
 /// but for its first time.
 pub const LISTS: [&str; 4] = ["list of 1", "list of 100", "list of 10,000", "list of 10,000 times one"];
@@ -21,7 +25,7 @@ pub const PREVIEWS: [&str; 4] = ["preview of 1", "preview of 100", "preview of 1
 /// all, which is refused with 11 when no slots are left.
 pub const BOXES: [&str; 3] = ["box of nothing", "box of a twentieth", "box of all, refused"];
 
-const NAMES: [&str; 24] = [
+const NAMES: [&str; 28] = [
     "load",
     "soundness",
     "refine even",
@@ -29,8 +33,12 @@ const NAMES: [&str; 24] = [
     LONGEST,
     AT_BOUNDARY,
     LONGEST_AT_BOUNDARY,
+    LONGEST_BESIDE_LOCKS,
     STEPS[0],
     STEPS[1],
+    LOCKED_STEP,
+    "lock",
+    "unlock",
     "ring",
     "position",
     LIMITS[0],
@@ -87,7 +95,7 @@ pub fn all() -> Vec<Case> {
     for name in NAMES {
         let (small, large) = match name {
             name if is_listed(name) || BOXES.contains(&name) => (&[] as &[Cage], &list_sphere),
-            name if STEPS.contains(&name) => (&small[..], &step_sphere),
+            name if STEPS.contains(&name) || name == LOCKED_STEP => (&small[..], &step_sphere),
             _ => (&small[..], &sphere),
         };
         for cage in small.iter().chain([large]) {
@@ -114,17 +122,27 @@ fn case(name: &'static str, cage: &Cage, shuffled: bool) -> Case {
         lent.tables.corners.fill(1);
         lent.tables.links.fill(1);
         lent.tables.generations.fill(1);
+        lent.tables.locks.fill(1);
     }
     let mut triangle = lent.counts.triangles / 2;
     let vertex = lent.counts.vertices / 2;
-    if name == "refine odd" || name == LONGEST {
+    if name == "refine odd" || name == LONGEST || name == LONGEST_BESIDE_LOCKS {
         set_up(&mut lent, Call::Refine(triangle));
     }
     if name == AT_BOUNDARY || name == LONGEST_AT_BOUNDARY {
         triangle = odd_at_boundary(&mut lent);
     }
-    if name == LONGEST || name == LONGEST_AT_BOUNDARY {
+    if name == LONGEST || name == LONGEST_AT_BOUNDARY || name == LONGEST_BESIDE_LOCKS {
         triangle = end_of_long_chain(&mut lent, triangle);
+    }
+    if name == LONGEST_BESIDE_LOCKS {
+        lock_unaltered(&mut lent, triangle);
+    }
+    if name == "unlock" {
+        set_up(&mut lent, Call::Lock(triangle));
+    }
+    if name == LOCKED_STEP {
+        lent.tables.locks[lent.counts.triangles as usize - 1] = 1;
     }
     if is_listed(name) {
         lent.list = listed(name, lent.counts.triangles);
@@ -137,7 +155,9 @@ fn case(name: &'static str, cage: &Cage, shuffled: bool) -> Case {
         "soundness" => Call::Refine(lent.counts.triangles),
         "ring" => Call::Ring(vertex),
         "position" => Call::Position(vertex),
-        name if STEPS.contains(&name) => Call::WholeStep,
+        "lock" => Call::Lock(triangle),
+        "unlock" => Call::Unlock(triangle),
+        name if STEPS.contains(&name) || name == LOCKED_STEP => Call::WholeStep,
         name if LIMITS.contains(&name) => Call::Limit,
         name if LISTS.contains(&name) => Call::RefineList,
         name if PREVIEWS.contains(&name) => Call::Preview,
@@ -198,6 +218,15 @@ fn end_of_long_chain(lent: &mut Lent, mut triangle: u32) -> u32 {
         triangle = across(lent);
     }
     triangle
+}
+
+/// Locks all triangles that refining this one does not alter: those whose generation it leaves.
+fn lock_unaltered(lent: &mut Lent, triangle: u32) {
+    let mut refined = lent.clone();
+    set_up(&mut refined, Call::Refine(triangle));
+    for slot in 0..lent.counts.triangles as usize {
+        lent.tables.locks[slot] = u8::from(refined.tables.generations[slot] == lent.tables.generations[slot]);
+    }
 }
 
 /// A call before the measured one.

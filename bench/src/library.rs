@@ -3,7 +3,7 @@
 use crate::rawplinth::*;
 use crate::tables::{Answer, Call, Lent, Panel};
 
-/// A call of the function named, with the four tables as pointers and lengths, then the counts, then what follows, and
+/// A call of the function named, with the five tables as pointers and lengths, then the counts, then what follows, and
 /// the spare tables after a semicolon.
 macro_rules! call {
     ($function:ident, $lent:ident $(, $argument:expr)* $(; $spares:expr)?) => {{
@@ -19,6 +19,8 @@ macro_rules! call {
                 tables.links.len(),
                 tables.generations.as_mut_ptr(),
                 tables.generations.len(),
+                tables.locks.as_mut_ptr(),
+                tables.locks.len(),
                 counts
                 $(, $argument)*
                 $(,
@@ -29,7 +31,9 @@ macro_rules! call {
                     $spares.links.as_mut_ptr(),
                     $spares.links.len(),
                     $spares.generations.as_mut_ptr(),
-                    $spares.generations.len()
+                    $spares.generations.len(),
+                    $spares.locks.as_mut_ptr(),
+                    $spares.locks.len()
                 )?
             )
         }
@@ -41,6 +45,8 @@ pub fn answer(lent: &mut Lent, call: Call) -> Answer {
         Call::Load(rule) => Answer::Worked(call!(rawplinth_load, lent, rule, lent.cage.as_ptr(), lent.cage.len())),
         Call::Refine(triangle) => Answer::Worked(call!(rawplinth_refine, lent, triangle)),
         Call::WholeStep => Answer::Worked(call!(rawplinth_whole_step, lent)),
+        Call::Lock(triangle) => Answer::Worked(call!(rawplinth_lock, lent, triangle)),
+        Call::Unlock(triangle) => Answer::Worked(call!(rawplinth_unlock, lent, triangle)),
         Call::Ring(vertex) => {
             Answer::Ring(call!(rawplinth_ring, lent, vertex, lent.buffer.as_mut_ptr(), lent.buffer.len()))
         }

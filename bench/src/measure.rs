@@ -7,7 +7,9 @@ use std::path::Path;
 use std::process::Command;
 use std::time::Instant;
 
-use crate::cases::{AT_BOUNDARY, BOXES, Case, LONGEST, LONGEST_AT_BOUNDARY, STEPS, is_listed};
+use crate::cases::{
+    AT_BOUNDARY, BOXES, Case, LOCKED_STEP, LONGEST, LONGEST_AT_BOUNDARY, LONGEST_BESIDE_LOCKS, STEPS, is_listed,
+};
 use crate::tables::{Answer, Lent, scan_tables};
 use crate::{fast, library};
 
@@ -59,7 +61,8 @@ pub fn compare(case: &Case) {
     let expected = match case.name {
         "soundness" => (8, 0),
         "refine even" | "refine odd" | AT_BOUNDARY => (0, 1),
-        LONGEST => (0, 10),
+        LONGEST | LONGEST_BESIDE_LOCKS => (0, 10),
+        LOCKED_STEP => (19, 0),
         LONGEST_AT_BOUNDARY => (0, 9),
         name if STEPS.contains(&name) => (0, case.triangles),
         name if is_listed(name) => (0, case.listed_once()),

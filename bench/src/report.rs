@@ -12,8 +12,8 @@ const EXPERT: [(&str, usize, u64); 4] = [
 ];
 /// How many times the expert's instructions a call may take.
 const MOST_TIMES: f64 = 1.5;
-/// How many instructions beyond those of soundness a refine, a ring or a position may take, and limit positions for each
-/// triangle.
+/// How many instructions beyond those of soundness a refine, a lock, a ring or a position may take, and limit positions
+/// for each triangle.
 const MOST_BEYOND: u64 = 3_000;
 const MOST_FOR_EACH: u64 = 150;
 /// How many instructions the limit positions of a tetrahedron may take, with soundness.
@@ -124,7 +124,7 @@ fn most_beyond(case: &Case, soundness: u64) -> Option<u64> {
             let splits = case.splits_in_spares() as u64;
             Some((MOST_TO_COPY + MOST_TO_LOOK) * case.triangles as u64 + MOST_TO_SPLIT_IN_BOX * splits)
         }
-        "ring" | "position" => Some(MOST_BEYOND),
+        "lock" | "unlock" | "ring" | "position" => Some(MOST_BEYOND),
         name => name.starts_with("refine").then_some(MOST_BEYOND),
     }
 }

@@ -9,13 +9,15 @@ pub const BOUNDARY: u32 = u32::MAX;
 pub const MOST_VERTEX_SLOTS: usize = 32_768;
 pub const MOST_TRIANGLE_SLOTS: usize = 65_536;
 
-/// The lent tables: three positions to a vertex slot; three corners, three links and a generation to a triangle slot.
+/// The lent tables: three positions to a vertex slot; three corners, three links, a generation and a lock to a triangle
+/// slot.
 #[derive(Clone, Debug, PartialEq)]
 pub struct Tables {
     pub positions: Vec<i32>,
     pub corners: Vec<u32>,
     pub links: Vec<u32>,
     pub generations: Vec<u8>,
+    pub locks: Vec<u8>,
 }
 
 /// All that a call may be lent.
@@ -39,6 +41,8 @@ pub enum Call {
     Load(u32),
     Refine(u32),
     WholeStep,
+    Lock(u32),
+    Unlock(u32),
     Ring(u32),
     Position(u32),
     Limit,
@@ -74,6 +78,7 @@ impl Tables {
             corners: vec![0; 3 * triangle_slots],
             links: vec![0; 3 * triangle_slots],
             generations: vec![0; triangle_slots],
+            locks: vec![0; triangle_slots],
         }
     }
 }
@@ -99,9 +104,10 @@ impl Lent {
 #[inline(never)]
 pub extern "C" fn scan_tables(lent: &Lent) -> u32 {
     let (vertices, triangles) = (lent.counts.vertices as usize, lent.counts.triangles as usize);
-    let Tables { positions, corners, links, generations } = &lent.tables;
+    let Tables { positions, corners, links, generations, locks } = &lent.tables;
     let positions = positions[..3 * vertices].iter().fold(0u32, |sum, &entry| sum.wrapping_add(entry as u32));
     let topology = corners[..3 * triangles].iter().chain(&links[..3 * triangles]);
     let topology = topology.fold(positions, |sum, &entry| sum.wrapping_add(entry));
-    generations[..triangles].iter().fold(topology, |sum, &entry| sum.wrapping_add(u32::from(entry)))
+    let bytes = generations[..triangles].iter().chain(&locks[..triangles]);
+    bytes.fold(topology, |sum, &entry| sum.wrapping_add(u32::from(entry)))
 }

@@ -8,6 +8,7 @@ use std::path::PathBuf;
 use crate::case::Case;
 use crate::claims::{violated_by_box, violated_by_list, violated_by_preview, violated_by_refine};
 use crate::coverage::Coverage;
+use crate::locked::violated_by_lock;
 use crate::mirror;
 use crate::tables::{Answer, Call, Counts, HALF_AWAY, HALF_UP, Service, Store, Tables};
 
@@ -154,6 +155,7 @@ impl Apart {
             .or_else(|| Apart::entry(which, "corners", &one.corners, &other.corners))
             .or_else(|| Apart::entry(which, "links", &one.links, &other.links))
             .or_else(|| Apart::entry(which, "generations", &one.generations, &other.generations))
+            .or_else(|| Apart::entry(which, "locks", &one.locks, &other.locks))
     }
 
     fn entry<T: PartialEq + Debug>(which: &str, table: &str, one: &[T], other: &[T]) -> Option<Apart> {
@@ -177,14 +179,15 @@ pub fn difference(what: String, store: Store, call: &Call) -> Box<Difference> {
 }
 
 /// The fourth claim of demand 3, for every refine that is carried out; what every list and every box that is carried
-/// out adds; and that a box leaves none.
+/// out adds; that a box leaves none; and that locked triangles stay as they are.
 fn claim_violated(before: &Store, call: &Call, answer: &Answer, after: &Store) -> Option<String> {
-    match (call, answer.refusal) {
+    let violated = match (call, answer.refusal) {
         (&Call::Refine { triangle }, 0) => violated_by_refine(before, triangle as usize, answer, after),
         (Call::RefineList { .. }, 0) => violated_by_list(before, answer, after),
         (Call::RefineBox { bounds, below }, 0) => {
             violated_by_list(before, answer, after).or_else(|| violated_by_box(bounds, *below, after))
         }
         _ => None,
-    }
+    };
+    violated.or_else(|| violated_by_lock(before, call, answer, after))
 }

@@ -14,7 +14,7 @@ pub struct BoxCoverage {
     /// Refines of boxes, by the slot after the one before, as `SLOTS` tells it apart.
     slots: [u64; 4],
     /// Boxes by their end, as `ENDS` lists them.
-    ends: [u64; 7],
+    ends: [u64; 9],
     /// Boxes refused with 18, by what holds.
     refused: [u64; 4],
     /// Boxes carried out, by the generation that they are given; but for 0, with refines.
@@ -24,8 +24,17 @@ pub struct BoxCoverage {
 const HELD: [&str; 4] = ["no vertex", "one", "some", "all"];
 const FACES: [&str; 6] = ["low x", "low y", "low z", "high x", "high y", "high z"];
 const SLOTS: [&str; 4] = ["same", "lower", "higher", "made by the box"];
-const ENDS: [&str; 7] =
-    ["no refine", "refines, closed", "refines, open", "9 at once", "9 after refines", "11 at once", "11 after refines"];
+const ENDS: [&str; 9] = [
+    "no refine",
+    "refines, closed",
+    "refines, open",
+    "9 at once",
+    "9 after refines",
+    "11 at once",
+    "11 after refines",
+    "19 at once",
+    "19 after refines",
+];
 const REFUSED: [&str; 4] = ["low x above high", "low y above high", "low z above high", "generation above 20"];
 
 impl BoxCoverage {
@@ -37,7 +46,7 @@ impl BoxCoverage {
         self.refused[3] += u64::from(below > u32::from(LAST_GENERATION));
     }
 
-    /// Notes a box that is carried out, or fails with 9 or 11.
+    /// Notes a box that is carried out, or fails with 9, 11 or 19.
     pub fn note(&mut self, before: &Store, bounds: &Bounds, below: u32, answer: &Answer) {
         self.note_held(before, bounds);
         let refined = answer.handled > 0;
@@ -45,7 +54,8 @@ impl BoxCoverage {
         let end = match answer.refusal {
             0 => usize::from(refined) * (1 + usize::from(open)),
             9 => 3 + usize::from(refined),
-            _ => 5 + usize::from(refined),
+            11 => 5 + usize::from(refined),
+            _ => 7 + usize::from(refined),
         };
         self.ends[end] += 1;
         if answer.refusal == 0 && (refined || below == 0) {

@@ -3,6 +3,7 @@
 use crate::bench::{Bench, Outcome};
 use crate::claims::read_chain;
 use crate::coverage::LONGEST_LIST;
+use crate::locked::locked_triangles;
 use crate::rng::Rng;
 use crate::tables::{BOUNDARY, Bounds, Call, FARTHEST, HALF_AWAY, HALF_UP, LAST_GENERATION, NO_RULES, Store, Tables};
 
@@ -23,14 +24,15 @@ pub fn random_call(store: &mut Store, rng: &mut Rng) -> Call {
             some_box(store, rng)
         }
         56..64 => Call::WholeStep,
-        64..72 => limit(store, rng),
-        72..88 => ring(store, rng),
-        _ => Call::Position { vertex: some_number(store.counts.vertices, rng) },
+        64..70 => limit(store, rng),
+        70..80 => ring(store, rng),
+        80..88 => Call::Position { vertex: some_number(store.counts.vertices, rng) },
+        _ => set_lock(store, rng),
     }
 }
 
 /// One call of each kind but load, for which the store gets room, its spare tables of fitting sizes.
-pub fn one_of_each(store: &mut Store, rng: &mut Rng) -> [Call; 7] {
+pub fn one_of_each(store: &mut Store, rng: &mut Rng) -> [Call; 8] {
     store.room.spares = fitting_spares(store, rng);
     [
         Call::Refine { triangle: some_triangle(store, rng) },
@@ -38,6 +40,7 @@ pub fn one_of_each(store: &mut Store, rng: &mut Rng) -> [Call; 7] {
         limit(store, rng),
         ring(store, rng),
         Call::Position { vertex: some_number(store.counts.vertices, rng) },
+        Call::SetLock { triangle: some_triangle(store, rng), on: rng.percent(50) },
         Call::RefineList { list: some_list(store, rng) },
         Call::RefineBox { bounds: some_bounds(store, rng), below: some_generation(store, rng) },
     ]
@@ -99,7 +102,7 @@ fn some_spares(store: &Store, rng: &mut Rng) -> Tables {
         return store.tables.clone();
     }
     if rng.percent(15) {
-        let table = rng.below(4);
+        let table = rng.below(5);
         lengths[table] = rng.pick(&other_lengths(lengths[table]));
     }
     Tables::junk(lengths, rng)
@@ -214,6 +217,26 @@ fn some_triangle(store: &Store, rng: &mut Rng) -> u32 {
     let tries = (0..8).map(|_| rng.below(in_use));
     let generation = |slot: &usize| store.tables.generations[*slot];
     tries.max_by_key(generation).expect("there are tries") as u32
+}
+
+/// A lock set or cleared, so that few are set at a time: mostly one set is cleared, or one near the work is set.
+fn set_lock(store: &Store, rng: &mut Rng) -> Call {
+    let locked = locked_triangles(store);
+    if locked.is_empty() || rng.percent(45) {
+        return Call::SetLock { triangle: near_work(store, rng), on: rng.percent(85) };
+    }
+    Call::SetLock { triangle: rng.pick(&locked) as u32, on: rng.percent(10) }
+}
+
+/// A triangle, or one a few sides away from it, mostly across bases: what refining the one may alter.
+pub fn near_work(store: &Store, rng: &mut Rng) -> u32 {
+    let mut at = some_triangle(store, rng);
+    for _ in 0..rng.below(4) {
+        let side = 3 * at as usize + rng.pick(&[0, 0, 1, 2]);
+        let across = store.tables.links.get(side).map_or(at, |link| link / 3);
+        at = if across < store.counts.triangles { across } else { at };
+    }
+    at
 }
 
 /// The triangle of highest generation that can still be refined, the last of several.

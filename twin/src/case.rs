@@ -25,6 +25,8 @@ impl Display for Case {
             Call::Load { rule, cage } => writeln!(out, "load {rule}{}", numbers(cage)),
             Call::Refine { triangle } => writeln!(out, "refine {triangle}"),
             Call::WholeStep => writeln!(out, "whole-step"),
+            Call::SetLock { triangle, on: true } => writeln!(out, "lock {triangle}"),
+            Call::SetLock { triangle, on: false } => writeln!(out, "unlock {triangle}"),
             Call::Ring { vertex } => writeln!(out, "ring {vertex}"),
             Call::Position { vertex } => writeln!(out, "position {vertex}"),
             Call::Limit => writeln!(out, "limit"),
@@ -41,7 +43,8 @@ fn write_tables(out: &mut fmt::Formatter<'_>, which: &str, tables: &Tables) -> f
     writeln!(out, "{which}positions{}", numbers(&tables.positions))?;
     writeln!(out, "{which}corners{}", numbers(&tables.corners))?;
     writeln!(out, "{which}links{}", numbers(&tables.links))?;
-    writeln!(out, "{which}generations{}", numbers(&tables.generations))
+    writeln!(out, "{which}generations{}", numbers(&tables.generations))?;
+    writeln!(out, "{which}locks{}", numbers(&tables.locks))
 }
 
 /// Numbers with a blank before each, equal neighbours drawn together.
@@ -102,6 +105,7 @@ fn parsed_tables(lines: &[Vec<&str>], which: &str) -> Result<Tables, String> {
         corners: parsed(words("corners")?)?,
         links: parsed(words("links")?)?,
         generations: parsed(words("generations")?)?,
+        locks: parsed(words("locks")?)?,
     })
 }
 
@@ -114,6 +118,8 @@ fn parsed_call(words: &[&str]) -> Result<Call, String> {
         "load" => Ok(Call::Load { rule: number()?, cage: parsed(&words[2..])? }),
         "refine" => Ok(Call::Refine { triangle: number()? }),
         "whole-step" => Ok(Call::WholeStep),
+        "lock" => Ok(Call::SetLock { triangle: number()?, on: true }),
+        "unlock" => Ok(Call::SetLock { triangle: number()?, on: false }),
         "ring" => Ok(Call::Ring { vertex: number()? }),
         "position" => Ok(Call::Position { vertex: number()? }),
         "limit" => Ok(Call::Limit),

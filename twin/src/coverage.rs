@@ -1,6 +1,6 @@
 //! What a run has met: each refusal of each call, each rule, each kind of linked pair, each chain length over an even
 //! triangle and over the boundary, each ring length of a whole step and of a limit query, halves in these, sides linked
-//! to themselves, what becomes of the entries of lists, foils, and boxes.
+//! to themselves, what becomes of the entries of lists, foils, boxes, and locks.
 
 use std::collections::{BTreeMap, BTreeSet};
 use std::fmt::{self, Display};
@@ -9,6 +9,7 @@ use crate::box_coverage::BoxCoverage;
 use crate::claims::read_chain;
 use crate::fault::Seeded;
 use crate::load::linked_mesh;
+use crate::lock_coverage::LockCoverage;
 use crate::mesh::Mesh;
 use crate::refine::handle;
 use crate::smooth::{Fraction, fractions};
@@ -18,14 +19,16 @@ use crate::tables::{Answer, BOUNDARY, Call, HALF_UP, Store};
 /// The calls, each with the refusals that it can give and 0 for none.
 const CALLS: &[(&str, &[u32])] = &[
     ("load", &[0, 1, 2, 3, 4, 5, 6, 16]),
-    ("refine", &[0, 1, 7, 8, 9, 11]),
-    ("whole step", &[0, 1, 7, 9, 11, 12, 13]),
+    ("refine", &[0, 1, 7, 8, 9, 11, 19]),
+    ("whole step", &[0, 1, 7, 9, 11, 12, 13, 19]),
     ("ring", &[0, 1, 7, 8, 14]),
     ("position", &[0, 1, 7, 8]),
     ("limit", &[0, 1, 7, 12, 13, 15]),
-    ("refine list", &[0, 1, 7, 8, 9, 11, 17]),
-    ("preview", &[0, 1, 7, 8, 9, 11, 17]),
-    ("refine box", &[0, 1, 7, 9, 11, 17, 18]),
+    ("refine list", &[0, 1, 7, 8, 9, 11, 17, 19]),
+    ("preview", &[0, 1, 7, 8, 9, 11, 17, 19]),
+    ("refine box", &[0, 1, 7, 9, 11, 17, 18, 19]),
+    ("lock", &[0, 1, 7, 8]),
+    ("unlock", &[0, 1, 7, 8]),
 ];
 
 /// The longest of the lists that have to be met in every length.
@@ -64,14 +67,15 @@ pub struct Coverage {
     list_lengths: BTreeMap<usize, u64>,
     failing_places: BTreeMap<usize, u64>,
     /// Entries of lists, as `ENTRIES` tells them apart.
-    entries: [u64; 7],
+    entries: [u64; 9],
     /// Spare tables of another length, in the order of the tables.
-    spare_sizes: [u64; 4],
+    spare_sizes: [u64; 5],
     /// Loads refused with 6, as `SIXES` lists what holds.
     sixes: [u64; 4],
     /// Calls carried out where two triangles are a fan, as `TWOS` lists them.
     twos: [u64; 2],
     boxes: BoxCoverage,
+    locks: LockCoverage,
 }
 
 /// What a load is refused with 6 for.
@@ -85,10 +89,19 @@ const TWOS: [&str; 2] = ["refines in a foil", "loads with one on the boundary"];
 const HALVES: [&str; 4] = ["rule 1, below zero", "rule 1, above", "rule 2, below zero", "rule 2, above"];
 
 /// What becomes of an entry of a list.
-const ENTRIES: [&str; 7] =
-    ["refined", "passed over", "8", "8, made by an entry before", "9", "11", "11, slots taken by entries before"];
+const ENTRIES: [&str; 9] = [
+    "refined",
+    "passed over",
+    "8",
+    "8, made by an entry before",
+    "9",
+    "11",
+    "11, slots taken by entries before",
+    "19",
+    "19, after splits of entries before",
+];
 
-const TABLES: [&str; 4] = ["positions", "corners", "links", "generations"];
+const TABLES: [&str; 5] = ["positions", "corners", "links", "generations", "locks"];
 
 /// The place of a call in the list.
 fn row(call: &Call) -> usize {
@@ -102,6 +115,8 @@ fn row(call: &Call) -> usize {
         Call::RefineList { .. } => 6,
         Call::Preview { .. } => 7,
         Call::RefineBox { .. } => 8,
+        Call::SetLock { on: true, .. } => 9,
+        Call::SetLock { on: false, .. } => 10,
     }
 }
 
@@ -146,6 +161,7 @@ impl Coverage {
         if answer.refusal == 0 {
             count(&mut self.rules, answer.counts.rule as usize);
         }
+        self.locks.note(before, call, answer);
         match (call, answer.refusal) {
             (&Call::Refine { triangle }, 0) => self.note_refine(before, triangle as usize, answer),
             (&Call::Refine { triangle }, 9) => {
@@ -163,9 +179,9 @@ impl Coverage {
             (Call::Load { rule, cage }, 0) => self.note_load(before, *rule, cage),
             (_, 7) => self.note_self_linked(before),
             (Call::RefineList { .. } | Call::RefineBox { .. }, 17) => self.note_spare_sizes(before),
-            (Call::RefineList { list }, 0 | 8 | 9 | 11) => self.note_list(before, list, answer),
+            (Call::RefineList { list }, 0 | 8 | 9 | 11 | 19) => self.note_list(before, list, answer),
             (Call::RefineBox { bounds, below }, 18) => self.boxes.note_refused(bounds, *below),
-            (Call::RefineBox { bounds, below }, 0 | 9 | 11) => self.boxes.note(before, bounds, *below, answer),
+            (Call::RefineBox { bounds, below }, 0 | 9 | 11 | 19) => self.boxes.note(before, bounds, *below, answer),
             _ => {}
         }
     }
@@ -211,7 +227,8 @@ impl Coverage {
         let kind = match answer.refusal {
             8 => 2 + usize::from(list[answer.handled] < answer.spares.triangles),
             9 => 4,
-            _ => 5 + usize::from(made),
+            11 => 5 + usize::from(made),
+            _ => 7 + usize::from(made),
         };
         count(&mut self.entries, kind);
     }
@@ -301,6 +318,7 @@ impl Coverage {
             ("spare tables of other lengths", &TABLES, &self.spare_sizes),
         ];
         named.extend(self.boxes.named());
+        named.extend(self.locks.named());
         named
     }
 }

@@ -16,11 +16,7 @@ pub fn refined(cage: &cages::Cage, requests: &[u32], spare: usize, rng: &mut Rng
     for &triangle in requests {
         Twin::UNBROKEN.answer(&mut store, &Call::Refine { triangle }).expect("the twin stays inside");
     }
-    let (vertices, triangles) = (store.counts.vertices as usize, store.counts.triangles as usize);
-    store.tables.positions.truncate(3 * (vertices + spare));
-    store.tables.corners.truncate(3 * (triangles + 2 * spare));
-    store.tables.links.truncate(3 * (triangles + 2 * spare));
-    store.tables.generations.truncate(triangles + 2 * spare);
+    store.tables.cut_to([store.vertices() + spare, store.triangles() + 2 * spare]);
     store
 }
 
@@ -82,6 +78,11 @@ pub fn single_entries(bench: &mut Bench, rng: &mut Rng) -> Outcome {
                 compare_damaged(bench, &store, rng, |damaged| damaged.tables.generations[place] = value)?;
             }
         }
+        for place in 0..store.tables.locks.len() {
+            for value in [0, 1, 2, 3, 128, 254, 255] {
+                compare_damaged(bench, &store, rng, |damaged| damaged.tables.locks[place] = value)?;
+            }
+        }
     }
     Ok(())
 }
@@ -127,29 +128,36 @@ pub fn lengths(bench: &mut Bench, rng: &mut Rng) -> Outcome {
             for links in changes(store.tables.links.len()) {
                 for generations in changes(store.tables.generations.len()) {
                     if rng.percent(15) {
-                        compare_lengths(bench, &store, [positions, corners, links, generations], rng)?;
+                        let other = rng.pick(&changes(store.tables.locks.len()));
+                        let locks = rng.pick(&[generations, generations, other]);
+                        compare_lengths(bench, &store, [positions, corners, links, generations, locks], rng)?;
                     }
                 }
             }
         }
     }
+    let [positions, corners, links, generations, locks] = store.tables.lengths();
+    for locks in changes(locks).into_iter().chain([3 * locks]) {
+        compare_lengths(bench, &store, [positions, corners, links, generations, locks], rng)?;
+    }
     let (most_vertices, most_triangles) = (3 * 32_768, 3 * 65_536);
     for (positions, corners) in [(0, 0), (1, 1), (3, 3), (-3, -3), (3, 0), (0, 3), (0, -1), (2, 0)] {
         let positions = (most_vertices + positions) as usize;
         let corners = (most_triangles + corners) as usize;
-        compare_lengths(bench, &store, [positions, corners, corners, corners / 3], rng)?;
+        compare_lengths(bench, &store, [positions, corners, corners, corners / 3, corners / 3], rng)?;
     }
-    compare_lengths(bench, &store, [0, 0, 0, 0], rng)?;
-    compare_lengths(bench, &store, [most_vertices as usize, 3 * 20, 3 * 20, 20], rng)?;
-    compare_lengths(bench, &store, [3 * 20, most_triangles as usize, most_triangles as usize, 65_536], rng)
+    compare_lengths(bench, &store, [0; 5], rng)?;
+    compare_lengths(bench, &store, [most_vertices as usize, 3 * 20, 3 * 20, 20, 20], rng)?;
+    compare_lengths(bench, &store, [3 * 20, most_triangles as usize, most_triangles as usize, 65_536, 65_536], rng)
 }
 
-fn compare_lengths(bench: &mut Bench, store: &Store, lengths: [usize; 4], rng: &mut Rng) -> Outcome {
+fn compare_lengths(bench: &mut Bench, store: &Store, lengths: [usize; 5], rng: &mut Rng) -> Outcome {
     let mut changed = store.clone();
     changed.tables.positions.resize(lengths[0], 5);
     changed.tables.corners.resize(lengths[1], 6);
     changed.tables.links.resize(lengths[2], 7);
     changed.tables.generations.resize(lengths[3], 8);
+    changed.tables.locks.resize(lengths[4], 9);
     let load = Call::Load { rule: calls::some_rule(rng), cage: cages::strip(2).bytes() };
     let of_each = calls::one_of_each(&mut changed, rng);
     for call in of_each.iter().chain([&load]) {
@@ -157,7 +165,7 @@ fn compare_lengths(bench: &mut Bench, store: &Store, lengths: [usize; 4], rng: &
     }
     // Spare tables that agree, or do not, with each other, but not with the mesh's: for the list and the box.
     changed.room.spares = store.tables.clone();
-    for call in &of_each[5..] {
+    for call in &of_each[6..] {
         bench.compare_only(&changed, call)?;
     }
     Ok(())

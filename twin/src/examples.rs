@@ -15,11 +15,11 @@ pub struct Example {
     pub call: Call,
 }
 
-fn example(refusal: u32, store: Store, call: Call) -> Example {
+pub fn example(refusal: u32, store: Store, call: Call) -> Example {
     Example { refusal, store, call }
 }
 
-fn load(cage: &Cage) -> Call {
+pub fn load(cage: &Cage) -> Call {
     load_by(HALF_UP, cage.bytes())
 }
 
@@ -27,7 +27,7 @@ fn load_by(rule: u32, cage: Vec<u8>) -> Call {
     Call::Load { rule, cage }
 }
 
-fn refine(triangle: u32) -> Call {
+pub fn refine(triangle: u32) -> Call {
     Call::Refine { triangle }
 }
 
@@ -38,19 +38,19 @@ fn ring(refusal: u32, mut store: Store, vertex: u32, entries: u32) -> Example {
 }
 
 /// A limit query with a table of so many entries.
-fn limit(refusal: u32, mut store: Store, entries: usize) -> Example {
+pub fn limit(refusal: u32, mut store: Store, entries: usize) -> Example {
     store.room.table = vec![-7; entries];
     example(refusal, store, Call::Limit)
 }
 
 /// A list, with spare tables of the mesh's sizes.
-fn list(refusal: u32, mut store: Store, entries: &[u32], rng: &mut Rng) -> Example {
+pub fn list(refusal: u32, mut store: Store, entries: &[u32], rng: &mut Rng) -> Example {
     store.room.spares = fitting_spares(&store, rng);
     example(refusal, store, Call::RefineList { list: entries.to_vec() })
 }
 
 /// A box from one corner to the other, with spare tables of the mesh's sizes.
-fn boxed(refusal: u32, mut store: Store, [low, high]: [[i32; 3]; 2], below: u32, rng: &mut Rng) -> Example {
+pub fn boxed(refusal: u32, mut store: Store, [low, high]: [[i32; 3]; 2], below: u32, rng: &mut Rng) -> Example {
     store.room.spares = fitting_spares(&store, rng);
     example(refusal, store, Call::RefineBox { bounds: Bounds { low, high }, below })
 }
@@ -73,9 +73,7 @@ pub fn refusals(rng: &mut Rng) -> Vec<Example> {
     let mut lonely = Cage::of(vec![[0, 1, 2]]);
     lonely.points.push([0; 3]);
     let mut narrow = refined(&tetrahedron, &[], 1, rng);
-    narrow.tables.corners.truncate(15);
-    narrow.tables.links.truncate(15);
-    narrow.tables.generations.truncate(5);
+    narrow.tables.cut_to([5, 5]);
     vec![
         example(1, unequal, load(&tetrahedron)),
         example(2, roomy.clone(), load_by(HALF_UP, vec![0; 7])),
@@ -95,6 +93,7 @@ pub fn refusals(rng: &mut Rng) -> Vec<Example> {
         // No spare tables at all.
         example(17, refined(&tetrahedron, &[], 0, rng), Call::RefineList { list: vec![] }),
         boxed(18, refined(&tetrahedron, &[], 0, rng), [[0; 3], [9, -1, 9]], 1, rng),
+        example(19, refined(&tetrahedron, &[], 5, rng).locked(0), refine(0)),
     ]
 }
 
@@ -278,16 +277,23 @@ pub fn request_lists() -> Vec<(Cage, Vec<u32>)> {
     ]
 }
 
-/// All examples on both services; the numbers that the papers give are tested here as well.
-pub fn run(bench: &mut Bench, rng: &mut Rng) -> Outcome {
-    let of_one_call = lists(rng).into_iter().chain(boxes(rng));
-    for Example { refusal, mut store, call } in refusals(rng).into_iter().chain(orders(rng)).chain(of_one_call) {
+/// Examples on both services; the numbers that the papers give are tested here as well.
+pub fn compare_all(bench: &mut Bench, examples: Vec<Example>) -> Outcome {
+    for Example { refusal, mut store, call } in examples {
         let before = store.clone();
         let answer = bench.compare(&mut store, &call)?;
         if answer.refusal != refusal {
             let what = format!("refusal {}, the papers give {refusal}", answer.refusal);
             return Err(difference(what, before, &call));
         }
+    }
+    Ok(())
+}
+
+/// All of them, and the lists of requests.
+pub fn run(bench: &mut Bench, rng: &mut Rng) -> Outcome {
+    for examples in [refusals(rng), orders(rng), lists(rng), boxes(rng)] {
+        compare_all(bench, examples)?;
     }
     for (cage, requests) in request_lists() {
         let mut store = Store::junk(40, 60, rng);

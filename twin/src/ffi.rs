@@ -47,18 +47,19 @@ impl<T: Copy + PartialEq> Lent<T> {
     }
 }
 
-/// The four tables as they are lent to the library.
+/// The five tables as they are lent to the library.
 struct LentTables {
     positions: Lent<i32>,
     corners: Lent<u32>,
     links: Lent<u32>,
     generations: Lent<u8>,
+    locks: Lent<u8>,
 }
 
-const MESH: [&str; 4] = ["positions", "corners", "links", "generations"];
-const SPARES: [&str; 4] = ["spare positions", "spare corners", "spare links", "spare generations"];
+const MESH: [&str; 5] = ["positions", "corners", "links", "generations", "locks"];
+const SPARES: [&str; 5] = ["spare positions", "spare corners", "spare links", "spare generations", "spare locks"];
 
-/// A call of the function named, with the four tables as pointers and lengths, then what follows, and the spare tables
+/// A call of the function named, with the five tables as pointers and lengths, then what follows, and the spare tables
 /// after a semicolon.
 macro_rules! call {
     ($function:ident, $lent:expr $(, $argument:expr)* $(; $spares:expr)?) => {
@@ -72,7 +73,9 @@ macro_rules! call {
                 $lent.links.pointer(),
                 $lent.links.length,
                 $lent.generations.pointer(),
-                $lent.generations.length
+                $lent.generations.length,
+                $lent.locks.pointer(),
+                $lent.locks.length
                 $(, $argument)*
                 $(,
                     $spares.positions.pointer(),
@@ -82,7 +85,9 @@ macro_rules! call {
                     $spares.links.pointer(),
                     $spares.links.length,
                     $spares.generations.pointer(),
-                    $spares.generations.length
+                    $spares.generations.length,
+                    $spares.locks.pointer(),
+                    $spares.locks.length
                 )?
             )
         }
@@ -90,12 +95,13 @@ macro_rules! call {
 }
 
 impl LentTables {
-    fn new([positions, corners, links, generations]: [&'static str; 4], tables: &Tables) -> LentTables {
+    fn new([positions, corners, links, generations, locks]: [&'static str; 5], tables: &Tables) -> LentTables {
         LentTables {
             positions: Lent::new(positions, &tables.positions, 0x5A5A_5A5A),
             corners: Lent::new(corners, &tables.corners, 0x5B5B_5B5B),
             links: Lent::new(links, &tables.links, 0x5C5C_5C5C),
             generations: Lent::new(generations, &tables.generations, 0x5D),
+            locks: Lent::new(locks, &tables.locks, 0x01),
         }
     }
 
@@ -103,7 +109,8 @@ impl LentTables {
         self.positions.give_back(&mut tables.positions)?;
         self.corners.give_back(&mut tables.corners)?;
         self.links.give_back(&mut tables.links)?;
-        self.generations.give_back(&mut tables.generations)
+        self.generations.give_back(&mut tables.generations)?;
+        self.locks.give_back(&mut tables.locks)
     }
 }
 
@@ -166,6 +173,8 @@ impl Service for Library {
             }
             Call::Refine { triangle } => call!(rawplinth_refine, lent, *counts, *triangle).into(),
             Call::WholeStep => call!(rawplinth_whole_step, lent, *counts).into(),
+            Call::SetLock { triangle, on: true } => call!(rawplinth_lock, lent, *counts, *triangle).into(),
+            Call::SetLock { triangle, on: false } => call!(rawplinth_unlock, lent, *counts, *triangle).into(),
             Call::Ring { vertex } => {
                 let mut buffer = Lent::new("ring buffer", &room.ring, 0x5E5E_5E5E);
                 let read = call!(rawplinth_ring, lent, *counts, *vertex, buffer.pointer(), buffer.length);

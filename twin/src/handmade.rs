@@ -94,6 +94,7 @@ impl Gluing {
         let reach = rng.pick(&[3, 1000, FARTHEST]);
         store.tables.positions[..3 * count].fill_with(|| rng.between(-reach, reach));
         store.tables.generations[..self.generations.len()].copy_from_slice(&self.generations);
+        store.tables.locks[..self.generations.len()].fill(0);
         for (side, partner) in self.partners.iter().enumerate() {
             store.tables.corners[side] = number[vertices[side]];
             store.tables.links[side] = partner.map_or(BOUNDARY, |partner| partner as u32);
@@ -141,7 +142,7 @@ pub fn store_cage(store: &mut Store, rule: u32, cage: &[u8]) -> bool {
 }
 
 /// Tables of any of these forms: a chain with more glued to it, a mixture of near generations, or one even
-/// generation.
+/// generation. In some of them triangles are locked.
 pub fn random(rng: &mut Rng) -> Store {
     let mut gluing = match rng.below(3) {
         0 => {
@@ -159,7 +160,12 @@ pub fn random(rng: &mut Rng) -> Store {
     };
     gluing.glue_at_random(rng.pick(&[20, 200, 600]), rng);
     let (vertices, triangles) = rng.pick(&[(0, 0), (1, 2), (3, 5), (12, 24), (60, 120)]);
-    gluing.store(vertices, triangles, rng)
+    let mut store = gluing.store(vertices, triangles, rng);
+    for _ in 0..rng.pick(&[0, 0, 0, 0, 1, 2, 5]) {
+        let slot = rng.below(store.triangles());
+        store = store.locked(slot);
+    }
+    store
 }
 
 /// The same tables with all generations raised by an even amount, as far as they go.
@@ -174,7 +180,7 @@ pub fn raised(store: &Store, rng: &mut Rng) -> Store {
 }
 
 /// The vertices and triangles that refining the first triangle of such a chain adds.
-fn added(odd: usize, even_end: bool) -> (usize, usize) {
+pub fn added(odd: usize, even_end: bool) -> (usize, usize) {
     match (odd, even_end) {
         (_, true) => (odd, 2 * odd),
         (1, false) => (2, 2),

@@ -277,10 +277,14 @@ pub fn largest(bench: &mut Bench, rng: &mut Rng) -> Outcome {
         let mut history = History::begun(32_768, 65_536, rng);
         history.load(bench, calls::either_rule(rng), cage.shuffled(rng).scattered(rng).bytes())?;
         history.store.room.spares = calls::fitting_spares(&history.store, rng);
-        let every_other = (0..history.store.counts.triangles).step_by(2).collect();
-        bench.compare_only(&history.store, &Call::RefineList { list: every_other })?;
+        let list: Vec<u32> = (0..history.store.counts.triangles).step_by(2).collect();
         let half_space = Bounds { low: [0, i32::MIN, i32::MIN], ..Bounds::EVERYWHERE };
-        bench.compare_only(&history.store, &Call::RefineBox { bounds: half_space, below: 1 })?;
+        // As far as a lock lets them, and to the end.
+        for (on, bounds) in [(true, Bounds::EVERYWHERE), (false, half_space)] {
+            bench.compare(&mut history.store, &Call::SetLock { triangle: list[4], on })?;
+            bench.compare_only(&history.store, &Call::RefineList { list: list.clone() })?;
+            bench.compare_only(&history.store, &Call::RefineBox { bounds, below: 1 })?;
+        }
         for _ in 0..2 {
             history.store.room.table = vec![7; 3 * history.store.vertices()];
             bench.compare(&mut history.store, &Call::Limit)?;

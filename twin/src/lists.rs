@@ -60,12 +60,9 @@ pub fn tight_stores(rng: &mut Rng) -> Vec<Store> {
         for spare in 0..24 {
             let store = refined(&cage.shuffled(rng).scattered(rng), &[], spare, rng);
             let mut vertex_less = store.clone();
-            vertex_less.tables.positions.truncate(3 * (store.vertex_slots() - 1));
+            vertex_less.tables.cut_to([store.vertex_slots() - 1, store.triangle_slots()]);
             let mut triangle_less = store.clone();
-            let slots = store.triangle_slots() - 1;
-            triangle_less.tables.corners.truncate(3 * slots);
-            triangle_less.tables.links.truncate(3 * slots);
-            triangle_less.tables.generations.truncate(slots);
+            triangle_less.tables.cut_to([store.vertex_slots(), store.triangle_slots() - 1]);
             stores.extend([store, vertex_less, triangle_less].map(|store| with_spares(store, rng)));
         }
     }
@@ -91,8 +88,8 @@ pub fn with_other_spares(rng: &mut Rng) -> Vec<Store> {
     disagreeing.tables.links.pop();
     for mut store in [sound, unsound, disagreeing] {
         let fitting = store.tables.lengths();
-        let mut tried: Vec<[usize; 4]> = vec![fitting, [0; 4], fitting.map(|length| 2 * length), [9, 9, 9, 3]];
-        for table in 0..4 {
+        let mut tried: Vec<[usize; 5]> = vec![fitting, [0; 5], fitting.map(|length| 2 * length), [9, 9, 9, 3, 3]];
+        for table in 0..5 {
             for length in calls::other_lengths(fitting[table]).into_iter().chain([0, 2 * fitting[table]]) {
                 let mut lengths = fitting;
                 lengths[table] = length;

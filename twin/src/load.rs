@@ -7,8 +7,8 @@ use crate::mesh::{Mesh, Side, Triangle};
 use crate::sound::{coordinates_are_in_range, corners_fit, has_foil, has_one_fan_each};
 use crate::tables::refuse_unless;
 
-/// The mesh of a cage, with the rule it is loaded by: generation 0 everywhere, opposite sides linked. Each condition is
-/// tested over the whole cage before the next.
+/// The mesh of a cage, with the rule it is loaded by: generation 0 everywhere, opposite sides linked, nothing locked.
+/// Each condition is tested over the whole cage before the next.
 pub fn mesh_of_cage(cage: &[u8], rule: u32, slots: [usize; 2], fault: Seeded) -> Result<Mesh, u32> {
     let mesh = linked_mesh(cage, rule, slots, fault)?;
     let all_used = mesh.leaving_sides().iter().all(|leaving| !leaving.is_empty());
@@ -63,7 +63,9 @@ fn unlinked_mesh(cage: &[u8], rule: u32, vertices: usize, triangles: usize, faul
                 generation: 0,
             })
             .collect(),
+        locks: vec![0; triangles],
         rule,
+        operations: Vec::new(),
         fault,
     }
 }

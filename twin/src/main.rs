@@ -1,5 +1,6 @@
 //! The differential run: the twin beside the library under test, entry for entry.
 
+mod batch;
 mod bench;
 mod box_coverage;
 mod boxes;
@@ -7,18 +8,23 @@ mod cages;
 mod calls;
 mod case;
 mod claims;
+mod conditions;
 mod coverage;
 mod damage;
 mod examples;
 mod fault;
 #[cfg(linked)]
 mod ffi;
+mod guard;
 mod halves;
 mod handmade;
 mod histories;
 mod limits;
 mod lists;
 mod load;
+mod lock_coverage;
+mod locked;
+mod locks;
 mod malformed;
 mod mesh;
 mod mirror;

@@ -41,12 +41,34 @@ impl Triangle {
     }
 }
 
+/// A split or a flip that was made. A split has the first of its two new slots beside its own.
+#[derive(Clone, Copy, Debug, PartialEq, Eq)]
+pub enum Operation {
+    FaceSplit { t: usize, f: usize },
+    RimSplit { t: usize, f: usize },
+    Flip { s: usize, u: usize },
+}
+
+impl Operation {
+    /// The slots that it splits or flips.
+    pub fn altered(self) -> Vec<usize> {
+        match self {
+            Operation::FaceSplit { t, .. } | Operation::RimSplit { t, .. } => vec![t],
+            Operation::Flip { s, u } => vec![s, u],
+        }
+    }
+}
+
 #[derive(Clone, Debug, PartialEq, Eq)]
 pub struct Mesh {
     pub points: Vec<[i32; 3]>,
     pub triangles: Vec<Triangle>,
+    /// Of each triangle, 1 if it is locked and 0 if not.
+    pub locks: Vec<u8>,
     /// How halves are rounded: 1 up, 2 away from zero.
     pub rule: u32,
+    /// The splits and flips made since it was read, in their order.
+    pub operations: Vec<Operation>,
     pub fault: Seeded,
 }
 
@@ -64,7 +86,8 @@ impl Mesh {
             generation: tables.generations[slot],
         };
         let triangles = (0..counts.triangles as usize).map(triangle).collect();
-        Mesh { points, triangles, rule: counts.rule, fault }
+        let locks = tables.locks[..counts.triangles as usize].to_vec();
+        Mesh { points, triangles, locks, rule: counts.rule, operations: Vec::new(), fault }
     }
 
     /// Writes the slots in use and no others.
@@ -77,6 +100,7 @@ impl Mesh {
             tables.links[3 * slot..][..3].copy_from_slice(&triangle.links.map(Side::to_link));
             tables.generations[slot] = triangle.generation;
         }
+        tables.locks[..self.locks.len()].copy_from_slice(&self.locks);
     }
 
     pub fn counts(&self) -> Counts {

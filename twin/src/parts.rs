@@ -4,13 +4,16 @@ use std::time::Instant;
 
 use crate::bench::{Bench, Outcome};
 use crate::rng::Rng;
-use crate::{boxes, damage, examples, halves, handmade, histories, limits, lists, malformed, surgery, unsound};
+use crate::{boxes, damage, examples, halves, handmade, histories, limits, lists, locks, malformed, surgery, unsound};
 
 type Part = fn(&mut Bench, &mut Rng) -> Outcome;
 
 /// All parts of one run, in order; each has its own random numbers.
 const PARTS: &[(&str, Part)] = &[
     ("examples of the papers", examples::run),
+    ("locks as they are told", locks::as_told),
+    ("locks set and cleared", locks::set_and_clear),
+    ("whole steps with locks", locks::whole_steps),
     ("halves by both rules", halves::run),
     ("cages with sets of faults", malformed::sets_of_faults),
     ("cages of all lengths", malformed::lengths_and_slots),
@@ -27,6 +30,10 @@ const PARTS: &[(&str, Part)] = &[
     ("counts off", damage::counts),
     ("every entry damaged", damage::single_entries),
     ("damage that keeps order", |bench, rng| surgery::random_damage(bench, 8_000, rng)),
+    ("chains with locks", locks::chains),
+    ("each triangle locked alone", locks::each_alone),
+    ("numbers for locks", locks::values),
+    ("several locks", |bench, rng| locks::several(bench, 3_000, rng)),
     ("limit positions", limits::run),
     ("lists of all lengths", lists::lengths),
     ("lists without room", lists::without_room),
@@ -65,6 +72,7 @@ pub fn soak_round(bench: &mut Bench, rng: &mut Rng) -> Outcome {
     malformed::random_loads(bench, 20, rng)?;
     handmade::histories(bench, 20, rng)?;
     surgery::random_damage(bench, 30, rng)?;
+    locks::several(bench, 20, rng)?;
     histories::shells(bench, 1, rng)?;
     histories::deep(bench, 1, rng)?;
     histories::random(bench, 20, rng)

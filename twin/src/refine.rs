@@ -51,6 +51,7 @@ pub fn handle(start: &Mesh, list: &[u32], slots: [usize; 2]) -> Handled {
     let mut done = Handled::begun(start);
     for &t in list {
         match done.mesh.handle_entry(start, t as usize, slots) {
+            Err(19) if start.fault.has(Fault::LockedEntryPassedOver) => {}
             Err(refusal) => return Handled { refusal, ..done },
             Ok(None) => {}
             Ok(Some(work)) => done.add(t as usize, work),
@@ -119,14 +120,17 @@ impl Mesh {
         if passed_over { Ok(None) } else { self.refine_in(slots, t).map(Some) }
     }
 
-    /// Refines a triangle in tables of these slots, or refuses with 8, 9 or 11. Condition 10 is no more.
+    /// Refines a triangle in tables of these slots, or refuses with 8, 9, 19 or 11. Condition 10 is no more.
     pub fn refine_in(&mut self, slots: [usize; 2], t: usize) -> Result<Work, u32> {
         refuse_unless(t < self.triangles.len(), 8)?;
+        let alters_locked = self.alters_locked(t);
+        refuse_unless(!alters_locked || !self.fault.has(Fault::LocksBeforeGeneration), 19)?;
         let generation = self.triangles[t].generation;
         refuse_unless(generation != LAST_GENERATION, 9)?;
         let base_at_boundary = generation % 2 == 1 && self.across(Side::new(t, 0)).is_none();
         let too_old = generation == LAST_GENERATION - 1 && base_at_boundary;
         refuse_unless(!too_old || self.fault.has(Fault::NineteenAtBoundary), 9)?;
+        refuse_unless(!alters_locked || self.fault.has(Fault::RoomBeforeLocks), 19)?;
         let chain = self.base_chain(t);
         let at_boundary = chain.even_end.is_none();
         let (vertices_needed, triangles_needed) = match chain.odd.len() {
@@ -139,6 +143,7 @@ impl Mesh {
         let vertices_needed = if fewer { vertices_needed - 1 } else { vertices_needed };
         let triangles_needed = self.fault.unless(Fault::SlotsOffByOne, triangles_needed, triangles_needed + 1);
         refuse_unless(self.leaves_free(slots, vertices_needed, triangles_needed), 11)?;
+        refuse_unless(!alters_locked, 19)?;
         let mut work = self.refine(t);
         if self.fault.has(Fault::SplitsFromGeneration) && generation % 2 == 1 {
             work.splits = u32::from(generation).div_ceil(2);

@@ -58,6 +58,7 @@ pub fn is_sound(mesh: &Mesh) -> bool {
         && !(mesh.fault.has(Fault::FoilUnsound) && has_foil(mesh))
         && coordinates_are_in_range(mesh)
         && mesh.triangles.iter().all(|triangle| triangle.generation <= LAST_GENERATION)
+        && mesh.locks.iter().all(|&lock| lock <= mesh.fault.unless(Fault::LockTwoSound, 1, 2))
         && sides(mesh).all(|side| pair_is_sound(mesh, side))
 }
 

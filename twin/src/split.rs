@@ -1,13 +1,20 @@
 //! The face split, the rim split, the flip, the base chain and the refining of one triangle.
 
 use crate::fault::Fault;
-use crate::mesh::{Mesh, Side, Triangle};
+use crate::mesh::{Mesh, Operation, Side, Triangle};
 
 /// The base chain of a triangle: its odd triangles in order, and the even one at its end, or none where it ends at
 /// the boundary.
 pub struct BaseChain {
     pub odd: Vec<usize>,
     pub even_end: Option<usize>,
+}
+
+impl BaseChain {
+    /// The triangle that is split first: the even one, or the last odd one at the boundary.
+    pub fn end(&self) -> usize {
+        self.even_end.or(self.odd.last().copied()).expect("a chain has a triangle")
+    }
 }
 
 /// Splits, face and rim, and flips, counted as they are made.
@@ -45,6 +52,7 @@ impl Mesh {
             self.set_link(to, partner);
             if let Some(partner) = partner
                 && !(self.fault.has(Fault::PartnerNotTold) && from != to)
+                && !(self.fault.has(Fault::LockedNotTold) && self.is_locked(partner.triangle))
             {
                 self.set_link(partner, Some(to));
             }
@@ -75,7 +83,9 @@ impl Mesh {
         self.points.push(self.third_of([a, b, c]));
         let f = self.triangles.len();
         let slots = self.fault.unless(Fault::ChildSlotsExchanged, [t, f, f + 1], [t, f + 1, f]);
+        self.operations.push(Operation::FaceSplit { t, f });
         self.triangles.extend([self.triangles[t]; 2]);
+        self.locks.extend([0; 2]);
         self.move_sides(&[0, 1, 2].map(|i| (Side::new(t, i), Side::new(slots[i], 0))));
         for (i, corners) in [[a, b, p], [b, c, p], [c, a, p]].into_iter().enumerate() {
             self.triangles[slots[i]].corners = corners;
@@ -105,7 +115,9 @@ impl Mesh {
         let (f, e) = (self.triangles.len(), self.triangles.len() + 1);
         let middle = generation + self.fault.unless(Fault::MiddleTwoAbove, 3, 2);
         let children = [(t, [p, a, v], generation + 2), (f, [v, v + 1, p], middle), (e, [b, p, v + 1], generation + 2)];
+        self.operations.push(Operation::RimSplit { t, f });
         self.triangles.extend([self.triangles[t]; 2]);
+        self.locks.extend(self.fault.unless(Fault::MiddleLocked, [0; 2], [1, 0]));
         self.move_sides(&[
             (Side::new(t, 2), Side::new(t, 0)), // P→A
             (Side::new(t, 1), Side::new(e, 0)), // B→P
@@ -156,6 +168,7 @@ impl Mesh {
     fn flip(&mut self, s: usize, u: usize) {
         let [a, b, p] = self.triangles[s].corners;
         let q = self.triangles[u].corners[2];
+        self.operations.push(Operation::Flip { s, u });
         self.move_sides(&[
             (Side::new(s, 1), Side::new(u, 0)), // B→P
             (Side::new(s, 2), Side::new(s, 2)), // P→A

@@ -32,7 +32,7 @@ fn damage_once(store: &mut Store, rng: &mut Rng) {
     let sides = 3 * store.triangles();
     let (one, other) = (rng.below(sides), rng.below(sides));
     let tables = &mut store.tables;
-    match rng.below(11) {
+    match rng.below(13) {
         0 => cut(&mut tables.links, one),
         1 => sew(store),
         2 => cross(&mut tables.links, one, other),
@@ -43,6 +43,8 @@ fn damage_once(store: &mut Store, rng: &mut Rng) {
         7 => tables.corners.swap(one, other),
         8 => turn(store, one / 3),
         9 => link_to_itself(&mut tables.links[..sides], one),
+        10 => tables.locks[one / 3] ^= 1,
+        11 => tables.locks[one / 3] = rng.pick(&[2, 3, 129, 255]),
         _ => ripen(&mut tables.generations[..sides / 3], rng),
     }
 }

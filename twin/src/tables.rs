@@ -15,29 +15,32 @@ pub const LAST_GENERATION: u8 = 20;
 /// Numbers that are no rule: beside 1 and 2, far off, and 1 and 2 in their low bits.
 pub const NO_RULES: [u32; 8] = [0, 3, 4, 257, 65_538, 1 << 31, 1 << 31 | 1, u32::MAX];
 
-/// The lent tables: three positions to a vertex slot; three corners, three links and a generation to a triangle slot.
+/// The lent tables: three positions to a vertex slot; three corners, three links, a generation and a lock to a triangle
+/// slot.
 #[derive(Clone, Debug, Default, PartialEq, Eq)]
 pub struct Tables {
     pub positions: Vec<i32>,
     pub corners: Vec<u32>,
     pub links: Vec<u32>,
     pub generations: Vec<u8>,
+    pub locks: Vec<u8>,
 }
 
 impl Tables {
     /// Tables with so many entries each, which hold anything.
-    pub fn junk([positions, corners, links, generations]: [usize; 4], rng: &mut Rng) -> Tables {
+    pub fn junk([positions, corners, links, generations, locks]: [usize; 5], rng: &mut Rng) -> Tables {
         Tables {
             positions: (0..positions).map(|_| rng.word() as i32).collect(),
             corners: (0..corners).map(|_| rng.word() >> rng.below(32)).collect(),
             links: (0..links).map(|_| rng.word() >> rng.below(32)).collect(),
             generations: (0..generations).map(|_| rng.word() as u8).collect(),
+            locks: (0..locks).map(|_| junk_lock(rng)).collect(),
         }
     }
 
     /// How many entries each table has.
-    pub fn lengths(&self) -> [usize; 4] {
-        [self.positions.len(), self.corners.len(), self.links.len(), self.generations.len()]
+    pub fn lengths(&self) -> [usize; 5] {
+        [self.positions.len(), self.corners.len(), self.links.len(), self.generations.len(), self.locks.len()]
     }
 
     /// Takes over what other tables have in the slots that are in use by these counts.
@@ -47,12 +50,28 @@ impl Tables {
         self.corners[..3 * triangles].copy_from_slice(&others.corners[..3 * triangles]);
         self.links[..3 * triangles].copy_from_slice(&others.links[..3 * triangles]);
         self.generations[..triangles].copy_from_slice(&others.generations[..triangles]);
+        self.locks[..triangles].copy_from_slice(&others.locks[..triangles]);
     }
 
     /// The slots of vertices and of triangles.
     pub fn slots(&self) -> [usize; 2] {
         [self.positions.len() / 3, self.generations.len()]
     }
+
+    /// Takes the slots past so many away.
+    pub fn cut_to(&mut self, [vertex_slots, triangle_slots]: [usize; 2]) {
+        self.positions.truncate(3 * vertex_slots);
+        self.corners.truncate(3 * triangle_slots);
+        self.links.truncate(3 * triangle_slots);
+        self.generations.truncate(triangle_slots);
+        self.locks.truncate(triangle_slots);
+    }
+}
+
+/// A lock, or a number that is none.
+fn junk_lock(rng: &mut Rng) -> u8 {
+    let any = rng.word() as u8;
+    rng.pick(&[0, 1, 2, 255, any])
 }
 
 /// What calls are lent beside the mesh. A call takes what it needs of it and leaves the rest.
@@ -83,6 +102,7 @@ impl Store {
                 corners: vec![0; 3 * triangle_slots],
                 links: vec![0; 3 * triangle_slots],
                 generations: vec![0; triangle_slots],
+                locks: vec![0; triangle_slots],
             },
             ..Store::default()
         }
@@ -90,7 +110,7 @@ impl Store {
 
     /// A store whose slots hold anything, so that a write past the counts shows, with any rule.
     pub fn junk(vertex_slots: usize, triangle_slots: usize, rng: &mut Rng) -> Store {
-        let lengths = [3 * vertex_slots, 3 * triangle_slots, 3 * triangle_slots, triangle_slots];
+        let lengths = [3 * vertex_slots, 3 * triangle_slots, 3 * triangle_slots, triangle_slots, triangle_slots];
         let tables = Tables::junk(lengths, rng);
         let no_rule = rng.pick(&NO_RULES);
         let rule = rng.pick(&[HALF_UP, HALF_AWAY, no_rule]);
@@ -113,6 +133,12 @@ impl Store {
     /// The triangles in use, or all slots where the count lies beyond them.
     pub fn triangles(&self) -> usize {
         (self.counts.triangles as usize).min(self.triangle_slots())
+    }
+
+    /// The same with a triangle locked.
+    pub fn locked(mut self, slot: usize) -> Store {
+        self.tables.locks[slot] = 1;
+        self
     }
 
     /// The position in a vertex slot.
@@ -145,15 +171,36 @@ impl Bounds {
 /// One call with its arguments, apart from what it is lent.
 #[derive(Clone, Debug, PartialEq, Eq)]
 pub enum Call {
-    Load { rule: u32, cage: Vec<u8> },
-    Refine { triangle: u32 },
+    Load {
+        rule: u32,
+        cage: Vec<u8>,
+    },
+    Refine {
+        triangle: u32,
+    },
     WholeStep,
-    Ring { vertex: u32 },
-    Position { vertex: u32 },
+    /// Sets or clears the lock of a triangle.
+    SetLock {
+        triangle: u32,
+        on: bool,
+    },
+    Ring {
+        vertex: u32,
+    },
+    Position {
+        vertex: u32,
+    },
     Limit,
-    RefineList { list: Vec<u32> },
-    Preview { list: Vec<u32> },
-    RefineBox { bounds: Bounds, below: u32 },
+    RefineList {
+        list: Vec<u32>,
+    },
+    Preview {
+        list: Vec<u32>,
+    },
+    RefineBox {
+        bounds: Bounds,
+        below: u32,
+    },
 }
 
 /// What a call answers, with zeros for what it does not speak of.

@@ -1,27 +1,14 @@
 //! The twin: the calls, each with its conditions in the papers' order.
 
-use crate::fault::{Fault, Seeded};
+use crate::batch::Job;
+pub use crate::conditions::Twin;
+use crate::conditions::{is_closed_and_even, rings_have_weights};
+use crate::fault::Fault;
 use crate::load::mesh_of_cage;
 use crate::mesh::Mesh;
-use crate::refine::{Handled, handle, refine_inside};
-use crate::smooth::{LONGEST_RING, limit_points, whole_step};
-use crate::sound::{is_rule, is_sound};
-use crate::split::Work;
-use crate::tables::{
-    Answer, Bounds, Call, Counts, FARTHEST, HALF_UP, LAST_GENERATION, MOST_TRIANGLE_SLOTS, MOST_VERTEX_SLOTS, Service,
-    Store, Tables, refuse_unless,
-};
-
-/// What is refined in spare tables: the triangles of a list, or those below a generation with a corner in a box.
-enum Job<'a> {
-    List(&'a [u32]),
-    Box(&'a Bounds, u32),
-}
-
-/// The rules of documents 01 and 02, with one seeded fault or none.
-pub struct Twin {
-    pub fault: Seeded,
-}
+use crate::smooth::{limit_points, whole_step};
+use crate::sound::is_rule;
+use crate::tables::{Answer, Call, Counts, HALF_UP, LAST_GENERATION, Service, Store, Tables, refuse_unless};
 
 impl Service for Twin {
     fn name(&self) -> String {
@@ -38,6 +25,7 @@ impl Service for Twin {
             Call::Load { rule, cage } => self.load(tables, *counts, *rule, cage),
             Call::Refine { triangle } => self.refine(tables, *counts, *triangle as usize),
             Call::WholeStep => self.whole_step(tables, *counts),
+            Call::SetLock { triangle, on } => self.set_lock(tables, *counts, *triangle as usize, *on),
             Call::Ring { vertex } => self.ring(tables, *counts, *vertex as usize, &mut room.ring),
             Call::Position { vertex } => self.position(tables, *counts, *vertex as usize),
             Call::Limit => self.limit(tables, *counts, &mut room.table),
@@ -56,8 +44,6 @@ impl Service for Twin {
 }
 
 impl Twin {
-    pub const UNBROKEN: Twin = Twin { fault: Seeded(None) };
-
     /// Load: 1, 16, 2 to 6, whatever the tables held. The counts of before are what a refusal answers, and no more.
     fn load(&self, tables: &mut Tables, before: Counts, rule: u32, cage: &[u8]) -> Result<Answer, u32> {
         let good_rule = is_rule(rule) || self.fault.has(Fault::RuleZeroLoaded) && rule == 0;
@@ -75,15 +61,18 @@ impl Twin {
         refuse_unless(good_rule, 16)?;
         mesh.rule = self.fault.unless(Fault::LoadByRuleOne, mesh.rule, HALF_UP);
         mesh.rule = self.fault.unless(Fault::OldRuleKept, mesh.rule, before.rule);
-        mesh.write(tables);
+        self.write(&mesh, tables, Fault::LoadKeepsLocks, 0);
         let counts = mesh.counts();
+        if self.fault.has(Fault::LoadClearsAllLocks) {
+            tables.locks.fill(0);
+        }
         if self.fault.has(Fault::PastCountsWritten) {
             tables.generations.iter_mut().skip(counts.triangles as usize).for_each(|generation| *generation = 0);
         }
         Ok(Answer { counts, ..Answer::default() })
     }
 
-    /// Refine: 1, 7, 8, 9, 11.
+    /// Refine: 1, 7, 8, 9, 19, 11.
     fn refine(&self, tables: &mut Tables, counts: Counts, t: usize) -> Result<Answer, u32> {
         refuse_unless(self.tables_agree(tables), 1)?;
         if self.fault.has(Fault::UseBeforeSound) {
@@ -92,121 +81,11 @@ impl Twin {
         let mut mesh = self.sound_mesh(tables, counts)?;
         let work = mesh.refine_in(tables.slots(), t)?;
         mesh.rule = self.fault.unless(Fault::RefinedByRuleOne, mesh.rule, HALF_UP);
-        mesh.write(tables);
+        self.write(&mesh, tables, Fault::NewLocksKept, counts.triangles as usize);
         Ok(Answer { splits: work.splits, flips: work.flips, counts: mesh.counts(), ..Answer::default() })
     }
 
-    /// Refine list and refine box: 1, 17, for a box 18, 7, then what the first entry or refine that fails fails with.
-    /// The mesh is written if none does.
-    fn refine_each(&self, tables: &mut Tables, counts: Counts, job: Job, spares: &mut Tables) -> Result<Answer, u32> {
-        let done = self.work_in_spares(tables, counts, job, spares)?;
-        let failed = done.refusal != 0;
-        if !failed || self.fault.has(Fault::FailedListWrites) {
-            done.mesh.write(tables);
-        }
-        if !failed && self.fault.has(Fault::CopiedBackWhole) {
-            tables.clone_from(spares);
-        }
-        let Work { splits, flips } =
-            if failed && !self.fault.has(Fault::FailedListReports) { Work::default() } else { done.work };
-        let handled = done.entries + usize::from(failed && self.fault.has(Fault::FailingEntryCounted));
-        let counts = if failed { counts } else { done.mesh.counts() };
-        let spares = self.fault.unless(Fault::SparesCountedAsMesh, done.mesh.counts(), counts);
-        Ok(Answer { refusal: done.refusal, splits, flips, counts, handled, spares, ..Answer::default() })
-    }
-
-    /// Preview: what refine list would answer, with its V and F as foreseen, and the spare tables as it would leave them.
-    /// The mesh stands, and its counts.
-    fn preview(&self, tables: &mut Tables, counts: Counts, list: &[u32], spares: &mut Tables) -> Answer {
-        let (mut meanwhile, lent) = (tables.clone(), spares.clone());
-        let made = self.in_preview().refine_each(&mut meanwhile, counts, Job::List(list), spares);
-        let worked = made.is_ok();
-        let made = made.unwrap_or_else(|refusal| Answer { refusal, counts, ..Answer::default() });
-        if self.fault.has(Fault::PreviewWrites) {
-            *tables = meanwhile;
-        }
-        if self.fault.has(Fault::PreviewFillsNewAlone) && worked {
-            spares.take_over(&lent, counts);
-        }
-        let Counts { vertices, triangles, .. } = self.fault.unless(Fault::PreviewOfOldCounts, made.counts, counts);
-        let counts = self.fault.unless(Fault::PreviewCountsTaken, counts, made.counts);
-        Answer { foreseen: [vertices, triangles], counts, ..made }
-    }
-
-    /// The twin that lists are previewed with: the same, but for faults of previews alone.
-    fn in_preview(&self) -> Twin {
-        let fault = match self.fault.0 {
-            Some(Fault::PreviewOfLastEntry) => Some(Fault::LastEntryReported),
-            Some(Fault::FailedPreviewKeepsSpares) => Some(Fault::FailedListKeepsSpares),
-            fault => fault,
-        };
-        Twin { fault: Seeded(fault) }
-    }
-
-    /// The twin that boxes are refined with: the same, but for faults of boxes alone.
-    fn in_box(&self) -> Twin {
-        let fault = match self.fault.0 {
-            Some(Fault::LastRefineReported) => Some(Fault::LastEntryReported),
-            Some(Fault::FailedBoxWrites) => Some(Fault::FailedListWrites),
-            Some(Fault::FailedBoxKeepsSpares) => Some(Fault::FailedListKeepsSpares),
-            Some(Fault::FailedBoxReports) => Some(Fault::FailedListReports),
-            Some(Fault::FailingRefineCounted) => Some(Fault::FailingEntryCounted),
-            Some(Fault::EmptyBoxKeepsSpares) => Some(Fault::EmptyListKeepsSpares),
-            fault => fault,
-        };
-        Twin { fault: Seeded(fault) }
-    }
-
-    /// Handles a list or a box, after 1, 17, 18 and 7. The slots in use of the spare tables then hold the mesh after
-    /// the last entry or refine that succeeded, whether or not another failed, and their other slots keep their content.
-    fn work_in_spares(&self, tables: &Tables, counts: Counts, job: Job, spares: &mut Tables) -> Result<Handled, u32> {
-        let (sizes_fit, job_fits) = (self.sizes_fit(spares, tables), self.job_fits(&job));
-        refuse_unless(sizes_fit || !self.fault.has(Fault::SparesBeforeTables), 17)?;
-        refuse_unless(job_fits || !self.fault.has(Fault::BoxBeforeTables), 18)?;
-        refuse_unless(self.tables_agree(tables), 1)?;
-        refuse_unless(job_fits || !self.fault.has(Fault::BoxBeforeSpares), 18)?;
-        refuse_unless(sizes_fit || self.fault.has(Fault::SoundBeforeSpares), 17)?;
-        refuse_unless(job_fits || self.fault.has(Fault::SoundBeforeBox), 18)?;
-        let start = self.sound_mesh(tables, counts)?;
-        refuse_unless(sizes_fit, 17)?;
-        refuse_unless(job_fits, 18)?;
-        let done = match job {
-            Job::List(list) => handle(&start, list, tables.slots()),
-            Job::Box(bounds, below) => refine_inside(&start, bounds, below, tables.slots()),
-        };
-        let left_alone = done.refusal != 0 && self.fault.has(Fault::FailedListKeepsSpares)
-            || done.refusal == 0 && done.entries == 0 && self.fault.has(Fault::EmptyListKeepsSpares);
-        if self.fault.has(Fault::SparesFilledWhole) {
-            spares.clone_from(tables);
-        }
-        if !left_alone {
-            done.mesh.write(spares);
-        }
-        Ok(done)
-    }
-
-    /// The opposite of condition 17: each spare table is as long as the mesh's.
-    fn sizes_fit(&self, spares: &Tables, tables: &Tables) -> bool {
-        let ([p, c, l, g], lengths) = (spares.lengths(), tables.lengths());
-        let links = self.fault.unless(Fault::SpareLinksUntested, l, lengths[2]);
-        [p, c, links, g] == lengths
-    }
-
-    /// The opposite of condition 18: the low corner of a box is nowhere above the high one, nor the generation above
-    /// the last.
-    fn job_fits(&self, job: &Job) -> bool {
-        let &Job::Box(&Bounds { low, high }, below) = job else {
-            return true;
-        };
-        let (axes, last) = (self.fault.unless(Fault::BoundsOfZUntested, 3, 2), u32::from(LAST_GENERATION));
-        let refused_too = self.fault.has(Fault::PointRefused) && low == high
-            || self.fault.has(Fault::FarBoxRefused) && low.iter().any(|&coordinate| coordinate > FARTHEST);
-        (0..axes).all(|axis| low[axis] <= high[axis])
-            && below <= self.fault.unless(Fault::GenerationAbovePassed, last, last + 1)
-            && !refused_too
-    }
-
-    /// Whole step: 1, 7, 12, 9, 13, 11.
+    /// Whole step: 1, 7, 12, 9, 13, 19, 11.
     fn whole_step(&self, tables: &mut Tables, counts: Counts) -> Result<Answer, u32> {
         refuse_unless(self.tables_agree(tables), 1)?;
         let mut mesh = self.sound_mesh(tables, counts)?;
@@ -214,13 +93,56 @@ impl Twin {
         if self.fault.has(Fault::RingLimitBeforeGeneration) {
             refuse_unless(rings_have_weights(&mesh), 13)?;
         }
+        let unlocked = !self.step_is_locked(&mesh, tables);
+        refuse_unless(unlocked || !self.fault.has(Fault::StepLocksBeforeGeneration), 19)?;
         refuse_unless(mesh.triangles[0].generation != LAST_GENERATION, 9)?;
+        refuse_unless(unlocked || !self.fault.has(Fault::StepLocksBeforeRings), 19)?;
         refuse_unless(rings_have_weights(&mesh), 13)?;
+        refuse_unless(unlocked || self.fault.has(Fault::StepRoomBeforeLocks), 19)?;
         let splits = mesh.triangles.len();
         refuse_unless(mesh.leaves_free(tables.slots(), splits, 2 * splits), 11)?;
+        refuse_unless(unlocked, 19)?;
         let work = whole_step(&mut mesh);
-        mesh.write(tables);
+        self.write(&mesh, tables, Fault::StepKeepsNewLocks, splits);
         Ok(Answer { splits: work.splits, flips: work.flips, counts: mesh.counts(), ..Answer::default() })
+    }
+
+    /// Condition 19 of the whole step: some triangle in use is locked.
+    fn step_is_locked(&self, mesh: &Mesh, tables: &Tables) -> bool {
+        match self.fault.0 {
+            Some(Fault::StepUnguarded) => false,
+            Some(Fault::StepFirstAloneGuarded) => mesh.is_locked(0),
+            Some(Fault::StepGuardsPastCounts) => tables.locks.contains(&1),
+            _ => mesh.has_locked(),
+        }
+    }
+
+    /// Lock and unlock: 1, 7, 8.
+    fn set_lock(&self, tables: &mut Tables, counts: Counts, t: usize, on: bool) -> Result<Answer, u32> {
+        refuse_unless(self.tables_agree(tables), 1)?;
+        let in_use = match self.fault.0 {
+            Some(Fault::LockPastUse) => counts.triangles as usize + 1,
+            Some(Fault::LockOfLastRefused) => (counts.triangles as usize).saturating_sub(1),
+            _ => counts.triangles as usize,
+        };
+        refuse_unless(t < in_use || !self.fault.has(Fault::LockBeforeSound), 8)?;
+        if !self.fault.has(Fault::LockUnsound) {
+            self.sound_mesh(tables, counts)?;
+        }
+        refuse_unless(t < in_use, 8)?;
+        let was_on = tables.locks.get(t) == Some(&1);
+        refuse_unless(!(on && was_on && self.fault.has(Fault::LockedAgainRefused)), 19)?;
+        if !on && self.fault.has(Fault::UnlockClearsAll) {
+            tables.locks[..in_use].fill(0);
+        }
+        let value = match self.fault.0 {
+            Some(Fault::LockTurned) if on && was_on => 0,
+            Some(Fault::LockOfAllBits) if on => 255,
+            Some(Fault::UnlockSets) => 1,
+            _ => u8::from(on),
+        };
+        tables.locks.iter_mut().skip(t).take(1).for_each(|lock| *lock = value);
+        Ok(Answer { counts, ..Answer::default() })
     }
 
     /// Ring: 1, 7, 8, 14. The buffer is written as far as the ring goes.
@@ -252,6 +174,7 @@ impl Twin {
         refuse_unless(is_closed_and_even(&mesh), 12)?;
         let last = mesh.triangles[0].generation == LAST_GENERATION;
         refuse_unless(!(last && self.fault.has(Fault::LimitOfLastRefused)), 9)?;
+        refuse_unless(!(mesh.has_locked() && self.fault.has(Fault::LimitGuarded)), 19)?;
         let entries = 3 * mesh.points.len();
         let longer = self.fault.has(Fault::LongerTableAccepted) && table.len() > entries;
         let table_fits = table.len() == entries || longer;
@@ -265,38 +188,4 @@ impl Twin {
         }
         Ok(Answer { counts, ..Answer::default() })
     }
-
-    /// Condition 1.
-    fn tables_agree(&self, tables: &Tables) -> bool {
-        let most_vertex_slots = self.fault.unless(Fault::MaximumExceeded, MOST_VERTEX_SLOTS, MOST_VERTEX_SLOTS + 1);
-        let triangle_slots = tables.generations.len();
-        tables.positions.len().is_multiple_of(3)
-            && tables.positions.len() / 3 <= most_vertex_slots
-            && triangle_slots <= MOST_TRIANGLE_SLOTS
-            && tables.corners.len() == 3 * triangle_slots
-            && tables.links.len() == 3 * triangle_slots
-    }
-
-    /// The mesh in use, or 7 where the tables are not sound. Counts above the slots are not sound.
-    fn sound_mesh(&self, tables: &Tables, counts: Counts) -> Result<Mesh, u32> {
-        let within_slots = counts.vertices as usize <= tables.positions.len() / 3
-            && counts.triangles as usize <= tables.generations.len();
-        refuse_unless(within_slots, self.fault.unless(Fault::CountsOverSlotsUntested, 7, 1))?;
-        let mesh = Mesh::read(tables, counts, self.fault);
-        refuse_unless(is_sound(&mesh), 7)?;
-        Ok(mesh)
-    }
-}
-
-/// The opposite of condition 12: no boundary, and one even generation.
-fn is_closed_and_even(mesh: &Mesh) -> bool {
-    let generation = mesh.triangles[0].generation;
-    let closed = mesh.triangles.iter().all(|triangle| triangle.links.iter().all(Option::is_some));
-    let uniform = mesh.triangles.iter().all(|triangle| triangle.generation == generation);
-    closed && uniform && generation.is_multiple_of(2)
-}
-
-/// The opposite of condition 13.
-fn rings_have_weights(mesh: &Mesh) -> bool {
-    mesh.leaving_sides().iter().all(|leaving| mesh.ring(leaving).len() <= LONGEST_RING)
 }

@@ -42,6 +42,11 @@ fn with_rule(mut store: Store, rule: u32) -> Store {
     store
 }
 
+fn with_lock(mut store: Store, slot: usize, lock: u8) -> Store {
+    store.tables.locks[slot] = lock;
+    store
+}
+
 fn with_coordinate(mut store: Store, place: usize, coordinate: i32) -> Store {
     store.tables.positions[place] = coordinate;
     store
@@ -77,6 +82,10 @@ pub fn one_way_each() -> Vec<(&'static str, Store)> {
         ("generations 0 to 20", two_apart([21, 0])),
         ("generations 0 to 20", two_apart([20, 22])),
         ("generations 0 to 20", two_apart([0, 255])),
+        ("locks 0 or 1", with_lock(foil(), 0, 2)),
+        ("locks 0 or 1", with_lock(foil(), 1, 2)),
+        ("locks 0 or 1", with_lock(two_apart([0, 7]), 1, 255)),
+        ("locks 0 or 1", with_lock(two_apart([20, 20]), 0, 128)),
     ];
     broken.into_iter().chain(NO_RULES.map(|rule| ("rule 1 or 2", with_rule(foil(), rule)))).collect()
 }

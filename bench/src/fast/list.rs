@@ -9,6 +9,7 @@ pub fn sizes_fit(tables: &Tables, spares: &Tables) -> bool {
         && spares.corners.len() == tables.corners.len()
         && spares.links.len() == tables.links.len()
         && spares.generations.len() == tables.generations.len()
+        && spares.locks.len() == tables.locks.len()
 }
 
 /// Refines the triangles of a list in order. What is done in the spare tables is copied back if no entry fails.
@@ -36,6 +37,7 @@ fn copy(from: &Tables, to: &mut Tables, counts: Counts) {
     to.corners[..3 * triangles].copy_from_slice(&from.corners[..3 * triangles]);
     to.links[..3 * triangles].copy_from_slice(&from.links[..3 * triangles]);
     to.generations[..triangles].copy_from_slice(&from.generations[..triangles]);
+    to.locks[..triangles].copy_from_slice(&from.locks[..triangles]);
 }
 
 impl BatchWorked {

@@ -31,6 +31,7 @@ pub fn load(tables: &mut Tables, rule: u32, cage: &[u8]) -> Result<Counts, u32> 
     tables.corners[..3 * triangles].copy_from_slice(&corners);
     tables.links[..3 * triangles].copy_from_slice(&links);
     tables.generations[..triangles].fill(0);
+    tables.locks[..triangles].fill(0);
     for (place, &word) in tables.positions.iter_mut().zip(coordinates) {
         *place = i32::from_le_bytes(word);
     }

@@ -21,6 +21,8 @@ pub fn answer(lent: &mut Lent, call: Call) -> Answer {
         Call::Load(rule) => Answer::Worked(fast_load(tables, *counts, rule, cage)),
         Call::Refine(triangle) => Answer::Worked(fast_refine(tables, *counts, triangle)),
         Call::WholeStep => Answer::Worked(fast_whole_step(tables, *counts)),
+        Call::Lock(triangle) => Answer::Worked(fast_set_lock(tables, *counts, triangle, 1)),
+        Call::Unlock(triangle) => Answer::Worked(fast_set_lock(tables, *counts, triangle, 0)),
         Call::Ring(vertex) => Answer::Ring(fast_ring(tables, *counts, vertex, buffer)),
         Call::Position(vertex) => Answer::Position(fast_position(tables, *counts, vertex)),
         Call::Limit => Answer::Limit(fast_limit(tables, *counts, table)),
@@ -60,6 +62,19 @@ fn fast_whole_step(tables: &mut Tables, counts: Counts) -> Worked {
         Ok(worked) => worked,
         Err(refusal) => Worked { refusal, counts, ..Worked::default() },
     }
+}
+
+#[unsafe(no_mangle)]
+#[inline(never)]
+fn fast_set_lock(tables: &mut Tables, counts: Counts, triangle: u32, lock: u8) -> Worked {
+    let refusal = match starts(tables, counts) {
+        Ok(_) if triangle < counts.triangles => {
+            tables.locks[triangle as usize] = lock;
+            0
+        }
+        refused => refused.err().unwrap_or(8),
+    };
+    Worked { refusal, counts, ..Worked::default() }
 }
 
 #[unsafe(no_mangle)]
@@ -138,6 +153,7 @@ fn tables_agree(tables: &Tables) -> bool {
         && tables.positions.len() == 3 * vertex_slots
         && tables.corners.len() == 3 * triangle_slots
         && tables.links.len() == 3 * triangle_slots
+        && tables.locks.len() == triangle_slots
 }
 
 /// The side where the ring of each vertex starts, or the refusal 1 or 7.

@@ -21,9 +21,10 @@ pub fn starts_if_sound(tables: &Tables, counts: Counts) -> Option<Vec<u32>> {
     let generations = tables.generations.get(..triangles)?;
     let corners = &tables.corners[..3 * triangles];
     let links = &tables.links[..3 * triangles];
+    let lock_bits = tables.locks[..triangles].iter().fold(0, |bits, &lock| bits | lock);
     let far = positions.iter().fold(false, |far, &x| far | !(-FARTHEST..=FARTHEST).contains(&x));
     let starts = starts_if_linked(corners, links, generations, vertices)?;
-    (!far && has_one_fan_each(links, &starts)).then_some(starts)
+    (!far && lock_bits <= 1 && has_one_fan_each(links, &starts)).then_some(starts)
 }
 
 /// The lowest side out of each vertex, or the boundary one, if all generations, corners and links are sound.

@@ -3,7 +3,7 @@
 use super::{LAST_GENERATION, triple};
 use crate::tables::{BOUNDARY, Counts, Tables, Worked};
 
-/// Refines a triangle of sound tables, or refuses with 8, 9 or 11. Each slot whose corners or generation change is
+/// Refines a triangle of sound tables, or refuses with 8, 9, 19 or 11. Each slot whose corners or generation change is
 /// touched.
 pub fn refine(tables: &mut Tables, counts: Counts, t: u32, touch: &mut impl FnMut(usize)) -> Result<Worked, u32> {
     if counts.triangles <= t {
@@ -14,6 +14,9 @@ pub fn refine(tables: &mut Tables, counts: Counts, t: u32, touch: &mut impl FnMu
         return Err(9);
     }
     let (odd, end) = base_chain(tables, t as usize);
+    if chain_is_locked(tables, t as usize, end) {
+        return Err(19);
+    }
     let rim_splits = usize::from(tables.generations[end] % 2);
     let splits = odd.saturating_sub(rim_splits).max(1);
     let room = (tables.positions.len() / 3, tables.generations.len());
@@ -46,6 +49,24 @@ fn base_chain(tables: &Tables, t: usize) -> (usize, usize) {
     (odd, end)
 }
 
+/// Whether a triangle that refining t would alter is locked: one of its base chain, or an odd one whose base meets the
+/// last of it, which is split first.
+fn chain_is_locked(tables: &Tables, t: usize, end: usize) -> bool {
+    let mut locked = tables.locks[end];
+    let mut at = t;
+    while at != end {
+        locked |= tables.locks[at];
+        at = tables.links[3 * at] as usize / 3;
+    }
+    for across in triple(&tables.links, end) {
+        let (slot, side) = (across as usize / 3, across % 3);
+        if side == 0 && tables.generations.get(slot).is_some_and(|generation| generation % 2 == 1) {
+            locked |= tables.locks[slot];
+        }
+    }
+    locked == 1
+}
+
 /// The nearest third of a sum of three coordinates.
 pub fn third(sum: i32) -> i32 {
     (sum + 1).div_euclid(3)
@@ -67,6 +88,7 @@ fn face_split(tables: &mut Tables, worked: &mut Worked, t: usize, touch: &mut im
         relink(tables, links[i], 3 * slot);
         tables.generations[slot] = generation;
     }
+    tables.locks[f..f + 2].fill(0);
     worked.counts = Counts { vertices: p + 1, triangles: f as u32 + 2, ..worked.counts };
     worked.splits += 1;
     slots.into_iter().for_each(&mut *touch);
@@ -92,6 +114,7 @@ fn rim_split(tables: &mut Tables, worked: &mut Worked, t: usize, touch: &mut imp
         tables.links[3 * slot..3 * slot + 3].copy_from_slice(&links);
         tables.generations[slot] = generation;
     }
+    tables.locks[f..f + 2].fill(0);
     relink(tables, pa, 3 * t);
     relink(tables, bp, 3 * e);
     worked.counts = Counts { vertices: v + 2, triangles: f as u32 + 2, ..worked.counts };

@@ -9,7 +9,7 @@ use crate::tables::{BOUNDARY, Counts, HALF_AWAY, Tables, Worked};
 /// The weights for rings of 0 to 12 entries, out of 65536.
 const WEIGHTS: [i64; 13] = [0, 0, 43691, 36409, 29127, 24627, 21845, 20047, 18829, 17971, 17345, 16875, 16515];
 
-/// The whole step on sound tables, or the refusal 12, 9, 13 or 11.
+/// The whole step on sound tables, or the refusal 12, 9, 13, 19 or 11.
 pub fn whole_step(tables: &mut Tables, counts: Counts) -> Result<Worked, u32> {
     let (vertices, triangles) = (counts.vertices as usize, counts.triangles as usize);
     let generation = even_generation(tables, triangles).ok_or(12u32)?;
@@ -18,6 +18,9 @@ pub fn whole_step(tables: &mut Tables, counts: Counts) -> Result<Worked, u32> {
     }
     let moved = if counts.rule == HALF_AWAY { moved_vertices::<true> } else { moved_vertices::<false> };
     let moved = moved(tables, vertices, triangles).ok_or(13u32)?;
+    if tables.locks[..triangles].iter().fold(0, |bits, &lock| bits | lock) != 0 {
+        return Err(19);
+    }
     if tables.positions.len() / 3 < vertices + triangles || tables.generations.len() < 3 * triangles {
         return Err(11);
     }
@@ -30,6 +33,7 @@ pub fn whole_step(tables: &mut Tables, counts: Counts) -> Result<Worked, u32> {
     old.copy_from_slice(&moved);
     split_all(tables, vertices, triangles);
     tables.generations[..3 * triangles].fill(generation + 2);
+    tables.locks[triangles..3 * triangles].fill(0);
     let (splits, flips) = (counts.triangles, counts.triangles / 2 * 3);
     let counts = Counts { vertices: counts.vertices + splits, triangles: 3 * splits, ..counts };
     Ok(Worked { refusal: 0, splits, flips, counts })

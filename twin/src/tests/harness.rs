@@ -80,6 +80,8 @@ fn cases_are_read_back_as_they_were_written() {
         Call::Load { rule: u32::MAX, cage: vec![] },
         Call::Refine { triangle: 7 },
         Call::WholeStep,
+        Call::SetLock { triangle: 0, on: true },
+        Call::SetLock { triangle: u32::MAX, on: false },
         Call::Ring { vertex: 9 },
         Call::Position { vertex: u32::MAX },
         Call::Limit,

@@ -3,6 +3,7 @@
 mod boxes;
 mod harness;
 mod lists;
+mod locks;
 mod modules;
 mod plain_sound;
 mod rules;

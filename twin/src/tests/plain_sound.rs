@@ -18,6 +18,7 @@ pub fn sound(store: &Store) -> bool {
         && plain.sides().all(|side| plain.corner_fits(side) && plain.link_fits(side))
         && store.tables.positions[..3 * v].iter().all(|coordinate| coordinate.unsigned_abs() <= FARTHEST as u32)
         && store.tables.generations[..f].iter().all(|&generation| generation <= 20)
+        && store.tables.locks[..f].iter().all(|lock| [0, 1].contains(lock))
         && plain.sides().all(|side| plain.pair_is_listed(side))
         && (0..store.counts.vertices).all(|vertex| plain.has_one_fan(vertex))
 }
