@@ -12,6 +12,7 @@ use lib.Dec.{T}
 use lib.ListN.{length, getD, replicate, length-replicate}
 use Rattle.marks.proofs.Tables.{levels-begin, none-marked, zeros}
 use Rattle.marks.specs.Marks.{marked}
+use Rattle.points.specs.Axes.{boxOf}
 use Rattle.points.specs.declared.Point.{Point}
 use Rattle.rules.proofs.Boxes.Staying.{wanted-stays}
 use Rattle.rules.proofs.Boxes.Wanting.{wanted-is}
@@ -30,7 +31,7 @@ use Rattle.rules.specs.Split.{atFirst, chainEnd, refine}
 use Rattle.rules.specs.Tables.{Topology, Mesh, vertexSlots, coordinate, link}
 use Rattle.split.specs.Made.{BaseChain}
 use Rattle.split.specs.declared.Chain.{Chain}
-use Rattle.boxing.specs.Boxing.{boxOf, Seen, SeenFrom, Right, MarksFit, Marking, Unseen, Unmarked, Refines}
+use Rattle.boxing.specs.Boxing.{Seen, SeenFrom, Right, MarksFit, Marking, Unseen, Unmarked, Refines}
 use Rattle.boxing.specs.Boxing.{nearby, Stale, MarkedFrom, Mended}
 use Rattle.boxing.proofs.Marking.{fit-as}
 

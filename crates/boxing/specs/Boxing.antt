@@ -21,14 +21,6 @@ use Rattle.tables.specs.Lent.{pointIn}
 use Rattle.refining.specs.Batches.{Holds}
 use Rattle.refining.specs.declared.spares.Batch.{Batch}
 
--- The box between two points, and the generation.
-abbrev pub boxOf : Point → Point → ℕ → Box
-boxOf low high below = record {
-  low = (low .x, low .y, low .z);
-  high = (high .x, high .y, high .z);
-  below = below;
-}
-
 -- The vertices of m that lie in the box are marked, and no others; there is a mark for each slot.
 pub record Seen (b : Box) (m : Mesh) (inside : List ℕ) : Type 0 where
   pub room : vertexSlots m ≤ 64 * length inside

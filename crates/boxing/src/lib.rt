@@ -12,7 +12,7 @@ ghost use Prim.Native.Nat.{ℕ, _+_, _*_, _/_, _≤_, _<_};
 ghost use lib.IntN.{ℤ};
 ghost use lib.ListN.{length, getD};
 ghost use Rattle.marks.specs.Marks.{marked};
-ghost use Rattle.points.specs.Axes.{inBox};
+ghost use Rattle.points.specs.Axes.{inBox, boxOf};
 ghost use Rattle.rules.specs.Boxes.{Box, wanted};
 ghost use Rattle.rules.specs.Calls.{refineCall};
 ghost use Rattle.rules.specs.Sound.{Sound};
@@ -22,7 +22,7 @@ ghost use Rattle.tables.specs.Answers.{workedOutcome};
 ghost use Rattle.tables.specs.declared.Counts.{Counts};
 ghost use Rattle.tables.specs.Lent.{topologyNow, meshNow, sparesNow, pointIn};
 ghost use Rattle.refining.specs.Batches.{Begins, MayWork, batchOutcome};
-ghost use Rattle.boxing.specs.Boxing.{boxOf, Looks, SeenFrom, MarksFit, Marking, Stale, nearby, MarkedFrom};
+ghost use Rattle.boxing.specs.Boxing.{Looks, SeenFrom, MarksFit, Marking, Stale, nearby, MarkedFrom};
 ghost use Rattle.boxing.specs.Boxing.{Mended, Marked, Unmarked, Unseen, Boxes, boxDone};
 
 // Whether vertex v lies in the box, its faces included.

@@ -1,4 +1,3 @@
 -- What the proofs of the calls share.
 pub mod FindRing
 pub mod Refusing
-pub mod InSpares

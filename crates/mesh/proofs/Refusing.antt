@@ -12,7 +12,7 @@ use lib.ListN.{length}
 use Rattle.rules.proofs.Calls.CallRefusals.{position-refusal-first}
 use Rattle.rules.proofs.Calls.Carried.{lock-found}
 use Rattle.rules.proofs.Numbers.Decide.{stable}
-use Rattle.rules.proofs.Calls.FirstThatHolds.{refuses, carries, none-hold}
+use Rattle.rules.proofs.Calls.FirstThatHolds.{two-kept, refuses, carries, none-hold}
 use Rattle.rules.proofs.Soundness.SoundTest.{tables-agree-is}
 use Rattle.rules.specs.Calls.{_if_, firstOf, noRoom, ringRoom}
 use Rattle.rules.specs.Calls.{refusedWith, roomFor, closedEven, longRing}
@@ -22,7 +22,6 @@ use Rattle.rules.specs.Ring.{ring}
 use Rattle.rules.specs.Sound.{isSound}
 use Rattle.rules.specs.Split.{atFirst}
 use Rattle.rules.specs.Tables.{Mesh, TablesAgree, tablesAgree, generation}
-use Rattle.refining.proofs.Refusing.{two-kept, two-passed}
 use Rattle.refining.specs.Standing.{standing}
 use Rattle.mesh.specs.Answers.{slotRefusal}
 
@@ -95,22 +94,6 @@ module _ (v : ℕ) (buffer : List ℕ) (m : Mesh) where
 
         pub ring-none : length (ring (m .topology) v) ≤ length buffer → 0 ≡ ringRefusal v buffer m
         ring-none k = ring-by-tests a b (lt-leb _ _ l) (le-ltb _ _ k)
-
--- ---- a slot
-
-module _ (n i : ℕ) (m : Mesh) where
-  pub slot-standing : (r : ℕ) → r ≡ standing m → r ≢ 0 → r ≡ slotRefusal n i m
-  slot-standing r = two-kept (not (tablesAgree m)) (not (isSound m)) (8 if leb n i ∷ []) r
-
-  module _ (r : ℕ) (s : r ≡ standing m) (z : r ≡ 0) where
-    slot-passed : slotRefusal n i m ≡ firstOf (8 if leb n i ∷ [])
-    slot-passed = two-passed (not (tablesAgree m)) (not (isSound m)) (8 if leb n i ∷ []) r s z
-
-    pub slot-eight : leb n i ≡ true → 8 ≡ slotRefusal n i m
-    slot-eight a = sym (slot-passed ∙ rw a refl)
-
-    pub slot-none : leb n i ≡ false → 0 ≡ slotRefusal n i m
-    slot-none a = sym (slot-passed ∙ rw a refl)
 
 -- ---- outcomes
 

@@ -1,18 +1,19 @@
 -- The answers of the calls, with what the lent slices hold afterwards, as outcomes of the rules.
-use Prim.Native.Nat.{ℕ, _*_, _≤_}
-use mathlib.Core.Bool.{not}
+use Prim.Native.Nat.{ℕ, _*_, _/_, _≤_}
+use mathlib.Core.Bool.{Bool, true, false, not}
 use mathlib.Core.List.{List, [], _∷_}
 use mathlib.Core.Path.{_≡_}
-use lib.Dec.{leb}
-use lib.IntN.{ℤ}
+use lib.Dec.{leb, ltb}
+use lib.IntN.{ℤ, pos}
 use lib.ListN.{length}
+use Rattle.points.specs.declared.Point.{Point}
 use Rattle.rules.specs.Calls.{Outcome, answerOf, noRoom, ringRoom, outcomeOf, zeroPoint, ringRefusal, firstOf, _if_}
 use Rattle.rules.specs.Ring.{ring}
 use Rattle.rules.specs.Sound.{isSound}
 use Rattle.rules.specs.Tables.{Mesh, tablesAgree}
 use Rattle.rings.specs.Rings.{ringFrom, Walkable}
 use Rattle.tables.specs.Answers.{tableOutcome}
-use Rattle.tables.specs.Lent.{meshNow}
+use Rattle.tables.specs.Lent.{meshNow, pointIn}
 use Rattle.mesh.specs.declared.FoundRing.{FoundRing}
 use Rattle.mesh.specs.declared.LimitRead.{LimitRead}
 use Rattle.mesh.specs.declared.RingRead.{RingRead}
@@ -55,3 +56,11 @@ abbrev pub positionOutcome : PositionRead → List ℤ → List ℕ → List ℕ
 positionOutcome a positions corners links generations locks =
     let m = meshNow (a .counts) positions corners links generations locks in
     outcomeOf (answerOf (a .refusal) 0 0 0 (a .point .x, a .point .y, a .point .z) m) m noRoom
+
+-- The point in slot v of a table, or zeros where it has no such slot.
+abbrev pub pointIf : Bool → Point → Point
+pointIf true p = p
+pointIf false p = record { x = pos 0; y = pos 0; z = pos 0 }
+
+abbrev pub pointOrZero : List ℤ → ℕ → Point
+pointOrZero table v = pointIf (ltb v (length table / 3)) (pointIn table v)

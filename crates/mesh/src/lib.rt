@@ -1,9 +1,5 @@
-// The public calls. None asks anything of its caller: what cannot be done is refused, and then nothing lent is written,
-// but spare tables that were worked in.
-pub mod boxes;
-pub mod lists;
-mod spares;
-
+// The public calls that need no spare tables. None asks anything of its caller: what cannot be done is refused, and
+// then nothing lent is written.
 use points::Point;
 use tables::Counts;
 use tables::Worked;
@@ -16,6 +12,7 @@ ghost use Rattle.tables.specs.Answers.{workedOutcome};
 ghost use Rattle.tables.specs.Lent.{meshNow};
 ghost use Rattle.refining.specs.Standing.{standing};
 ghost use Rattle.mesh.specs.Answers.{slotRefusal, limitOutcome, noRing, FoundFor, ringOutcome, positionOutcome};
+ghost use Rattle.mesh.specs.Answers.{pointOrZero};
 
 // The answer of ring.
 #[repr(C)]
@@ -41,7 +38,7 @@ pub struct LimitRead {
 }
 
 // The first refusal of every call but load: 1, 7 or none.
-fn not_sound(
+pub fn first_refusal(
     positions: &[i32],
     corners: &[u32],
     links: &[u32],
@@ -69,6 +66,17 @@ fn not_sound(
         return 7;
     }
     0
+}
+
+// The point in slot v of the positions, or zeros where they have no such slot: for calls above that have found the mesh
+// sound.
+pub fn point_of(positions: &[i32], v: u32) -> Point
+    ensures { λ r. ⌜ r ≡ pointOrZero (now (positions .entry)) v ⌝ }
+{
+    if 3 * (v as usize) + 2 < positions.len() {
+        return tables::point_in(positions, v);
+    }
+    Point { x: 0, y: 0, z: 0 }
 }
 
 // Loads a cage, to be rounded by this rule, whatever the tables held before.
@@ -116,7 +124,7 @@ pub fn refine(
         ≡ refineCall t (meshNow counts (now (positions .entry)) (now (corners .entry)) (now (links .entry))
         (now (generations .entry)) (now (locks .entry))) ⌝ }
 {
-    let bad = not_sound(positions, corners, links, generations, locks, counts);
+    let bad = first_refusal(positions, corners, links, generations, locks, counts);
     refining::refine(
         positions,
         corners,
@@ -173,7 +181,7 @@ pub fn whole_step(
         ≡ wholeStepCall (meshNow counts (now (positions .entry)) (now (corners .entry)) (now (links .entry))
         (now (generations .entry)) (now (locks .entry))) ⌝ }
 {
-    let bad = not_sound(positions, corners, links, generations, locks, counts);
+    let bad = first_refusal(positions, corners, links, generations, locks, counts);
     whole_step_known(positions, corners, links, generations, locks, counts, bad)
 }
 
@@ -191,7 +199,7 @@ fn slot_refusal(
     ensures { λ r. ⌜ r ≡ slotRefusal n i (meshNow counts (now (positions .entry)) (now (corners .entry))
         (now (links .entry)) (now (generations .entry)) (now (locks .entry))) ⌝ }
 {
-    let bad = not_sound(positions, corners, links, generations, locks, counts);
+    let bad = first_refusal(positions, corners, links, generations, locks, counts);
     if bad != 0 {
         return bad;
     }
@@ -268,7 +276,7 @@ pub fn limit(
         ≡ limitCall (now (table .entry)) (meshNow counts (now (positions .entry)) (now (corners .entry))
         (now (links .entry)) (now (generations .entry)) (now (locks .entry))) ⌝ }
 {
-    let bad = not_sound(positions, corners, links, generations, locks, counts);
+    let bad = first_refusal(positions, corners, links, generations, locks, counts);
     if bad != 0 {
         return LimitRead {
             refusal: bad,

@@ -4,7 +4,7 @@ use mathlib.Core.Bool.{Bool, _&&_}
 use lib.IntN.{ℤ, pos, negℤ, _+ℤ_}
 use lib.Signed.{_≤ℤ_}
 use Rattle.rules.proofs.Numbers.Rounding.{mean}
-use Rattle.rules.specs.Boxes.{between}
+use Rattle.rules.specs.Boxes.{Box, between}
 use Rattle.rules.specs.Numbers.{nearestThird, moved, limit}
 use Rattle.points.specs.declared.Point.{Point}
 
@@ -32,6 +32,14 @@ thirds a b c = eachAxis (λ k. nearestThird (coordinate a k +ℤ coordinate b k 
 abbrev pub inBox : Point → Point → Point → Bool
 inBox low high p =
     between (low .x) (high .x) (p .x) && between (low .y) (high .y) (p .y) && between (low .z) (high .z) (p .z)
+
+-- The box between two points, and the generation.
+abbrev pub boxOf : Point → Point → ℕ → Box
+boxOf low high below = record {
+  low = (low .x, low .y, low .z);
+  high = (high .x, high .y, high .z);
+  below = below;
+}
 
 -- Parts of a mean: n places have b each, and one has a.
 pub record Parts (a b n : ℕ) : Type 0 where

@@ -6,9 +6,9 @@ ghost use lib.Dec.{eqb, ltb};
 ghost use lib.IntN.{pos, _+ℤ_, _-ℤ_};
 ghost use lib.ListN.{length};
 ghost use Rattle.rules.proofs.Numbers.Rounding.{mean};
-ghost use Rattle.rules.specs.Boxes.{between};
+ghost use Rattle.rules.specs.Boxes.{between, boxFits};
 ghost use Rattle.rules.specs.Numbers.{inRange, nearestThird, knownRule, rounded, weight, numberAt, signed};
-ghost use Rattle.points.specs.Axes.{at, inBox, thirds, Parts, meanPoint, movedPoint, limitPoint, plus};
+ghost use Rattle.points.specs.Axes.{at, inBox, boxOf, thirds, Parts, meanPoint, movedPoint, limitPoint, plus};
 ghost use Rattle.points.specs.Axes.{SumOf, Fits};
 
 // A point, in units of 1/1024 mm.
@@ -118,6 +118,16 @@ fn between(low: i32, high: i32, x: i32) -> bool
     ensures { λ r. ⌜ r ≡ between low high x ⌝ }
 {
     low <= x && x <= high
+}
+
+// Whether the generation is at most 20 and no low coordinate is above the high one, so that the box has its low corner.
+pub fn box_fits(low: Point, high: Point, below: u32) -> bool
+    ensures { λ r. ⌜ r ≡ boxFits (boxOf low high below) ⌝ }
+{
+    if 20 < below {
+        return false;
+    }
+    low.in_box(low, high)
 }
 
 // A sum of n numbers of 32 bits, with each counted from the least such number, so that none is negative.

@@ -1,5 +1,4 @@
-// The calls of crate mesh under the names by which C and Rust link them (include/rawplinth.h). A slice is a pointer and
-// a length.
+// The calls under the names by which C and Rust link them (include/rawplinth.h). A slice is a pointer and a length.
 use mesh::LimitRead;
 use mesh::PositionRead;
 use mesh::RingRead;
@@ -8,16 +7,23 @@ use refining::lists::BatchForeseen;
 use refining::spares::BatchWorked;
 use tables::Counts;
 use tables::Worked;
+use viewer::Seen;
+use viewer::Shown;
+use viewer::ViewPoint;
 ghost use mathlib.Core.Bool.{true, false};
 ghost use mathlib.Core.Path.{_≡_};
+ghost use lib.ListN.{length};
+ghost use Rattle.points.specs.Axes.{boxOf};
 ghost use Rattle.rules.specs.Boxes.{boxCall};
 ghost use Rattle.rules.specs.Calls.{loadCall, refineCall, wholeStepCall, lockCall, limitCall, ringCall, positionCall};
+ghost use Rattle.rules.specs.Calls.{viewCall};
 ghost use Rattle.rules.specs.Lists.{listCall, previewCall};
 ghost use Rattle.tables.specs.Answers.{workedOutcome};
 ghost use Rattle.tables.specs.Lent.{meshNow, sparesNow};
 ghost use Rattle.refining.specs.Batches.{batchOutcome, foreseenOutcome};
-ghost use Rattle.boxing.specs.Boxing.{boxOf};
 ghost use Rattle.mesh.specs.Answers.{limitOutcome, ringOutcome, positionOutcome};
+ghost use Rattle.viewer.specs.View.{tableAfter, shownOutcome};
+ghost use Rattle.rawplinth.specs.Seeing.{pointTold};
 
 // Loads a cage, to be rounded by a rule.
 #[no_mangle]
@@ -118,7 +124,7 @@ pub extern "C" fn rawplinth_refine_list(
         (meshNow counts (now (positions .entry)) (now (corners .entry)) (now (links .entry))
         (now (generations .entry)) (now (locks .entry))) ⌝ }
 {
-    mesh::lists::refine_list(
+    batches::lists::refine_list(
         positions,
         corners,
         links,
@@ -161,7 +167,7 @@ pub extern "C" fn rawplinth_refine_box(
         (meshNow counts (now (positions .entry)) (now (corners .entry)) (now (links .entry))
         (now (generations .entry)) (now (locks .entry))) ⌝ }
 {
-    mesh::boxes::refine_box(
+    batches::boxes::refine_box(
         positions,
         corners,
         links,
@@ -202,7 +208,7 @@ pub extern "C" fn rawplinth_preview(
         ≡ previewCall (now (list .entry)) (sparesNow (now («spare_positions» .entry)) (now («spare_corners» .entry))
         (now («spare_links» .entry)) (now («spare_generations» .entry)) (now («spare_locks» .entry))) m) ⌝ }
 {
-    mesh::lists::preview(
+    batches::lists::preview(
         positions,
         corners,
         links,
@@ -347,4 +353,66 @@ pub extern "C" fn rawplinth_position(
         counts,
         vertex,
     )
+}
+
+// What C is told of a seen vertex: on a refusal its number with zeros, and else a point in millimetres.
+#[repr(C)]
+pub struct PointSeen {
+    pub refusal: u32,
+    pub point: ViewPoint,
+}
+
+// Where a vertex is, in millimetres.
+#[no_mangle]
+pub extern "C" fn rawplinth_view_point(
+    positions: &[i32],
+    corners: &[u32],
+    links: &[u32],
+    generations: &[u8],
+    locks: &[u8],
+    counts: Counts,
+    vertex: u32,
+) -> PointSeen
+    ensures { λ r. ⌜ r ≡ pointTold (positionCall vertex (meshNow counts (now (positions .entry)) (now (corners .entry))
+        (now (links .entry)) (now (generations .entry)) (now (locks .entry)))) ⌝ }
+{
+    match viewer::point(
+        positions,
+        corners,
+        links,
+        generations,
+        locks,
+        counts,
+        vertex,
+    ) {
+        Seen::Point(point) => PointSeen { refusal: 0, point },
+        Seen::Refused(refusal) => PointSeen {
+            refusal,
+            point: ViewPoint {
+                x: 0.0,
+                y: 0.0,
+                z: 0.0,
+            },
+        },
+    }
+}
+
+// All triangles, nine numbers each, in millimetres.
+#[no_mangle]
+pub extern "C" fn rawplinth_view_triangles(
+    positions: &[i32],
+    corners: &[u32],
+    links: &[u32],
+    generations: &[u8],
+    locks: &[u8],
+    counts: Counts,
+    table: &mut [f32],
+) -> Shown
+    ensures { λ r. ⌜ (let m = meshNow counts (now (positions .entry)) (now (corners .entry)) (now (links .entry))
+        (now (generations .entry)) (now (locks .entry)) in
+        (shownOutcome r (now (positions .entry)) (now (corners .entry)) (now (links .entry)) (now (generations .entry))
+        (now (locks .entry)) ≡ viewCall (length (now (table .entry))) m)
+        × (now (table .exit) ≡ tableAfter m (now (table .entry)))) ⌝ }
+{
+    viewer::triangles(positions, corners, links, generations, locks, counts, table)
 }

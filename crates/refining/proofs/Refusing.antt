@@ -8,7 +8,7 @@ use Prim.Native.Nat.{ℕ, _*_, _≤_, _<_}
 use native.Mathlib.Omega.{arith}
 use lib.Dec.{eqb, leb}
 use Rattle.rules.proofs.Numbers.Decide.{Decides, is-true, is-same}
-use Rattle.rules.proofs.Calls.FirstThatHolds.{refuses, carries}
+use Rattle.rules.proofs.Calls.FirstThatHolds.{two-kept, two-passed, refuses, carries}
 use Rattle.rules.proofs.Soundness.SoundTest.{tables-agree-is, sound-is}
 use Rattle.rules.specs.Calls.{Test, _if_, firstOf, noRoom, refusedWith, roomFor, worked, refineRefusal, refineCall}
 use Rattle.rules.specs.Calls.{verticesOf, trianglesOf, tooOld, altersLocked}
@@ -16,19 +16,6 @@ use Rattle.rules.specs.Sound.{Sound, isSound}
 use Rattle.rules.specs.Split.{atFirst, refine}
 use Rattle.rules.specs.Tables.{Mesh, tablesAgree, generation, Topology, boundary, link}
 use Rattle.refining.specs.Standing.{standing}
-
--- Where one of the first two tests refuses, the later ones do not matter; where none does, they decide.
-pub two-kept : (a b : Bool) (rest : List Test) (r : ℕ) → r ≡ firstOf (1 if a ∷ 7 if b ∷ []) → r ≢ 0
-    → r ≡ firstOf (1 if a ∷ 7 if b ∷ rest)
-two-kept true b rest r e x = e
-two-kept false true rest r e x = e
-two-kept false false rest r e x = absurd (x e)
-
-pub two-passed : (a b : Bool) (rest : List Test) (r : ℕ) → r ≡ firstOf (1 if a ∷ 7 if b ∷ []) → r ≡ 0
-    → firstOf (1 if a ∷ 7 if b ∷ rest) ≡ firstOf rest
-two-passed true b rest r e z = absurd (omega arith)
-two-passed false true rest r e z = absurd (omega arith)
-two-passed false false rest r e z = refl
 
 pub standing-sound : (m : Mesh) (r : ℕ) → r ≡ standing m → r ≡ 0 → Sound m
 standing-sound m r e z = go (tablesAgree m) (isSound m) (sound-is m) (sym e ∙ z)
@@ -42,7 +29,7 @@ pub sound-standing : {m : Mesh} → Sound m → 0 ≡ standing m
 sound-standing {m} S =
     rw (is-same (tables-agree-is m) (is-true (S .tables)), is-same (sound-is m) (is-true S)) refl
 
--- The same with four tests before the rest.
+-- Four tests before the rest.
 four-kept : (a b d e : Bool) (rest : List Test) (r : ℕ) → r ≡ firstOf (1 if a ∷ 7 if b ∷ 8 if d ∷ 9 if e ∷ []) → r ≢ 0
     → r ≡ firstOf (1 if a ∷ 7 if b ∷ 8 if d ∷ 9 if e ∷ rest)
 four-kept true b d e rest r q x = q

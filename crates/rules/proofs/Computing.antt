@@ -10,6 +10,7 @@ use Rattle.rules.specs.Cage.{someInnerOfTwo}
 use Rattle.rules.specs.Calls.{Outcome, closedEven, loadRefusal, refineRefusal, wholeStepRefusal, ringRefusal}
 use Rattle.rules.specs.Calls.{positionRefusal, limitRefusal, loadCall, refineCall, wholeStepCall, ringCall}
 use Rattle.rules.specs.Calls.{positionCall, limitCall, altersLocked, someLocked, lockRefusal, lockCall}
+use Rattle.rules.specs.Calls.{viewRefusal, viewCall}
 use Rattle.rules.specs.History.{Change, changes, after, outcomes, lastLoad, edges, cageEdges}
 use Rattle.rules.specs.Lists.{entryRefusal, entryWork, handle, handleAll, sparesRefusal, listCall}
 use Rattle.rules.specs.Lists.{previewCall}
@@ -34,7 +35,7 @@ unfolding all any lowest total fill cageOf partner loaded sizesFit cornersFit co
     rimCut rimPlaced settle faceSplit rimSplit chainEndWithin chainOddWithin raise refine sumOver movedCoordinate
     moveVertices refineFirst wholeStep tablesAgree copied sameSizes entryRefusal entryWork handle handleAll
     sparesRefusal listCall previewCall wanted refineWanted boxRefusal boxCall chainAt
-    altersLocked someLocked lockRefusal lockCall
+    altersLocked someLocked lockRefusal lockCall viewRefusal viewCall
 computing = tt
 
 -- The mesh after these changes, and the outcome of each.

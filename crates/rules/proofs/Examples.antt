@@ -33,8 +33,16 @@ run = loads 1 tetrahedron ∷ refines 0 ∷ refines 0 ∷ refines 0 ∷ refines 
 unfoldable pub store : Mesh
 store = fresh 1024 2048
 
+unfoldable pub finished : Mesh
+unfolding computing run store fresh tetrahedron
+finished = made run store
+
 unfoldable pub smoothing : List Change
 smoothing = loads 1 tetrahedron ∷ steps ∷ []
+
+unfoldable pub smoothed : Mesh
+unfolding computing smoothing store fresh tetrahedron
+smoothed = made smoothing store
 
 pub record Table : Type 0 where
   pub p1-to-p6 : map lineOf (madeEach run store) ≡
@@ -45,16 +53,16 @@ pub record Table : Type 0 where
       ∷ (0 ∷ 2 ∷ 3 ∷ 9 ∷ 14 ∷ [])
       ∷ (8 ∷ 0 ∷ 0 ∷ 9 ∷ 14 ∷ [])
       ∷ []
-  pub p7 : triangleOf (made run store) 0 ≡ 0 ∷ 8 ∷ 6 ∷ 4 ∷ []
-  pub p8 : triangleOf (made run store) 5 ≡ 2 ∷ 7 ∷ 4 ∷ 2 ∷ []
-  pub p9 : pointOf (made run store) 6 ≡ pos 2 ∷ pos 1 ∷ pos 1 ∷ []
-  pub p10 : pointOf (made run store) 8 ≡ pos 1 ∷ pos 1 ∷ pos 2 ∷ []
+  pub p7 : triangleOf finished 0 ≡ 0 ∷ 8 ∷ 6 ∷ 4 ∷ []
+  pub p8 : triangleOf finished 5 ≡ 2 ∷ 7 ∷ 4 ∷ 2 ∷ []
+  pub p9 : pointOf finished 6 ≡ pos 2 ∷ pos 1 ∷ pos 1 ∷ []
+  pub p10 : pointOf finished 8 ≡ pos 1 ∷ pos 1 ∷ pos 2 ∷ []
   pub p11 : map lineOf (madeEach smoothing store) ≡ (0 ∷ 0 ∷ 0 ∷ 4 ∷ 4 ∷ []) ∷ (0 ∷ 4 ∷ 6 ∷ 8 ∷ 12 ∷ []) ∷ []
-  pub p12₀ : pointOf (made smoothing store) 0 ≡ pos 2 ∷ pos 2 ∷ pos 2 ∷ []
-  pub p12₁ : pointOf (made smoothing store) 1 ≡ pos 4 ∷ pos 2 ∷ pos 2 ∷ []
+  pub p12₀ : pointOf smoothed 0 ≡ pos 2 ∷ pos 2 ∷ pos 2 ∷ []
+  pub p12₁ : pointOf smoothed 1 ≡ pos 4 ∷ pos 2 ∷ pos 2 ∷ []
 
 pub tetrahedron-run : Table
-unfolding computing run store smoothing fresh tetrahedron
+unfolding computing run store finished smoothing smoothed fresh tetrahedron
 tetrahedron-run = record {
   p1-to-p6 = refl;
   p7 = refl;
@@ -84,6 +92,10 @@ deepRun =
 unfoldable pub shellStore : Mesh
 shellStore = fresh 64 128
 
+unfoldable pub nine : Mesh
+unfolding computing nineRun shellStore fresh oneTriangle
+nine = made nineRun shellStore
+
 pub record NineTable : Type 0 where
   pub lines : map lineOf (madeEach nineRun shellStore) ≡
       (0 ∷ 0 ∷ 0 ∷ 3 ∷ 1 ∷ [])
@@ -93,7 +105,7 @@ pub record NineTable : Type 0 where
       ∷ (0 ∷ 1 ∷ 2 ∷ 10 ∷ 9 ∷ [])
       ∷ []
   -- The nine triangles, all of generation 4.
-  pub triangles : map (triangleOf (made nineRun shellStore)) (0 ∷ 1 ∷ 2 ∷ 3 ∷ 4 ∷ 5 ∷ 6 ∷ 7 ∷ 8 ∷ []) ≡
+  pub triangles : map (triangleOf nine) (0 ∷ 1 ∷ 2 ∷ 3 ∷ 4 ∷ 5 ∷ 6 ∷ 7 ∷ 8 ∷ []) ≡
       (3 ∷ 9 ∷ 4 ∷ 4 ∷ [])
       ∷ (3 ∷ 5 ∷ 6 ∷ 4 ∷ [])
       ∷ (3 ∷ 7 ∷ 8 ∷ 4 ∷ [])
@@ -105,8 +117,8 @@ pub record NineTable : Type 0 where
       ∷ (0 ∷ 4 ∷ 9 ∷ 4 ∷ [])
       ∷ []
   -- A' of the first rim split is nearer to A, B' to B.
-  pub first : pointOf (made nineRun shellStore) 4 ≡ pos 3 ∷ pos 0 ∷ pos 0 ∷ []
-  pub second : pointOf (made nineRun shellStore) 5 ≡ pos 6 ∷ pos 0 ∷ pos 0 ∷ []
+  pub first : pointOf nine 4 ≡ pos 3 ∷ pos 0 ∷ pos 0 ∷ []
+  pub second : pointOf nine 5 ≡ pos 6 ∷ pos 0 ∷ pos 0 ∷ []
   pub deep : map lineOf (madeEach deepRun shellStore) ≡
       (0 ∷ 0 ∷ 0 ∷ 3 ∷ 1 ∷ [])
       ∷ (0 ∷ 1 ∷ 0 ∷ 4 ∷ 3 ∷ [])
@@ -121,7 +133,7 @@ pub record NineTable : Type 0 where
       ∷ []
 
 pub nine-triangles : NineTable
-unfolding computing nineRun deepRun shellStore fresh oneTriangle
+unfolding computing nineRun deepRun shellStore nine fresh oneTriangle
 nine-triangles = record { lines = refl; triangles = refl; first = refl; second = refl; deep = refl }
 
 -- ---- base chains of 1 to 10 odd triangles that end at the boundary (request b)

@@ -16,15 +16,28 @@ use Rattle.rules.specs.History.{nothing, cage, lastLoad, edges}
 use Rattle.rules.specs.Mirror.{mirror, mirrorTable}
 use Rattle.rules.specs.Numbers.{nearestThird, rounded}
 use Rattle.rules.specs.Sound.{isSound}
-use Rattle.rules.specs.Tables.{Mesh, topologyOf, meshOf, withLocks, link, generation, coordinate}
+use Rattle.rules.specs.Tables.{Mesh, topologyOf, meshOf, withLocks, link, generation, coordinate, triangleSlots}
 
 unfoldable pub store : Mesh
 unfolding fresh
 store = fresh 12 20
 
+-- The tetrahedron in it, and after a whole step.
+unfoldable pub solid : Mesh
+unfolding computing store tetrahedron
+solid = made (loads 1 tetrahedron ∷ []) store
+
+unfoldable pub smoothed : Mesh
+unfolding computing solid
+smoothed = made (steps ∷ []) solid
+
 unfoldable pub sideOne : List Change
 unfolding tetrahedron
 sideOne = loads 1 tetrahedron ∷ refines 0 ∷ refines 3 ∷ refines 7 ∷ refines 9 ∷ []
+
+unfoldable pub throughOne : Mesh
+unfolding computing store sideOne
+throughOne = made sideOne store
 
 -- The tetrahedron with a list of its triangles refined.
 unfoldable pub listed : List ℕ → List Change
@@ -34,16 +47,25 @@ listed list = loads 1 tetrahedron ∷ refinesEach list (sevens 12 20) ∷ []
 -- Of that list: how many entries succeeded, the vertices and triangles of the mesh in the spare tables, and there the
 -- generations in slots 0, 1, 5 and 6.
 unfoldable pub heldBy : List ℕ → List ℕ
-unfolding fresh tetrahedron sevens
+unfolding sevens solid
 heldBy list =
-    let o = outcome (changes (refinesEach list (sevens 12 20))) (made (loads 1 tetrahedron ∷ []) store) in
+    let o = outcome (changes (refinesEach list (sevens 12 20))) solid in
     let g : ℕ → ℕ = λ t. getD (o .room .spares .generations) t 0 in
     o .answer .handled ∷ o .answer .spareVertices ∷ o .answer .spareTriangles ∷ g 0 ∷ g 1 ∷ g 5 ∷ g 6 ∷ []
 
--- A cage, in 12 vertex and f triangle slots, with what has a corner in a box refined.
-unfoldable pub boxed : ℕ → List ℕ → Box → Outcome
-unfolding fresh sevens
-boxed f bytes b = outcome (changes (refinesInBox b (sevens 12 f))) (made (loads 1 bytes ∷ []) (fresh 12 f))
+-- The tetrahedron in 9 triangle slots; the triangle alone.
+unfoldable pub tight : Mesh
+unfolding computing fresh tetrahedron
+tight = made (loads 1 tetrahedron ∷ []) (fresh 12 9)
+
+unfoldable pub alone : Mesh
+unfolding computing store oneTriangle
+alone = made (loads 1 oneTriangle ∷ []) store
+
+-- A mesh of 12 vertex slots, with what has a corner in a box refined.
+unfoldable pub boxed : Mesh → Box → Outcome
+unfolding sevens
+boxed m b = outcome (changes (refinesInBox b (sevens 12 (triangleSlots m)))) m
 
 -- Its printed line, and how many refines it took.
 unfoldable pub boxLine : Outcome → List ℕ
@@ -156,9 +178,9 @@ pub record Table : Type 0 where
       ∷ (0 ∷ 1 ∷ 0 ∷ 7 ∷ 10 ∷ [])
       ∷ (0 ∷ 2 ∷ 3 ∷ 9 ∷ 14 ∷ [])
       ∷ []
-  pub throughSideOne₉ : triangleOf (made sideOne store) 9 ≡ 5 ∷ 8 ∷ 6 ∷ 4 ∷ []
-  pub throughSideOne₆ : triangleOf (made sideOne store) 6 ≡ 3 ∷ 7 ∷ 5 ∷ 2 ∷ []
-  pub throughSideOne₁ : triangleOf (made sideOne store) 1 ≡ 0 ∷ 6 ∷ 8 ∷ 4 ∷ []
+  pub throughSideOne₉ : triangleOf throughOne 9 ≡ 5 ∷ 8 ∷ 6 ∷ 4 ∷ []
+  pub throughSideOne₆ : triangleOf throughOne 6 ≡ 3 ∷ 7 ∷ 5 ∷ 2 ∷ []
+  pub throughSideOne₁ : triangleOf throughOne 1 ≡ 0 ∷ 6 ∷ 8 ∷ 4 ∷ []
   -- A request that splits three times.
   pub chainOfThree : map lineOf (drop 6 (madeEach longChain store)) ≡ (0 ∷ 3 ∷ 4 ∷ 12 ∷ 20 ∷ []) ∷ []
   pub chainOfThree₈ : triangleOf (made longChain store) 8 ≡ 5 ∷ 11 ∷ 8 ∷ 6 ∷ []
@@ -184,18 +206,17 @@ pub record Table : Type 0 where
   pub fewTriangleSlots : refusalAfter (loads 1 tetrahedron ∷ []) (changes (refines 0)) (fresh 5 5) ≡ 11
   pub fewVertexSlots : refusalAfter (loads 1 tetrahedron ∷ []) (changes (refines 0)) (fresh 4 6) ≡ 11
   -- A ring leaves the rest of its buffer; at the boundary it starts there, and ends with the last neighbour.
-  pub closedRing : asked (ringOf 0 (replicate 5 77)) (made (loads 1 tetrahedron ∷ []) store) .room .buffer ≡ 1 ∷ 2 ∷ 3
-      ∷ 77 ∷ 77 ∷ []
+  pub closedRing : asked (ringOf 0 (replicate 5 77)) solid .room .buffer ≡ 1 ∷ 2 ∷ 3 ∷ 77 ∷ 77 ∷ []
   pub hingeRing : asked (ringOf 0 (replicate 4 77)) (made (loads 1 hinge ∷ []) store) .room .buffer ≡ 3 ∷ 1 ∷ 2 ∷ 77
       ∷ []
   pub openRing : asked (ringOf 0 (replicate 3 77)) (made (loads 1 triangle ∷ []) store) .room .buffer ≡ 1 ∷ 2 ∷ 77 ∷ []
   -- All vertices move at once.
-  pub movedTwo : pointOf (made (loads 1 tetrahedron ∷ steps ∷ []) store) 2 ≡ pos 2 ∷ pos 4 ∷ pos 2 ∷ []
-  pub movedThree : pointOf (made (loads 1 tetrahedron ∷ steps ∷ []) store) 3 ≡ pos 2 ∷ pos 2 ∷ pos 4 ∷ []
+  pub movedTwo : pointOf smoothed 2 ≡ pos 2 ∷ pos 4 ∷ pos 2 ∷ []
+  pub movedThree : pointOf smoothed 3 ≡ pos 2 ∷ pos 2 ∷ pos 4 ∷ []
   -- New vertices are placed by the old positions.
-  pub placedFour : pointOf (made (loads 1 tetrahedron ∷ steps ∷ []) store) 4 ≡ pos 3 ∷ pos 3 ∷ pos 0 ∷ []
+  pub placedFour : pointOf smoothed 4 ≡ pos 3 ∷ pos 3 ∷ pos 0 ∷ []
   -- Limit positions.
-  pub limits : asked (limitsOf (replicate 12 (pos 77))) (made (loads 1 tetrahedron ∷ []) store) .room .table
+  pub limits : asked (limitsOf (replicate 12 (pos 77))) solid .room .table
       ≡ pos 2 ∷ pos 2 ∷ pos 2 ∷ pos 3 ∷ pos 2 ∷ pos 2 ∷ pos 2 ∷ pos 3 ∷ pos 2 ∷ pos 2 ∷ pos 2 ∷ pos 3 ∷ []
   -- Where vertex 2 is at x = 305834 or -305834, vertex 1 has its limit at a half, 43690.5 or -43690.5. Rule 1 takes it
   -- up on both sides of zero, so that the mirror image of a limit is not the limit of the mirror image; rule 2 takes it
@@ -259,23 +280,21 @@ pub record Table : Type 0 where
   -- a face split; a face split and two rim splits. In the tetrahedron it is corner 1 of slot 0, corner 2 of slot 1 and
   -- corner 0 of slot 2: three splits lift all it touches to 2, and three more to 4. The third refine of the triangle
   -- alone is of a slot that the first made. (Request h)
-  pub boxedOpen : map (λ k. boxLine (boxed 20 oneTriangle (atPoint k))) (0 ∷ 1 ∷ 2 ∷ []) ≡
+  pub boxedOpen : map (λ k. boxLine (boxed alone (atPoint k))) (0 ∷ 1 ∷ 2 ∷ []) ≡
       (0 ∷ 0 ∷ 0 ∷ 3 ∷ 1 ∷ 0 ∷ []) ∷ (0 ∷ 1 ∷ 0 ∷ 4 ∷ 3 ∷ 1 ∷ []) ∷ (0 ∷ 3 ∷ 1 ∷ 8 ∷ 7 ∷ 3 ∷ []) ∷ []
-  pub boxedClosed : map (λ k. boxLine (boxed 20 tetrahedron (atPoint k))) (1 ∷ 2 ∷ 3 ∷ []) ≡
+  pub boxedClosed : map (λ k. boxLine (boxed solid (atPoint k))) (1 ∷ 2 ∷ 3 ∷ []) ≡
       (0 ∷ 3 ∷ 3 ∷ 7 ∷ 10 ∷ 3 ∷ []) ∷ (0 ∷ 3 ∷ 3 ∷ 7 ∷ 10 ∷ 3 ∷ []) ∷ (0 ∷ 6 ∷ 6 ∷ 10 ∷ 16 ∷ 6 ∷ []) ∷ []
   -- A box of all that 32 bits can hold takes every triangle: to generation 1 that is all but the whole step's moves.
-  pub boxedAll : boxLine (boxed 20 tetrahedron (everywhere 1)) ≡ 0 ∷ 4 ∷ 6 ∷ 8 ∷ 12 ∷ 4 ∷ []
+  pub boxedAll : boxLine (boxed solid (everywhere 1)) ≡ 0 ∷ 4 ∷ 6 ∷ 8 ∷ 12 ∷ 4 ∷ []
   -- The lowest slot comes first: vertex 4 is the centre of triangle 0.
-  pub lowestFirst : pointOf (boxed 20 tetrahedron (atPoint 1) .mesh) 4 ≡ pos 3 ∷ pos 3 ∷ pos 0 ∷ []
+  pub lowestFirst : pointOf (boxed solid (atPoint 1) .mesh) 4 ≡ pos 3 ∷ pos 3 ∷ pos 0 ∷ []
   -- A box that is one unit short holds nothing: it is carried out, with zeros, and leaves the mesh.
-  pub shortByOne : map (λ b. boxLine (boxed 20 tetrahedron b)) shortBoxes ≡ replicate 6 (0 ∷ 0 ∷ 0 ∷ 4 ∷ 4 ∷ 0 ∷ [])
-  pub shortLeaves : map (λ b. boxed 20 tetrahedron b .mesh) shortBoxes
-      ≡ replicate 6 (made (loads 1 tetrahedron ∷ []) (fresh 12 20))
+  pub shortByOne : map (λ b. boxLine (boxed solid b)) shortBoxes ≡ replicate 6 (0 ∷ 0 ∷ 0 ∷ 4 ∷ 4 ∷ 0 ∷ [])
+  pub shortLeaves : map (λ b. boxed solid b .mesh) shortBoxes ≡ replicate 6 solid
   -- The third refine lacks a slot: the mesh stands, and the spare tables hold the mesh after two.
-  pub runsOut : boxLine (boxed 9 tetrahedron (atPoint 2)) ≡ 11 ∷ 0 ∷ 0 ∷ 4 ∷ 4 ∷ 2 ∷ []
-  pub runsOutStands : boxed 9 tetrahedron (atPoint 2) .mesh ≡ made (loads 1 tetrahedron ∷ []) (fresh 12 9)
-  pub runsOutSpares : boxed 9 tetrahedron (atPoint 2) .room .spares .generations
-      ≡ 2 ∷ 1 ∷ 0 ∷ 0 ∷ 1 ∷ 1 ∷ 1 ∷ 2 ∷ 7 ∷ []
+  pub runsOut : boxLine (boxed tight (atPoint 2)) ≡ 11 ∷ 0 ∷ 0 ∷ 4 ∷ 4 ∷ 2 ∷ []
+  pub runsOutStands : boxed tight (atPoint 2) .mesh ≡ tight
+  pub runsOutSpares : boxed tight (atPoint 2) .room .spares .generations ≡ 2 ∷ 1 ∷ 0 ∷ 0 ∷ 1 ∷ 1 ∷ 1 ∷ 2 ∷ 7 ∷ []
   -- Load clears the locks of the cage's triangles, locked or not, and a split those of its two new slots; others keep
   -- what they hold. (Request i)
   pub loadUnlocks : made (loads 1 tetrahedron ∷ []) (withLocks (replicate 20 7) store) .locks
@@ -289,7 +308,7 @@ pub record Table : Type 0 where
   pub pastIsNoLock : refusalAfter (loads 1 tetrahedron ∷ []) (changes steps) (withLocks (replicate 20 1) store) ≡ 0
   -- The copy in spare tables has the locks, on a refusal too.
   pub sparesLocked : map (λ list. let o = outcome (changes (refinesEach list (sevens 12 20)))
-      (made (loads 1 tetrahedron ∷ setsLock true 3 ∷ []) store) in o .answer .refusal ∷ o .room .spares .locks)
+      (made (setsLock true 3 ∷ []) solid) in o .answer .refusal ∷ o .room .spares .locks)
       ((0 ∷ []) ∷ (0 ∷ 3 ∷ []) ∷ [])
       ≡ (0 ∷ 0 ∷ 0 ∷ 0 ∷ 1 ∷ 0 ∷ 0 ∷ replicate 14 7) ∷ (19 ∷ 0 ∷ 0 ∷ 0 ∷ 1 ∷ 0 ∷ 0 ∷ replicate 14 7) ∷ []
   -- A link of a locked triangle follows its side: through a face split from side 1 of slot 0 to side 0 of slot 4,
@@ -307,9 +326,9 @@ pub record Table : Type 0 where
       ∷ (0 ∷ 0 ∷ 0 ∷ 4 ∷ 4 ∷ []) ∷ (0 ∷ 0 ∷ 0 ∷ 4 ∷ 4 ∷ []) ∷ (0 ∷ 1 ∷ 0 ∷ 5 ∷ 6 ∷ []) ∷ []
 
 pub readings : Table
-unfolding computing mirrorTable fresh sevens listed heldBy tetrahedron triangle store sideOne octahedron pulled
-    spike longChain hinge
-    withFirst signedBytes foil atEighteen oneTriangle boxed boxLine atPoint everywhere shortBoxes linksAfter
+unfolding computing mirrorTable fresh sevens listed heldBy tetrahedron triangle store solid smoothed sideOne throughOne
+    octahedron pulled spike longChain hinge withFirst signedBytes foil atEighteen tight alone boxed boxLine atPoint
+    everywhere shortBoxes linksAfter
 readings = record {
   throughSideOne = refl;
   throughSideOne₉ = refl;

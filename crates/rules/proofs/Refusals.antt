@@ -9,7 +9,8 @@ use Rattle.rules.proofs.Computing.{computing, made, fresh, sevens, boxO
 use Rattle.rules.specs.Boxes.{Box}
 use Rattle.rules.specs.Calls.{zeroPoint}
 use Rattle.rules.specs.History.{Change, loads, refines, steps, refinesEach, refinesInBox, setsLock, ringOf}
-use Rattle.rules.specs.History.{positionOf, limitsOf, previewOf, Call, changes, asks, outcome}
+use Rattle.rules.specs.History.{positionOf, limitsOf, previewOf, pointSeen, trianglesSeen, Call, changes, asks}
+use Rattle.rules.specs.History.{outcome}
 use Rattle.rules.specs.Spares.{Spares}
 use Rattle.rules.specs.Tables.{Mesh, topologyOf, meshOf, withLocks, withRule, boundary}
 
@@ -20,6 +21,11 @@ refusalAfter before c m = outcome c (made before m) .answer .refusal
 unfoldable pub small : Mesh
 unfolding fresh
 small = fresh 6 9
+
+-- The tetrahedron in it.
+unfoldable pub solid : Mesh
+unfolding computing small tetrahedron
+solid = made (loads 1 tetrahedron ∷ []) small
 
 -- Tables that disagree: corners and links for 9 triangle slots, generations and locks for 8.
 unfoldable pub uneven : Mesh
@@ -76,8 +82,8 @@ tooFine = boxOf zeroPoint zeroPoint 21
 
 -- The refusals of these boxes, on the tetrahedron.
 unfoldable pub boxesRefused : List Box → List ℕ
-unfolding fresh sevens tetrahedron
-boxesRefused = map (λ b. refusalAfter (loads 1 tetrahedron ∷ []) (changes (refinesInBox b (sevens 6 9))) small)
+unfolding sevens solid
+boxesRefused = map (λ b. refusalAfter [] (changes (refinesInBox b (sevens 6 9))) solid)
 
 -- The first k pairs of triangles of a double pyramid on n sides: its apexes are n and n + 1.
 unfoldable pub pyramids : ℕ → ℕ → List ℕ
@@ -88,11 +94,23 @@ unfoldable pub doublePyramid : ℕ → List ℕ
 unfolding cageAtOrigin pyramids
 doublePyramid n = cageAtOrigin (n + 2) (2 * n) (pyramids n n)
 
--- The refusals of a refine of t, after these changes and the lock of each of these triangles in turn.
-unfoldable pub lockedInTurn : List Change → ℕ → List ℕ → List ℕ
-unfolding fresh
-lockedInTurn before t =
-    map (λ x. refusalAfter (before ++ (setsLock true x ∷ [])) (changes (refines t)) (fresh 12 20))
+-- The one on 13 sides, whose apexes have rings of 13.
+unfoldable pub pyramid : Mesh
+unfolding computing fresh doublePyramid
+pyramid = made (loads 1 (doublePyramid 13) ∷ []) (fresh 15 26)
+
+-- The refusals of a refine of t, after the lock of each of these triangles in turn.
+unfoldable pub lockedInTurn : Mesh → ℕ → List ℕ → List ℕ
+lockedInTurn m t = map (λ x. refusalAfter (setsLock true x ∷ []) (changes (refines t)) m)
+
+-- Meshes with odd triangles: three of the tetrahedron's refined, and a triangle refined twice.
+unfoldable pub chained : Mesh
+unfolding computing fresh tetrahedron
+chained = made (loads 1 tetrahedron ∷ refines 0 ∷ refines 3 ∷ refines 7 ∷ []) (fresh 12 20)
+
+unfoldable pub cutAtBoundary : Mesh
+unfolding computing fresh triangle
+cutAtBoundary = made (loads 1 triangle ∷ refines 0 ∷ refines 0 ∷ []) (fresh 12 20)
 
 -- Spare tables as long as those of `small`, but for the locks.
 unfoldable pub shortLocks : Spares
@@ -123,8 +141,8 @@ pub record Table : Type 0 where
   pub triangleIsAllowed : refusalAfter [] (changes (loads 1 triangle)) small ≡ 0
   pub n7 : refusalAfter [] (changes (refines 0)) small ≡ 7
   -- A rule that is neither 1 nor 2, stored with the counts.
-  pub n7ByRule : refusalAfter [] (changes (refines 0)) (withRule 3 (made (loads 1 tetrahedron ∷ []) small)) ≡ 7
-  pub n8 : refusalAfter (loads 1 tetrahedron ∷ []) (changes (refines 4)) small ≡ 8
+  pub n7ByRule : refusalAfter [] (changes (refines 0)) (withRule 3 solid) ≡ 7
+  pub n8 : refusalAfter [] (changes (refines 4)) solid ≡ 8
   pub n9 : refusalAfter [] (changes (refines 0)) grown ≡ 9
   -- Generation 19 with its base on the boundary, and 17.
   pub n9AtBoundary : refusalAfter [] (changes (refines 0)) (shell 19) ≡ 9
@@ -132,20 +150,20 @@ pub record Table : Type 0 where
   -- The outline's example of 10 is refined.
   pub not10 : refusalAfter (loads 1 triangle ∷ refines 0 ∷ []) (changes (refines 0)) small ≡ 0
   pub n11 : refusalAfter (loads 1 tetrahedron ∷ []) (changes (refines 0)) (fresh 6 5) ≡ 11
-  pub n12 : refusalAfter (loads 1 tetrahedron ∷ refines 0 ∷ []) (changes steps) small ≡ 12
-  pub n13 : refusalAfter (loads 1 (doublePyramid 13) ∷ []) (changes steps) (fresh 15 26) ≡ 13
+  pub n12 : refusalAfter (refines 0 ∷ []) (changes steps) solid ≡ 12
+  pub n13 : refusalAfter [] (changes steps) pyramid ≡ 13
   pub twelveIsAllowed : refusalAfter (loads 1 (doublePyramid 12) ∷ []) (changes steps) (fresh 38 72) ≡ 0
-  pub n14 : refusalAfter (loads 1 tetrahedron ∷ []) (asks (ringOf 0 (7 ∷ 7 ∷ []))) small ≡ 14
-  pub n15 : refusalAfter (loads 1 tetrahedron ∷ []) (asks (limitsOf (replicate 11 (pos 7)))) small ≡ 15
-  pub longerIsRefused : refusalAfter (loads 1 tetrahedron ∷ []) (asks (limitsOf (replicate 13 (pos 7)))) small ≡ 15
-  pub ringBeforeTable : refusalAfter (loads 1 (doublePyramid 13) ∷ []) (asks (limitsOf [])) (fresh 15 26) ≡ 13
+  pub n14 : refusalAfter [] (asks (ringOf 0 (7 ∷ 7 ∷ []))) solid ≡ 14
+  pub n15 : refusalAfter [] (asks (limitsOf (replicate 11 (pos 7)))) solid ≡ 15
+  pub longerIsRefused : refusalAfter [] (asks (limitsOf (replicate 13 (pos 7)))) solid ≡ 15
+  pub ringBeforeTable : refusalAfter [] (asks (limitsOf [])) pyramid ≡ 13
   pub twentyIsAnswered : refusalAfter [] (asks (limitsOf (replicate 9 (pos 7)))) grown ≡ 0
   -- A load with another rule, after 1 and before 2.
   pub n16 : refusalAfter [] (changes (loads 0 tetrahedron)) small ≡ 16
   pub tablesBeforeRule : refusalAfter [] (changes (loads 3 tetrahedron)) uneven ≡ 1
   pub ruleBeforeSizes : refusalAfter [] (changes (loads 3 (take 7 tetrahedron))) small ≡ 16
   -- Spare tables of another size, after 1 and before 7.
-  pub n17 : refusalAfter (loads 1 tetrahedron ∷ []) (changes (refinesEach [] (sevens 6 8))) small ≡ 17
+  pub n17 : refusalAfter [] (changes (refinesEach [] (sevens 6 8))) solid ≡ 17
   pub tablesBeforeSpares : refusalAfter [] (changes (refinesEach [] (sevens 6 8))) uneven ≡ 1
   pub sparesBeforeSound : refusalAfter [] (changes (refinesEach [] (sevens 5 9))) small ≡ 17
   -- A generation above 20, and a low coordinate above the high one, after 17 and before 7. A generation of 20 is
@@ -164,39 +182,43 @@ pub record Table : Type 0 where
   -- chain goes on over slot 6 and ends at slot 1, which the base of slot 0 meets too. Before an odd triangle whose base
   -- meets slot 2, which is odd and has its base on the boundary. One whose link only follows does not count: slots 2
   -- and 3 of the first. (Request i)
-  pub n19 : lockedInTurn (loads 1 tetrahedron ∷ []) 0 (0 ∷ 1 ∷ 2 ∷ 3 ∷ []) ≡ 19 ∷ 0 ∷ 0 ∷ 0 ∷ []
-  pub n19InChain : lockedInTurn (loads 1 tetrahedron ∷ refines 0 ∷ refines 3 ∷ refines 7 ∷ []) 9
-      (0 ∷ 1 ∷ 2 ∷ 3 ∷ 4 ∷ 5 ∷ 6 ∷ 7 ∷ 8 ∷ 9 ∷ []) ≡ 19 ∷ 19 ∷ 0 ∷ 0 ∷ 0 ∷ 0 ∷ 19 ∷ 0 ∷ 0 ∷ 19 ∷ []
-  pub n19AtBoundary : lockedInTurn (loads 1 triangle ∷ refines 0 ∷ refines 0 ∷ []) 0 (0 ∷ 1 ∷ 2 ∷ 3 ∷ 4 ∷ [])
-      ≡ 19 ∷ 0 ∷ 19 ∷ 0 ∷ 0 ∷ []
+  pub n19 : lockedInTurn solid 0 (0 ∷ 1 ∷ 2 ∷ 3 ∷ []) ≡ 19 ∷ 0 ∷ 0 ∷ 0 ∷ []
+  pub n19InChain : lockedInTurn chained 9 (0 ∷ 1 ∷ 2 ∷ 3 ∷ 4 ∷ 5 ∷ 6 ∷ 7 ∷ 8 ∷ 9 ∷ [])
+      ≡ 19 ∷ 19 ∷ 0 ∷ 0 ∷ 0 ∷ 0 ∷ 19 ∷ 0 ∷ 0 ∷ 19 ∷ []
+  pub n19AtBoundary : lockedInTurn cutAtBoundary 0 (0 ∷ 1 ∷ 2 ∷ 3 ∷ 4 ∷ []) ≡ 19 ∷ 0 ∷ 19 ∷ 0 ∷ 0 ∷ []
   -- After 9, and before 11; in a whole step after 13, and before 11; in a list, its preview and a box.
   pub ageBeforeLock : refusalAfter (setsLock true 0 ∷ []) (changes (refines 0)) grown ≡ 9
   pub lockBeforeRoom : refusalAfter (loads 1 tetrahedron ∷ setsLock true 0 ∷ []) (changes (refines 0)) (fresh 6 5) ≡ 19
-  pub n19InStep : refusalAfter (loads 1 tetrahedron ∷ setsLock true 3 ∷ []) (changes steps) small ≡ 19
-  pub ringBeforeLock : refusalAfter (loads 1 (doublePyramid 13) ∷ setsLock true 0 ∷ []) (changes steps) (fresh 15 26)
-      ≡ 13
-  pub n19InList : map (λ c. refusalAfter (loads 1 tetrahedron ∷ setsLock true 1 ∷ []) c small)
+  pub n19InStep : refusalAfter (setsLock true 3 ∷ []) (changes steps) solid ≡ 19
+  pub ringBeforeLock : refusalAfter (setsLock true 0 ∷ []) (changes steps) pyramid ≡ 13
+  pub n19InList : map (λ c. refusalAfter (setsLock true 1 ∷ []) c solid)
       (changes (refinesEach (0 ∷ 1 ∷ []) (sevens 6 9)) ∷ asks (previewOf (0 ∷ 1 ∷ []) (sevens 6 9)) ∷ [])
       ≡ 19 ∷ 19 ∷ []
   pub n19InBox : refusalAfter (loads 1 tetrahedron ∷ setsLock true 3 ∷ [])
       (changes (refinesInBox (boxOf zeroPoint zeroPoint 1) (sevens 12 20))) (fresh 12 20) ≡ 19
   -- Limits, rings and positions are read as before.
-  pub lockedIsRead : map (λ q. refusalAfter (loads 1 tetrahedron ∷ setsLock true 0 ∷ []) (asks q) small)
+  pub lockedIsRead : map (λ q. refusalAfter (setsLock true 0 ∷ []) (asks q) solid)
       (limitsOf (replicate 12 (pos 7)) ∷ ringOf 0 (7 ∷ 7 ∷ 7 ∷ []) ∷ positionOf 0 ∷ []) ≡ 0 ∷ 0 ∷ 0 ∷ []
   -- The length of the locks alone, in the mesh and in spare tables; a lock of 2 in use.
   pub n1ByLocks : refusalAfter [] (changes (loads 1 tetrahedron)) (withLocks (replicate 8 0) small) ≡ 1
-  pub n17ByLocks : refusalAfter (loads 1 tetrahedron ∷ []) (changes (refinesEach [] shortLocks)) small ≡ 17
-  pub n7ByLock : refusalAfter [] (changes (refines 0))
-      (withLocks (0 ∷ 0 ∷ 0 ∷ 2 ∷ replicate 5 0) (made (loads 1 tetrahedron ∷ []) small)) ≡ 7
+  pub n17ByLocks : refusalAfter [] (changes (refinesEach [] shortLocks)) solid ≡ 17
+  pub n7ByLock : refusalAfter [] (changes (refines 0)) (withLocks (0 ∷ 0 ∷ 0 ∷ 2 ∷ replicate 5 0) solid) ≡ 7
   -- A lock is set and cleared under 1, 7 and 8.
   pub lockRefused : map (λ c. refusalAfter [] (changes c) uneven) (setsLock true 0 ∷ setsLock false 0 ∷ []) ≡ 1 ∷ 1 ∷ []
   pub lockUnsound : map (λ c. refusalAfter [] (changes c) small) (setsLock true 0 ∷ setsLock false 0 ∷ []) ≡ 7 ∷ 7 ∷ []
-  pub lockUnused : map (λ c. refusalAfter (loads 1 tetrahedron ∷ []) (changes c) small)
+  pub lockUnused : map (λ c. refusalAfter [] (changes c) solid)
       (setsLock true 4 ∷ setsLock false 4 ∷ setsLock true 3 ∷ setsLock false 3 ∷ []) ≡ 8 ∷ 8 ∷ 0 ∷ 0 ∷ []
+  -- All triangles into tables of 0, 35, 36 and 37 numbers, after 1 and 7; one vertex under 1, 7 and 8. (Request j)
+  pub n20 : map (λ n. refusalAfter [] (asks (trianglesSeen n)) solid) (0 ∷ 35 ∷ 36 ∷ 37 ∷ []) ≡ 20 ∷ 20 ∷ 0 ∷ 0 ∷ []
+  pub tablesBeforeShort : map (λ q. refusalAfter [] (asks q) (withLocks [] solid))
+      (trianglesSeen 0 ∷ pointSeen 4 ∷ []) ≡ 1 ∷ 1 ∷ []
+  pub soundBeforeShort : map (λ q. refusalAfter [] (asks q) (withRule 3 solid))
+      (trianglesSeen 0 ∷ pointSeen 4 ∷ []) ≡ 7 ∷ 7 ∷ []
+  pub unusedUnseen : map (λ v. refusalAfter [] (asks (pointSeen v)) solid) (3 ∷ 4 ∷ []) ≡ 0 ∷ 8 ∷ []
 
 pub refusals : Table
-unfolding computing fresh sevens small uneven tetrahedron cageAtOrigin triangle hinge foilCage foilLast foilFirst tooFar
-    grown shell tooFine boxesRefused doublePyramid lockedInTurn shortLocks
+unfolding computing fresh sevens small solid uneven tetrahedron cageAtOrigin triangle hinge foilCage foilLast foilFirst
+    tooFar grown shell tooFine boxesRefused doublePyramid pyramid lockedInTurn chained cutAtBoundary shortLocks
 refusals = record {
   n1 = refl;
   n2 = refl;
@@ -254,4 +276,8 @@ refusals = record {
   lockRefused = refl;
   lockUnsound = refl;
   lockUnused = refl;
+  n20 = refl;
+  tablesBeforeShort = refl;
+  soundBeforeShort = refl;
+  unusedUnseen = refl;
 }

@@ -10,14 +10,15 @@ use lib.ListN.{length}
 use Rattle.rules.proofs.Boxes.BoxCall.{box-refusal, box-makes, box-refused-first, box-stops, fails-same}
 use Rattle.rules.proofs.Boxes.BoxCall.{box-in-spares, nothing-wanted, box-twice, turn-takes}
 use Rattle.rules.proofs.Calls.CallRefusals.{load-refusal, refine-refusal, whole-step-refusal, ring-refusal}
-use Rattle.rules.proofs.Calls.CallRefusals.{lock-refusal, position-refusal, limit-refusal, taken-at-boundary}
+use Rattle.rules.proofs.Calls.CallRefusals.{lock-refusal, view-refusal, position-refusal, limit-refusal}
+use Rattle.rules.proofs.Calls.CallRefusals.{taken-at-boundary}
 use Rattle.rules.proofs.Calls.Carried.{may-refine}
 use Rattle.rules.proofs.Calls.EveryCall.{refused-is, no-ten}
 use Rattle.rules.proofs.Calls.Histories.{every-history, history-sound, history-keeps-sound, history-none-of-two}
 use Rattle.rules.proofs.Loads.InnerOfTwo.{some-inner-of-two-is, back-to-back}
 use Rattle.rules.proofs.Loads.Load.{links-are}
 use Rattle.rules.proofs.Calls.Outcomes.{load-makes, refine-makes, chain-falls, refine-is-split}
-use Rattle.rules.proofs.Calls.Outcomes.{whole-step-makes, lock-makes, limit-makes, ring-reads, position-reads}
+use Rattle.rules.proofs.Calls.Outcomes.{whole-step-makes, lock-makes, limit-makes, ring-reads, position-reads, view-reads}
 use Rattle.rules.proofs.Chains.Refine.{chain-counts, chain-takes}
 use Rattle.rules.proofs.Lists.Entries.{handled-then}
 use Rattle.rules.proofs.Lists.ListCall.{list-refusal, list-makes, list-stops}
@@ -37,7 +38,9 @@ use Rattle.rules.specs.Cage.{Cage, cageOf, loaded, someInnerOfTwo}
 use Rattle.rules.specs.Calls.{outcomeOf, worked, loadCall, refineCall, wholeStepCall, ringRead, ringCall}
 use Rattle.rules.specs.Calls.{positionRead, positionCall, limitRead, limitCall, splitsOf}
 use Rattle.rules.specs.Calls.{rimSplitsOf, verticesOf, trianglesOf, spareRoom, refusedWith, withLock, lockCall}
+use Rattle.rules.specs.Calls.{viewRead, viewCall}
 use Rattle.rules.specs.Conditions.{SidesDiffer, EndsAtBoundary, OddInChain, First, loadConditions, lockConditions}
+use Rattle.rules.specs.Conditions.{viewConditions}
 use Rattle.rules.specs.Conditions.{refineConditions, wholeStepConditions, limitConditions, ringConditions}
 use Rattle.rules.specs.Conditions.{positionConditions, listConditions, Takes, FailsAfter}
 use Rattle.rules.specs.Conditions.{SizesFit, CornersFit, FansFit, InnerOfTwo, SomeInnerOfTwo}
@@ -110,6 +113,10 @@ ring-returns = ring-refusal
 pub position-returns : (v : ℕ) (m : Mesh) → First (positionConditions v m) (positionCall v m .answer .refusal)
 position-returns = position-refusal
 
+-- So does a call for all triangles for a viewer; for one vertex it is a position query.
+pub view-returns : (n : ℕ) (m : Mesh) → First (viewConditions n m) (viewCall n m .answer .refusal)
+view-returns = view-refusal
+
 -- So does a limit query.
 pub limit-returns : (table : List ℤ) (m : Mesh) → First (limitConditions table m) (limitCall table m .answer .refusal)
 limit-returns = limit-refusal
@@ -130,7 +137,7 @@ never-ten = no-ten
 
 -- A refused call answers its number with zeros and the counts as they stood, and leaves the mesh and what it is lent;
 -- of spare tables that were worked in, the slots in use of the last good mesh hold that, the others keep their content,
--- and the answer tells of them.
+-- and the answer tells of them. That a viewer's f32 are left too is shown in the crate `viewer`.
 pub refusal-leaves : (c : Call) (m : Mesh) → outcome c m .answer .refusal ≢ 0
     → outcome c m ≡ refusedAs c (outcome c m .answer .refusal) m
 refusal-leaves = refused-is
@@ -417,6 +424,10 @@ ring-carried = ring-reads
 pub position-carried : (v : ℕ) (m : Mesh) → positionCall v m .answer .refusal ≡ 0
     → positionCall v m ≡ positionRead v m
 position-carried = position-reads
+
+-- A call for all triangles that is carried out leaves the mesh; the crate `viewer` says what it writes. (Request j)
+pub view-carried : (n : ℕ) (m : Mesh) → viewCall n m .answer .refusal ≡ 0 → viewCall n m ≡ viewRead m
+view-carried = view-reads
 
 -- ---- every history (the customer's third demand)
 

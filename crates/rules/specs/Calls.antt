@@ -35,7 +35,8 @@ pub record Answer : Type 0 where
   pub spareTriangles : ℕ
   pub spareRule : ℕ
 
--- What a call is lent beside the mesh: a ring buffer, a table of points, spare tables. What it is not lent is empty.
+-- What a call is lent beside the mesh: a ring buffer, a table of points, spare tables. What it is not lent is empty. Of
+-- a viewer's f32 the crate `viewer` tells.
 pub record Room : Type 0 where
   pub buffer : List ℕ
   pub table : List ℤ
@@ -229,6 +230,15 @@ unfoldable pub positionRefusal : ℕ → Mesh → ℕ
 positionRefusal v m =
     firstOf (1 if not (tablesAgree m) ∷ 7 if not (isSound m) ∷ 8 if leb (m .topology .vertices) v ∷ [])
 
+unfoldable pub viewRefusal : ℕ → Mesh → ℕ
+viewRefusal n m =
+    firstOf (
+    1 if not (tablesAgree m)
+    ∷ 7 if not (isSound m)
+    ∷ 20 if ltb n (9 * m .topology .triangles)
+    ∷ []
+    )
+
 -- ---- the calls
 
 -- The outcome where nothing is refused, and else the refusal, with what it leaves of the room.
@@ -282,3 +292,12 @@ positionRead v m = outcomeOf (answerOf 0 0 0 0 (coordinate m v 0, coordinate m v
 -- (Rings and positions)
 unfoldable pub positionCall : ℕ → Mesh → Outcome
 positionCall v m = unless (positionRefusal v m) m noRoom (positionRead v m)
+
+-- All triangles for a viewer, nine numbers each, into a table of n. The crate `viewer`, which knows f32, says
+-- what the table then holds; here the mesh is read. (Request j)
+abbrev pub viewRead : Mesh → Outcome
+viewRead m = outcomeOf (answerOf 0 0 0 0 zeroPoint m) m noRoom
+
+-- (Request j)
+unfoldable pub viewCall : ℕ → Mesh → Outcome
+viewCall n m = unless (viewRefusal n m) m noRoom (viewRead m)

@@ -293,6 +293,9 @@ ringConditions v buffer m =
 abbrev pub positionConditions : ℕ → Mesh → List Condition
 positionConditions v m = 1 when (¬ TablesAgree m) ∷ 7 when (¬ Sound m) ∷ 8 when (¬ (v < m .topology .vertices)) ∷ []
 
+abbrev pub viewConditions : ℕ → Mesh → List Condition
+viewConditions n m = 1 when (¬ TablesAgree m) ∷ 7 when (¬ Sound m) ∷ 20 when (n < 9 * m .topology .triangles) ∷ []
+
 -- One entry alone is the first that fails. The four exclude each other, so their order decides nothing.
 abbrev pub entryConditions : List ℕ → Mesh → List Condition
 entryConditions list m =

@@ -10,7 +10,7 @@ use Rattle.rules.specs.Below.{any, count, total}
 use Rattle.rules.specs.Boxes.{Box, boxCall}
 use Rattle.rules.specs.Cage.{Cage, cageOf}
 use Rattle.rules.specs.Calls.{Outcome, loadCall}
-use Rattle.rules.specs.Calls.{refineCall, wholeStepCall, lockCall, ringCall, positionCall, limitCall}
+use Rattle.rules.specs.Calls.{refineCall, wholeStepCall, lockCall, ringCall, positionCall, limitCall, viewCall}
 use Rattle.rules.specs.Conditions.{OddInChain, EndsAtBoundary}
 use Rattle.rules.specs.Lists.{listCall, previewCall}
 use Rattle.rules.specs.Spares.{Spares}
@@ -28,12 +28,15 @@ pub data Change : Type 0 where
   setsLock : Bool → ℕ → Change
 
 -- A call that reads the mesh: a vertex and a ring buffer, a vertex, a table for limit positions, a list of triangles
--- and spare tables. A preview answers the counts that the list would leave; those of the mesh stand.
+-- and spare tables; and for a viewer a vertex, which is a position query, and the length of a table. A preview
+-- answers the counts that the list would leave; those of the mesh stand.
 pub data Question : Type 0 where
   ringOf : ℕ → List ℕ → Question
   positionOf : ℕ → Question
   limitsOf : List ℤ → Question
   previewOf : List ℕ → Spares → Question
+  pointSeen : ℕ → Question
+  trianglesSeen : ℕ → Question
 
 -- A call of either kind.
 pub data Call : Type 0 where
@@ -54,6 +57,8 @@ asked (ringOf v buffer) m = ringCall v buffer m
 asked (positionOf v) m = positionCall v m
 asked (limitsOf table) m = limitCall table m
 asked (previewOf list spares) m = previewCall list spares m
+asked (pointSeen v) m = positionCall v m
+asked (trianglesSeen n) m = viewCall n m
 
 abbrev pub outcome : Call → Mesh → Outcome
 outcome (changes c) m = changed c m

@@ -11,7 +11,7 @@ use Rattle.rules.specs.Boxes.{Box}
 use Rattle.rules.specs.Cage.{cageOf}
 use Rattle.rules.specs.Calls.{Answer, Room, Outcome, outcomeOf}
 use Rattle.rules.specs.History.{Call, changes, asks, loads, refines, steps, refinesEach, refinesInBox, setsLock}
-use Rattle.rules.specs.History.{ringOf, positionOf, limitsOf, previewOf, outcome}
+use Rattle.rules.specs.History.{ringOf, positionOf, limitsOf, previewOf, pointSeen, trianglesSeen, outcome}
 use Rattle.rules.specs.Spares.{Spares}
 use Rattle.rules.specs.Tables.{Mesh, withPositions}
 
@@ -105,6 +105,8 @@ pub data Mirrors (k : ℕ) : Call → Call → Type 0 where
   limit : {table : List ℤ} → Mirrors k (asks (limitsOf table)) (asks (limitsOf (mirrorTable k table)))
   preview : {entries : List ℕ} {spares : Spares}
       → Mirrors k (asks (previewOf entries spares)) (asks (previewOf entries (mirrorSpares k spares)))
+  point : {v : ℕ} → Mirrors k (asks (pointSeen v)) (asks (pointSeen v))
+  triangles : {n : ℕ} → Mirrors k (asks (trianglesSeen n)) (asks (trianglesSeen n))
 
 -- The calls that round by the rule.
 pub data Rounds : Call → Type 0 where

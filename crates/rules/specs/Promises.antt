@@ -16,8 +16,8 @@ use Rattle.rules.specs.Calls.{splitsOf, rimSplitsOf}
 use Rattle.rules.specs.Cage.{Cage}
 use Rattle.rules.specs.Conditions.{InnerOfTwo, Risen, Handled, Wanted, Turns}
 use Rattle.rules.specs.History.{Call, changes, asks, loads, refines, steps, refinesEach, refinesInBox, setsLock}
-use Rattle.rules.specs.History.{ringOf, positionOf, limitsOf, previewOf, outcome, ReportsSplits, edges}
-use Rattle.rules.specs.History.{cageEdges}
+use Rattle.rules.specs.History.{ringOf, positionOf, limitsOf, previewOf, pointSeen, trianglesSeen, outcome, ReportsSplits}
+use Rattle.rules.specs.History.{edges, cageEdges}
 use Rattle.rules.specs.Lists.{Progress, refineEach, sparesRefusal, sparesAnswer}
 use Rattle.rules.specs.Numbers.{InRange, weight}
 use Rattle.rules.specs.Ring.{OnBoundary, triangleCount, firstSide, fan, ring}
@@ -92,6 +92,8 @@ refusedAs (asks (ringOf v buffer)) n m = refusedWith n m (ringRoom buffer)
 refusedAs (asks (positionOf v)) n m = refusedWith n m noRoom
 refusedAs (asks (limitsOf table)) n m = refusedWith n m (tableRoom table)
 refusedAs (asks (previewOf list spares)) n m = refusedList list spares n m
+refusedAs (asks (pointSeen v)) n m = refusedWith n m noRoom
+refusedAs (asks (trianglesSeen k)) n m = refusedWith n m noRoom
 
 -- ---- load (Load)
 

@@ -5,7 +5,7 @@ ghost use Prim.Native.Nat.{_*_, _≤_};
 ghost use lib.IntN.{pos};
 ghost use lib.ListN.{length, getD};
 ghost use Rattle.rules.specs.Below.{fill};
-ghost use Rattle.rules.specs.Spares.{copied};
+ghost use Rattle.rules.specs.Spares.{copied, sameSizes};
 ghost use Rattle.tables.specs.Lent.{meshNow, sparesNow, HasSlots};
 
 // The first entries of one table into another.
@@ -45,6 +45,41 @@ fn copy_bytes(from: &[u8], count: usize, to: &mut [u8])
         to[i] = from[i];
         i += 1;
     }
+}
+
+// Whether the spare tables are as long as those of the mesh.
+pub fn same_sizes(
+    positions: &[i32],
+    corners: &[u32],
+    links: &[u32],
+    generations: &[u8],
+    locks: &[u8],
+    counts: Counts,
+    spare_positions: &[i32],
+    spare_corners: &[u32],
+    spare_links: &[u32],
+    spare_generations: &[u8],
+    spare_locks: &[u8],
+) -> bool
+    ensures { λ r. ⌜
+        r ≡ sameSizes (sparesNow (now («spare_positions» .entry)) (now («spare_corners» .entry))
+        (now («spare_links» .entry)) (now («spare_generations» .entry)) (now («spare_locks» .entry)))
+        (meshNow counts (now (positions .entry)) (now (corners .entry)) (now (links .entry))
+        (now (generations .entry)) (now (locks .entry))) ⌝ }
+{
+    if spare_positions.len() != positions.len() {
+        return false;
+    }
+    if spare_corners.len() != corners.len() {
+        return false;
+    }
+    if spare_links.len() != links.len() {
+        return false;
+    }
+    if spare_generations.len() != generations.len() {
+        return false;
+    }
+    spare_locks.len() == locks.len()
 }
 
 // What a mesh has in use into the same slots of spare tables.

@@ -3,10 +3,11 @@ use borrow.Author.Needs.{needs}
 use mathlib.Core.List.{List}
 use mathlib.Core.Path.{refl}
 use Prim.Native.Nat.{ℕ}
+use Rattle.points.specs.Axes.{boxOf}
 use Rattle.rules.specs.Boxes.{Box}
 use Rattle.rules.specs.Tables.{Mesh}
 use Rattle.tables.specs.Lent.{meshNow}
-use Rattle.boxing.specs.Boxing.{boxOf, SeenFrom, Refines, Stale, Looks}
+use Rattle.boxing.specs.Boxing.{SeenFrom, Refines, Stale, Looks}
 use Rattle.refining.proofs.Locking.{follows}
 use Rattle.refining.proofs.Refusing.{sound-standing}
 use Rattle.boxing.proofs.Turn.{refine-carried, refined-sound, stale, seen-after, sees-new}

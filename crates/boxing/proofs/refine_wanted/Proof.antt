@@ -6,6 +6,7 @@ use Prim.Native.Nat.{ℕ, _+_, _-_, _*_, _≤_, _<_}
 use native.Mathlib.Omega.{arith}
 use lib.ListN.{length}
 use Rattle.marks.specs.Marks.{marked}
+use Rattle.points.specs.Axes.{boxOf}
 use Rattle.rules.proofs.Boxes.InSpares.{Boxing, boxing-few, boxing-on, boxing-stops, boxing-ends}
 use Rattle.rules.proofs.Lists.Holding.{Done, holding-sound, holding-few}
 use Rattle.rules.proofs.Soundness.Relaxed.{SameSlots}
@@ -19,7 +20,7 @@ use Rattle.rules.specs.Tables.{Mesh}
 use Rattle.tables.specs.Answers.{workedOutcome}
 use Rattle.tables.specs.Lent.{meshNow}
 use Rattle.refining.specs.Batches.{Begins}
-use Rattle.boxing.specs.Boxing.{boxOf, SeenFrom, Looks, Marked}
+use Rattle.boxing.specs.Boxing.{SeenFrom, Looks, Marked}
 use Rattle.refining.proofs.Batching.{over-slots}
 use Rattle.boxing.proofs.Begins.{begins-boxing, begins-sound}
 use Rattle.boxing.proofs.Turn.{refine-carried, lowest-wanted, none-wanted, marked-all, unmarked-fit}

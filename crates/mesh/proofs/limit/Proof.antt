@@ -15,19 +15,19 @@ mesh-of c =
     meshNow (args .counts) (args .positions .now) (args .corners .now) (args .links .now) (args .generations .now)
     (args .locks .now)
 
-not-sound-requires : tie.Need-not-sound-requires
-not-sound-requires c κs = search needs
+first-refusal-requires : tie.Need-first-refusal-requires
+first-refusal-requires c κs = search needs
 
 returns : tie.Need-returns
 returns c =
     let at = c .before in
     let start = at .before .before .before .before .before in
     let m = mesh-of start in
-    limit-refused _ m _ (limit-standing _ m _ (at .not-sound .ensures) (c .if1 .taken)) (c .if1 .taken)
+    limit-refused _ m _ (limit-standing _ m _ (at .first-refusal .ensures) (c .if1 .taken)) (c .if1 .taken)
 
 -- The mesh is sound with the locks that are lent.
 sound-at : (c : tie.Else1) → Sound (mesh-of (c .before .before .before .before .before .before))
-sound-at c = standing-sound _ _ (c .before .not-sound .ensures) (c .if1 .left)
+sound-at c = standing-sound _ _ (c .before .first-refusal .ensures) (c .if1 .left)
 
 limit-positions-requires : tie.Need-limit-positions-requires
 limit-positions-requires c κs = (_, sound-at (c .before))
@@ -39,4 +39,4 @@ returns-2 : tie.Need-returns-2
 returns-2 c = c .before .limit-positions .ensures _ (sound-at (c .before .before .before))
 
 pub limit-spec : {M : Type 1} → statement M
-limit-spec = tie.close (tie.spec not-sound-requires returns limit-positions-requires same-length returns-2)
+limit-spec = tie.close (tie.spec first-refusal-requires returns limit-positions-requires same-length returns-2)

@@ -24,12 +24,13 @@ use Rattle.rules.specs.Calls.{noRoom, ringRoom, tableRoom, limitRefusal,
 use Rattle.rules.specs.Calls.{worked, roomFor, closedEven, loadRefusal}
 use Rattle.rules.specs.Calls.{refineRefusal, wholeStepRefusal, ringRefusal, positionRefusal, loadCall, refineCall}
 use Rattle.rules.specs.Calls.{wholeStepCall, ringRead, ringCall, positionRead, positionCall, verticesOf}
-use Rattle.rules.specs.Calls.{trianglesOf, tooOld, someLocked, lockRefusal, withLock, lockCall}
+use Rattle.rules.specs.Calls.{trianglesOf, tooOld, someLocked, lockRefusal, withLock, lockCall, viewRefusal}
+use Rattle.rules.specs.Calls.{viewRead, viewCall}
 use Rattle.rules.specs.Conditions.{OddInChain, atEven, atBoundary, onward, RoomFor, TooFewSlots}
 use Rattle.rules.specs.Conditions.{ClosedEven, First, none, LongRing, loadConditions, refineConditions}
 use Rattle.rules.specs.Conditions.{wholeStepConditions, limitConditions, ringConditions, positionConditions}
 use Rattle.rules.specs.Conditions.{Takes, evenEnd, boundaryEnd, TooOld, EndsAtBoundary, SomeLocked}
-use Rattle.rules.specs.Conditions.{lockConditions}
+use Rattle.rules.specs.Conditions.{lockConditions, viewConditions}
 use Rattle.rules.specs.Ring.{ring}
 use Rattle.rules.specs.Sound.{Sound}
 use Rattle.rules.specs.Split.{atFirst, refine}
@@ -183,6 +184,12 @@ position-refusal-first v m =
     first-unless 1 (tables-agree-is m)
     (λ A. first-unless 7 (sound-is m) (λ S. first-if 8 (unused-is v (m .topology .vertices)) (λ _. none)))
 
+pub view-refusal-first : (n : ℕ) (m : Mesh) → First (viewConditions n m) (viewRefusal n m)
+unfolding viewRefusal
+view-refusal-first n m =
+    first-unless 1 (tables-agree-is m)
+    (λ A. first-unless 7 (sound-is m) (λ S. first-if 20 (is-lt n (9 * m .topology .triangles)) (λ _. none)))
+
 -- ---- each call is refused, or its outcome is the one that the rules give
 
 pub load-judged : (rule : ℕ) (bytes : List ℕ) (m : Mesh)
@@ -220,6 +227,10 @@ pub position-judged : (v : ℕ) (m : Mesh) → Judged (positionRefusal v m) m no
 unfolding positionCall
 position-judged v m = judged (positionRefusal v m) m noRoom (positionRead v m)
 
+pub view-judged : (n : ℕ) (m : Mesh) → Judged (viewRefusal n m) m noRoom (viewRead m) (viewCall n m)
+unfolding viewCall
+view-judged n m = judged (viewRefusal n m) m noRoom (viewRead m)
+
 -- ---- the number that a call returns
 
 pub load-refusal : (rule : ℕ) (bytes : List ℕ) (m : Mesh)
@@ -244,3 +255,6 @@ ring-refusal v buffer m = rw (judged-refusal refl (ring-judged v buffer m)) (rin
 
 pub position-refusal : (v : ℕ) (m : Mesh) → First (positionConditions v m) (positionCall v m .answer .refusal)
 position-refusal v m = rw (judged-refusal refl (position-judged v m)) (position-refusal-first v m)
+
+pub view-refusal : (n : ℕ) (m : Mesh) → First (viewConditions n m) (viewCall n m .answer .refusal)
+view-refusal n m = rw (judged-refusal refl (view-judged n m)) (view-refusal-first n m)

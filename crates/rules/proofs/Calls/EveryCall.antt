@@ -6,13 +6,13 @@ use Rattle.rules.proofs.Boxes.BoxCall.{box-refusal, box-refused-is}
 use Rattle.rules.proofs.Calls.CallRefusals.{load-judged, refine-judged, whole-step-judged, ring-judged}
 use Rattle.rules.proofs.Calls.CallRefusals.{position-judged, limit-judged, load-refusal, refine-refusal}
 use Rattle.rules.proofs.Calls.CallRefusals.{whole-step-refusal, ring-refusal, position-refusal, limit-refusal}
-use Rattle.rules.proofs.Calls.CallRefusals.{lock-judged, lock-refusal}
+use Rattle.rules.proofs.Calls.CallRefusals.{lock-judged, lock-refusal, view-judged, view-refusal}
 use Rattle.rules.proofs.Calls.FirstThatHolds.{Judged, carried, refused, judged-refused, first-not}
 use Rattle.rules.proofs.Lists.ListCall.{list-refusal, list-refused-is}
 use Rattle.rules.proofs.Lists.Preview.{preview-refusal, preview-refused-is, preview-stands}
 use Rattle.rules.specs.Calls.{Room, Outcome}
 use Rattle.rules.specs.History.{loads, refines, steps, setsLock, refinesEach, refinesInBox, Question}
-use Rattle.rules.specs.History.{ringOf, positionOf, limitsOf, previewOf, asked, Call, changes, asks, outcome}
+use Rattle.rules.specs.History.{pointSeen, trianglesSeen, ringOf, positionOf, limitsOf, previewOf, asked, Call, changes, asks, outcome}
 use Rattle.rules.specs.Promises.{refusedAs}
 use Rattle.rules.specs.Tables.{Mesh}
 
@@ -28,6 +28,8 @@ refused-is (asks (ringOf v buffer)) m = judged-refused refl (ring-judged v buffe
 refused-is (asks (positionOf v)) m = judged-refused refl (position-judged v m)
 refused-is (asks (limitsOf table)) m = judged-refused refl (limit-judged table m)
 refused-is (asks (previewOf list spares)) m = preview-refused-is list spares m
+refused-is (asks (pointSeen v)) m = judged-refused refl (position-judged v m)
+refused-is (asks (trianglesSeen n)) m = judged-refused refl (view-judged n m)
 
 -- A question leaves the mesh.
 judged-stands : {n : ℕ} {m : Mesh} {room : Room} {success o : Outcome} → success .mesh ≡ m
@@ -40,6 +42,8 @@ question-stands (ringOf v buffer) m = judged-stands refl (ring-judged v buffer m
 question-stands (positionOf v) m = judged-stands refl (position-judged v m)
 question-stands (limitsOf table) m = judged-stands refl (limit-judged table m)
 question-stands (previewOf list spares) m = preview-stands list spares m
+question-stands (pointSeen v) m = judged-stands refl (position-judged v m)
+question-stands (trianglesSeen n) m = judged-stands refl (view-judged n m)
 
 -- No call returns 10, on any mesh.
 pub no-ten : (c : Call) (m : Mesh) → outcome c m .answer .refusal ≢ 10
@@ -53,3 +57,5 @@ no-ten (asks (ringOf v buffer)) m = first-not 10 (ring-refusal v buffer m) tt
 no-ten (asks (positionOf v)) m = first-not 10 (position-refusal v m) tt
 no-ten (asks (limitsOf table)) m = first-not 10 (limit-refusal table m) tt
 no-ten (asks (previewOf list spares)) m = first-not 10 (preview-refusal list spares m) tt
+no-ten (asks (pointSeen v)) m = first-not 10 (position-refusal v m) tt
+no-ten (asks (trianglesSeen n)) m = first-not 10 (view-refusal n m) tt

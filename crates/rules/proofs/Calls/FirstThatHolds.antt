@@ -7,9 +7,10 @@ use Prim.Native.Nat.{ℕ, zero, suc, _<_}
 use native.Mathlib.Omega.{arith}
 use lib.Dec.{T, ltb, eqb}
 use Rattle.rules.proofs.Numbers.Decide.{Decides, is-self, is-lt, is-not, stable, is-and, is-eq}
-use Rattle.rules.specs.Calls.{Room, Outcome, refusedWith, unless}
+use Rattle.rules.specs.Calls.{Room, Outcome, Test, _if_, firstOf, refusedWith, unless}
 use Rattle.rules.specs.Conditions.{Condition, _when_, First, this, later, none}
-use Rattle.rules.specs.Tables.{Mesh}
+use Rattle.rules.specs.Sound.{isSound}
+use Rattle.rules.specs.Tables.{Mesh, tablesAgree}
 
 -- A condition that holds where its test passes. What comes after may use that it does not hold.
 pub first-if : (n : ℕ) {b : Bool} {P : Type 0} {k : ℕ} {rest : List Condition} → Decides b P → (¬ P → First rest k)
@@ -69,6 +70,37 @@ pub first-not : {conditions : List Condition} {n : ℕ} (k : ℕ) → First cond
 first-not k none t = λ e. not-zero k (sym e) (is-lt 0 k .holds t)
 first-not k (this {n} {rest = rest} p) t = without-both n k (without k rest) t .0
 first-not k (later {n} {rest = rest} q f) t = first-not k f (without-both n k (without k rest) t .1)
+
+-- ---- the two tests that every call but load begins with
+
+-- Where one of the first two tests refuses, the later ones do not matter; where none does, they decide.
+pub two-kept : (a b : Bool) (rest : List Test) (r : ℕ) → r ≡ firstOf (1 if a ∷ 7 if b ∷ []) → r ≢ 0
+    → r ≡ firstOf (1 if a ∷ 7 if b ∷ rest)
+two-kept true b rest r e x = e
+two-kept false true rest r e x = e
+two-kept false false rest r e x = absurd (x e)
+
+pub two-passed : (a b : Bool) (rest : List Test) (r : ℕ) → r ≡ firstOf (1 if a ∷ 7 if b ∷ []) → r ≡ 0
+    → firstOf (1 if a ∷ 7 if b ∷ rest) ≡ firstOf rest
+two-passed true b rest r e z = absurd (omega arith)
+two-passed false true rest r e z = absurd (omega arith)
+two-passed false false rest r e z = refl
+
+-- One test after them, by the answer r to the two.
+module _ (m : Mesh) (k : ℕ) (t : Bool) (r : ℕ) (e : r ≡ firstOf (1 if not (tablesAgree m) ∷ 7 if not (isSound m) ∷ []))
+  where
+    abbrev thirdOf : ℕ
+    thirdOf = firstOf (1 if not (tablesAgree m) ∷ 7 if not (isSound m) ∷ k if t ∷ [])
+
+    pub third-kept : r ≢ 0 → r ≡ thirdOf
+    third-kept = two-kept (not (tablesAgree m)) (not (isSound m)) (k if t ∷ []) r e
+
+    module _ (z : r ≡ 0) where
+      pub third-holds : t ≡ true → k ≡ thirdOf
+      third-holds x = sym (two-passed (not (tablesAgree m)) (not (isSound m)) (k if t ∷ []) r e z ∙ rw x refl)
+
+      pub third-none : t ≡ false → 0 ≡ thirdOf
+      third-none x = sym (two-passed (not (tablesAgree m)) (not (isSound m)) (k if t ∷ []) r e z ∙ rw x refl)
 
 -- ---- what a refusal leaves
 

@@ -10,7 +10,7 @@ use lib.ListN.{length}
 use Rattle.rules.proofs.Loads.CageEdges.{load-edges}
 use Rattle.rules.proofs.Calls.CallRefusals.{load-judged, refine-judged, whole-step-judged, ring-judged}
 use Rattle.rules.proofs.Calls.CallRefusals.{position-judged, limit-judged, limit-refusal-first, closed-even-is}
-use Rattle.rules.proofs.Calls.CallRefusals.{lock-judged}
+use Rattle.rules.proofs.Calls.CallRefusals.{lock-judged, view-judged}
 use Rattle.rules.proofs.Calls.Carried.{load-found, refine-found, found-refined, step-found, found-step}
 use Rattle.rules.proofs.Calls.Carried.{lock-found, found-locked}
 use Rattle.rules.proofs.Chains.Chain.{falls}
@@ -26,7 +26,7 @@ use Rattle.rules.proofs.Loads.Load.{loaded-loads, links-are, load-sound
 use Rattle.rules.proofs.Soundness.Relaxed.{sound-manifold, sound-bases}
 use Rattle.rules.specs.Cage.{Cage, cageOf, loaded}
 use Rattle.rules.specs.Calls.{worked, loadCall, refineCall, wholeStepCall, ringRead, ringCall, positionRead}
-use Rattle.rules.specs.Calls.{positionCall, limitRead, limitCall, withLock, lockCall}
+use Rattle.rules.specs.Calls.{positionCall, limitRead, limitCall, withLock, lockCall, viewRead, viewCall}
 use Rattle.rules.specs.Promises.{Loaded, ChainFalls, RefineMakes, StepMakes, LockMakes, LimitMakes, kobbelt}
 use Rattle.rules.specs.Sound.{Sound}
 use Rattle.rules.specs.Split.{atFirst, refine}
@@ -153,6 +153,9 @@ limit-makes table m z =
 pub ring-reads : (v : ℕ) (buffer : List ℕ) (m : Mesh) → ringCall v buffer m .answer .refusal ≡ 0
     → ringCall v buffer m ≡ ringRead v buffer m
 ring-reads v buffer m z = judged-carried (ring-judged v buffer m) z .1
+
+pub view-reads : (n : ℕ) (m : Mesh) → viewCall n m .answer .refusal ≡ 0 → viewCall n m ≡ viewRead m
+view-reads n m z = judged-carried (view-judged n m) z .1
 
 pub position-reads : (v : ℕ) (m : Mesh) → positionCall v m .answer .refusal ≡ 0 → positionCall v m ≡ positionRead v m
 position-reads v m z = judged-carried (position-judged v m) z .1

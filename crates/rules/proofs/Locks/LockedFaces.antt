@@ -24,7 +24,7 @@ use Rattle.rules.specs.Boxes.{refineInBox, boxRefusal}
 use Rattle.rules.specs.Calls.{Outcome, wholeStepCall, lockCall, withLock}
 use Rattle.rules.specs.Conditions.{Locked, SomeLocked}
 use Rattle.rules.specs.History.{loads, refines, steps, refinesEach, refinesInBox, setsLock, Call, changes, asks}
-use Rattle.rules.specs.History.{ringOf, positionOf, limitsOf, previewOf, outcome, after}
+use Rattle.rules.specs.History.{ringOf, positionOf, limitsOf, previewOf, pointSeen, trianglesSeen, outcome, after}
 use Rattle.rules.specs.Lists.{Progress, refineEach, sparesRefusal}
 use Rattle.rules.specs.Promises.{refusedWork, refusedAs, SameLocks, Still, LockMakes, Stands, NoLoad, NoClearing}
 use Rattle.rules.specs.Promises.{LeaveLocked}
@@ -51,6 +51,8 @@ refused-mesh (changes (setsLock on t)) n m = refl
 refused-mesh (asks (ringOf v buffer)) n m = refl
 refused-mesh (asks (positionOf v)) n m = refl
 refused-mesh (asks (limitsOf table)) n m = refl
+refused-mesh (asks (pointSeen v)) n m = refl
+refused-mesh (asks (trianglesSeen k)) n m = refl
 refused-mesh (asks (previewOf list spares)) n m = refused-work (sparesRefusal spares m) (refineEach list m) spares n m
 
 -- A refused call leaves the mesh.

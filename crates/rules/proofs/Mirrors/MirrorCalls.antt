@@ -8,19 +8,19 @@ use Rattle.rules.proofs.Mirrors.MirrorBoxes.{turns-mirror, box-refused}
 use Rattle.rules.proofs.Mirrors.MirrorLists.{mirrorProgress, handle-all-mirror, copied-mirror}
 use Rattle.rules.proofs.Mirrors.MirrorRefusals.{load-refused, refine-refused, step-refused, limit-refused}
 use Rattle.rules.proofs.Mirrors.MirrorRefusals.{lock-refused, ring-refused, position-refused, spares-refused}
-use Rattle.rules.proofs.Mirrors.MirrorRefusals.{loaded-mirror}
+use Rattle.rules.proofs.Mirrors.MirrorRefusals.{view-refused, loaded-mirror}
 use Rattle.rules.proofs.Mirrors.MirrorTables.{coordinate-mirror}
 use Rattle.rules.proofs.Mirrors.MirrorWork.{mirrorWork, refine-mirror, step-mirror, limits-mirror}
 use Rattle.rules.proofs.Mirrors.Opposites.{mirror-zero}
 use Rattle.rules.specs.Below.{fill}
 use Rattle.rules.specs.Boxes.{refineInBox, boxCall}
 use Rattle.rules.specs.Calls.{Room, Outcome, ringRoom, tableRoom, spareRoom, zeroPoint, worked, unless, loadCall}
-use Rattle.rules.specs.Calls.{refineCall, wholeStepCall, lockCall, limitCall, ringCall, positionCall}
+use Rattle.rules.specs.Calls.{refineCall, wholeStepCall, lockCall, limitCall, ringCall, positionCall, viewCall}
 use Rattle.rules.specs.History.{Call, outcome, after}
 use Rattle.rules.specs.Lists.{Progress, begun, refineEach, allOrNothing, listCall, previewCall}
 use Rattle.rules.specs.Mirror.{mirrorPoint, mirrorTable, mirror, mirrorSpares, mirrorRoom, mirrorOutcome}
 use Rattle.rules.specs.Mirror.{Mirrors, Rounds, load, refine, step, list, box, lock, ring, position, limit}
-use Rattle.rules.specs.Mirror.{preview, MirrorsEach, none, next}
+use Rattle.rules.specs.Mirror.{preview, point, triangles, MirrorsEach, none, next}
 use Rattle.rules.specs.Spares.{Spares}
 use Rattle.rules.specs.Split.{Work, atFirst}
 use Rattle.rules.specs.Tables.{Mesh, triangleSlots, withRule}
@@ -75,9 +75,16 @@ module _ (k : ℕ) (m : Mesh) where
   list-mirror entries spares =
       in-spares (refineEach entries m) spares (spares-refused k m spares) (handle-all-mirror k m entries (begun m))
 
+  position-mirror : (v : ℕ) → positionCall v (mirror k m) ≡ mirrorOutcome k (positionCall v m)
+  unfolding positionCall
+  position-mirror v =
+      let at = coordinate-mirror k m v in
+      unless-mirror _ _ (position-refused k m v) (ring-room [])
+      (rw (at 0 (omega arith), at 1 (omega arith), at 2 (omega arith), ring-room []))
+
   pub call-mirror : {c c′ : Call} → Mirrors k c c′ → (Rounds c → m .rule ≡ 2)
       → outcome c′ (mirror k m) ≡ mirrorOutcome k (outcome c m)
-  unfolding loadCall refineCall wholeStepCall boxCall lockCall limitCall ringCall positionCall previewCall
+  unfolding loadCall refineCall wholeStepCall boxCall lockCall limitCall ringCall previewCall viewCall
   call-mirror (load {rule} C) two =
       unless-mirror _ _ (load-refused k m C rule) (ring-room [])
       (worked-mirror _ (ap (λ n. atFirst (withRule rule n)) (loaded-mirror k m C)))
@@ -91,14 +98,14 @@ module _ (k : ℕ) (m : Mesh) where
   call-mirror (lock {on} {t}) two = unless-mirror _ _ (lock-refused k m t) (ring-room []) (worked-mirror _ refl)
   call-mirror (ring {v} {buffer}) two =
       unless-mirror _ _ (ring-refused k m v buffer) (ring-room buffer) (rw (no-point, ring-room))
-  call-mirror (position {v}) two =
-      let at = coordinate-mirror k m v in
-      unless-mirror _ _ (position-refused k m v) (ring-room [])
-      (rw (at 0 (omega arith), at 1 (omega arith), at 2 (omega arith), ring-room []))
+  call-mirror (position {v}) two = position-mirror v
   call-mirror (limit {table}) two =
       unless-mirror _ _ (limit-refused k m table) (table-room table)
       (rw (limits-mirror k m (two limit) table, no-point, table-room))
   call-mirror (preview {entries} {spares}) two = rw (list-mirror entries spares) refl
+  call-mirror (point {v}) two = position-mirror v
+  call-mirror (triangles {n}) two =
+      unless-mirror _ _ (view-refused k m n) (ring-room []) (rw (no-point, ring-room []))
 
 pub history-mirror : (k : ℕ) {cs cs′ : List Call} (m : Mesh) → MirrorsEach k cs cs′ m
     → after cs′ (mirror k m) ≡ mirror k (after cs m)

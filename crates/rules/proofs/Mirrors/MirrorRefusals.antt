@@ -10,7 +10,7 @@ use Rattle.rules.proofs.Mirrors.Opposites.{mirror-range}
 use Rattle.rules.proofs.Numbers.Fill.{fill-same}
 use Rattle.rules.specs.Cage.{cageOf, partner, loaded, sizesFit, coordinatesFit, fansFit, someInnerOfTwo}
 use Rattle.rules.specs.Calls.{loadRefusal, refineRefusal, wholeStepRefusal, limitRefusal, ringRefusal}
-use Rattle.rules.specs.Calls.{lockRefusal, positionRefusal, altersLocked, someLocked}
+use Rattle.rules.specs.Calls.{lockRefusal, positionRefusal, viewRefusal, altersLocked, someLocked}
 use Rattle.rules.specs.Lists.{sparesRefusal}
 use Rattle.rules.specs.Mirror.{mirrorTable, mirror, mirrorSpares, MirrorCage}
 use Rattle.rules.specs.Sound.{isSound}
@@ -49,6 +49,10 @@ module _ (k : ℕ) (m : Mesh) where
   pub position-refused : (v : ℕ) → positionRefusal v (mirror k m) ≡ positionRefusal v m
   unfolding positionRefusal
   position-refused v = rw (tables-mirror, sound-mirror)
+
+  pub view-refused : (n : ℕ) → viewRefusal n (mirror k m) ≡ viewRefusal n m
+  unfolding viewRefusal
+  view-refused n = rw (tables-mirror, sound-mirror)
 
   pub same-sizes-mirror : (spares : Spares) → sameSizes (mirrorSpares k spares) (mirror k m) ≡ sameSizes spares m
   unfolding sameSizes

@@ -1,0 +1,98 @@
+-- Calls that work in spare tables: their first refusal, found test by test, and what comes of them.
+use borrow.Author.Tests.{not-true, not-false}
+use mathlib.Core.Bool.{Bool, true, false, not}
+use mathlib.Core.List.{List, [], _∷_}
+use mathlib.Core.Logic.{_≢_}
+use mathlib.Core.Path.{_≡_, refl, sym, ap, _∙_}
+use Prim.Native.Nat.{ℕ}
+use Rattle.rules.proofs.Boxes.BoxCall.{box-sound}
+use Rattle.rules.proofs.Calls.FirstThatHolds.{refuses, carries}
+use Rattle.rules.proofs.Lists.ListCall.{spares-sound}
+use Rattle.rules.specs.Boxes.{Box, boxFits, boxRefusal, boxCall}
+use Rattle.rules.specs.Calls.{firstOf, _if_, spareRoom, refusedWith}
+use Rattle.rules.specs.Lists.{sparesRefusal, listCall, previewCall}
+use Rattle.rules.specs.Sound.{isSound}
+use Rattle.rules.specs.Spares.{Spares, sameSizes}
+use Rattle.rules.specs.Tables.{Mesh, tablesAgree}
+use Rattle.refining.proofs.Refusing.{sound-standing}
+use Rattle.refining.specs.Batches.{MayWork, listDone, onlyRead}
+use Rattle.boxing.specs.Boxing.{boxDone}
+use Rattle.batches.specs.Working.{workRefusal}
+
+-- ---- the first refusal, by the answers of the tests
+
+module _ (s : Spares) (m : Mesh) (fits : Bool) where
+  by-tests : {a b c d : Bool} → tablesAgree m ≡ a → sameSizes s m ≡ b → fits ≡ c → isSound m ≡ d
+      → firstOf (1 if not a ∷ 17 if not b ∷ 18 if not c ∷ 7 if not d ∷ []) ≡ workRefusal fits s m
+  by-tests a b c d = rw (a, b, c, d)
+
+  module _ (r : Bool) (a : r ≡ tablesAgree m) where
+    pub work-one : not r ≡ true → 1 ≡ workRefusal fits s m
+    work-one x = by-tests (sym a ∙ not-true r x) refl refl refl
+
+    module _ (x : not r ≡ false) (q : Bool) (b : q ≡ sameSizes s m) where
+      pub work-seventeen : not q ≡ true → 17 ≡ workRefusal fits s m
+      work-seventeen y = by-tests (sym a ∙ not-false r x) (sym b ∙ not-true q y) refl refl
+
+      module _ (y : not q ≡ false) where
+        pub work-eighteen : not fits ≡ true → 18 ≡ workRefusal fits s m
+        work-eighteen z = by-tests (sym a ∙ not-false r x) (sym b ∙ not-false q y) (not-true fits z) refl
+
+        module _ (z : not fits ≡ false) (k : Bool) (c : k ≡ isSound m) where
+          pub work-seven : not k ≡ true → 7 ≡ workRefusal fits s m
+          work-seven u =
+              by-tests (sym a ∙ not-false r x) (sym b ∙ not-false q y) (not-false fits z) (sym c ∙ not-true k u)
+
+          pub work-none : not k ≡ false → 0 ≡ workRefusal fits s m
+          work-none u =
+              by-tests (sym a ∙ not-false r x) (sym b ∙ not-false q y) (not-false fits z) (sym c ∙ not-false k u)
+
+-- ---- what comes of a box
+
+module _ (s : Spares) (m : Mesh) where
+  module _ (b : Box) {fits : Bool} (f : fits ≡ boxFits b) (r : ℕ) (e : r ≡ workRefusal fits s m) where
+    box-first : r ≡ boxRefusal b s m
+    unfolding boxRefusal
+    box-first = e ∙ rw f refl
+
+    pub box-may-work : r ≡ 0 → MayWork m s
+    box-may-work z =
+        let (L, S) = box-sound b s m (sym box-first ∙ z) in
+        record { stands = sound-standing S; sizes = L }
+
+    pub box-refused : r ≢ 0 → refusedWith r m (spareRoom s) ≡ boxCall b s m
+    unfolding boxCall
+    box-refused = refuses m (spareRoom s) (boxDone b m s) (boxRefusal b s m) r box-first
+
+    pub box-carried : r ≡ 0 → boxDone b m s ≡ boxCall b s m
+    unfolding boxCall
+    box-carried = carries m (spareRoom s) (boxDone b m s) (boxRefusal b s m) r box-first
+
+  -- ---- of a list
+
+  module _ (r : ℕ) (e : r ≡ workRefusal true s m) where
+    list-first : r ≡ sparesRefusal s m
+    unfolding sparesRefusal
+    list-first = e
+
+    pub may-work : r ≡ 0 → MayWork m s
+    may-work z =
+        let (L, S) = spares-sound s m (sym list-first ∙ z) in
+        record { stands = sound-standing S; sizes = L }
+
+    pub list-refused : (list : List ℕ) → r ≢ 0 → refusedWith r m (spareRoom s) ≡ listCall list s m
+    unfolding listCall
+    list-refused list = refuses m (spareRoom s) (listDone list m s) (sparesRefusal s m) r list-first
+
+    pub list-carried : (list : List ℕ) → r ≡ 0 → listDone list m s ≡ listCall list s m
+    unfolding listCall
+    list-carried list = carries m (spareRoom s) (listDone list m s) (sparesRefusal s m) r list-first
+
+    -- And of a preview.
+    pub preview-refused : (list : List ℕ) → r ≢ 0 → refusedWith r m (spareRoom s) ≡ previewCall list s m
+    unfolding previewCall
+    preview-refused list n = ap (onlyRead m) (list-refused list n)
+
+    pub preview-carried : (list : List ℕ) → r ≡ 0 → onlyRead m (listDone list m s) ≡ previewCall list s m
+    unfolding previewCall
+    preview-carried list z = ap (onlyRead m) (list-carried list z)

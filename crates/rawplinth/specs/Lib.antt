@@ -1,0 +1,2 @@
+-- The answers that C is given in another form.
+pub mod Seeing

@@ -1,0 +1,2 @@
+-- What a viewer is given.
+pub mod View
