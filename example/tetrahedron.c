@@ -1,4 +1,5 @@
-/* Loads a tetrahedron, refines a triangle, reads a ring and a position, and locks a triangle. */
+/* Loads a tetrahedron, refines a triangle, reads a ring, a position and all triangles in millimetres, and locks a
+   triangle. */
 #include "rawplinth.h"
 
 #include <stdio.h>
@@ -51,7 +52,19 @@ int main(void)
         printf(" %u", ring[i]);
 
     rawplinth_position_read at = rawplinth_position(TABLES, counts, 4);
-    printf("\nits position: %d %d %d\n", at.x, at.y, at.z);
+    printf("\nits position: %d %d %d, ", at.x, at.y, at.z);
+    rawplinth_point_seen seen = rawplinth_view_point(TABLES, counts, 4);
+    printf("in millimetres: %g %g %g\n", seen.x, seen.y, seen.z);
+
+    /* All triangles for a viewer: nine numbers each. */
+    float view[9 * TRIANGLE_SLOTS];
+    rawplinth_shown shown = rawplinth_view_triangles(TABLES, counts, view, 9 * TRIANGLE_SLOTS);
+    if (shown.refusal != RAWPLINTH_OK)
+        return 1;
+    printf("triangle 0 in millimetres:");
+    for (int i = 0; i < 9; i++)
+        printf(" %g", view[i]);
+    printf("\n");
 
     done = rawplinth_refine(TABLES, counts, 99);
     printf("triangle 99: refused with %u\n", done.refusal);

@@ -14,7 +14,7 @@ extern "C" {
 
 /* Raised by every new call and every change of a signature, a struct or an answer; docs/changes/README.md has a line
    for each. */
-#define RAWPLINTH_VERSION 9
+#define RAWPLINTH_VERSION 10
 
 /* What a side without a partner links to. */
 #define RAWPLINTH_BOUNDARY UINT32_C(4294967295)
@@ -33,9 +33,9 @@ enum {
 };
 
 /* How many vertices and triangles are in use, and the rule that the mesh was loaded by. In a fresh store none are in
-   use, and the rule may be any number. Every call takes the counts, and every answer but preview's has those for the
-   next call; after a preview they are the same as before. Counts that were saved before version 4 have no rule: their
-   mesh goes on with RAWPLINTH_HALF_UP. */
+   use, and the rule may be any number. Every call takes the counts, and every answer but those of preview and
+   view_point has those for the next call; after these two they are the same as before. Counts that were saved before
+   version 4 have no rule: their mesh goes on with RAWPLINTH_HALF_UP. */
 typedef struct {
     uint32_t vertices;
     uint32_t triangles;
@@ -73,7 +73,8 @@ enum {
     RAWPLINTH_SPARES = 17,         /* a spare table of another length than the mesh's */
     RAWPLINTH_BOX = 18,            /* a box whose low corner is above its high one in a coordinate, or a generation
                                       above 20 */
-    RAWPLINTH_LOCKED = 19          /* a locked triangle that would be split or flipped; in a whole step any */
+    RAWPLINTH_LOCKED = 19,         /* a locked triangle that would be split or flipped; in a whole step any */
+    RAWPLINTH_VIEW_SHORT = 20      /* a table for all triangles with fewer than nine entries for each in use */
 };
 
 /* The answer of load, refine, whole step, lock and unlock, the last two without splits and flips. */
@@ -128,6 +129,18 @@ typedef struct {
     rawplinth_counts counts;
 } rawplinth_limit_read;
 
+/* The answer of view_point, in millimetres. It has no counts of the mesh: those stand and go on to the next call. */
+typedef struct {
+    uint32_t refusal;
+    float x, y, z;
+} rawplinth_point_seen;
+
+/* The answer of view_triangles. */
+typedef struct {
+    uint32_t refusal;
+    rawplinth_counts counts;
+} rawplinth_shown;
+
 /* Every call is lent the same five tables, each a pointer and its number of entries:
 
      positions     3 for each vertex slot, in units of 1/1024 mm, within 16777216 either way
@@ -173,7 +186,7 @@ rawplinth_worked rawplinth_load(
    ones whose base meets that: if one of these is locked, the call is refused with 19. Of other triangles at most links
    follow, be they locked or not.
    Refuses with 1, 7, 8, 9, 19, 11, in this order. Writes slots in use and those that it takes. Needs 0.14 MB of
-   stack, as do lock, unlock, ring and position. */
+   stack, as do lock, unlock, ring, position, view_point and view_triangles. */
 rawplinth_worked rawplinth_refine(
     int32_t *positions, size_t positions_length,
     uint32_t *corners, size_t corners_length,
@@ -211,8 +224,9 @@ rawplinth_batch_worked rawplinth_refine_list(
 
 /* Does with the spare tables what refine_list would do with the same mesh and list, and answers what it would; but the
    mesh is only read, and keeps its counts. Where no entry fails, the spare tables are left with the mesh that
-   refine_list would make, of which `spares` are the counts: it may be read there by ring, position and limit. What they
-   held before is not used, so that a preview again gives the same, and refine_list after it does what was foreseen.
+   refine_list would make, of which `spares` are the counts: it may be read there by the calls that read a mesh. What
+   they held before is not used, so that a preview again gives the same, and refine_list after it does what was
+   foreseen.
    Refuses as refine_list does. Writes the spare tables, and nothing else. Needs 0.14 MB of stack. */
 rawplinth_batch_foreseen rawplinth_preview(
     const int32_t *positions, size_t positions_length,
@@ -329,6 +343,31 @@ rawplinth_limit_read rawplinth_limit(
     const uint8_t *locks, size_t locks_length,
     rawplinth_counts counts,
     int32_t *table, size_t table_length);
+
+/* Reads where a vertex is in millimetres: its coordinates divided by 1024. That is exact for every coordinate, and each
+   number times 1024 is the coordinate again.
+   Refuses with 1, 7, 8, in this order. Writes nothing. */
+rawplinth_point_seen rawplinth_view_point(
+    const int32_t *positions, size_t positions_length,
+    const uint32_t *corners, size_t corners_length,
+    const uint32_t *links, size_t links_length,
+    const uint8_t *generations, size_t generations_length,
+    const uint8_t *locks, size_t locks_length,
+    rawplinth_counts counts,
+    uint32_t vertex);
+
+/* Reads all triangles in use in the order of their slots, nine numbers each: x, y and z of corner 0, then of corner 1,
+   then of corner 2, in millimetres, exact like those of view_point. The table has at least 9 entries for each triangle
+   in use, and keeps what it has after them.
+   Refuses with 1, 7, 20, in this order. Writes the front of the table, and nothing else. */
+rawplinth_shown rawplinth_view_triangles(
+    const int32_t *positions, size_t positions_length,
+    const uint32_t *corners, size_t corners_length,
+    const uint32_t *links, size_t links_length,
+    const uint8_t *generations, size_t generations_length,
+    const uint8_t *locks, size_t locks_length,
+    rawplinth_counts counts,
+    float *table, size_t table_length);
 
 #ifdef __cplusplus
 }

@@ -3,7 +3,7 @@
 
 /// Raised with that of the header. A program may go without it.
 #[allow(dead_code)]
-pub const RAWPLINTH_VERSION: u32 = 9;
+pub const RAWPLINTH_VERSION: u32 = 10;
 
 /// The rules by which a mesh rounds halves: up, or away from zero.
 pub const RAWPLINTH_HALF_UP: u32 = 1;
@@ -61,6 +61,24 @@ pub struct PositionRead {
 #[repr(C)]
 #[derive(Clone, Copy, Debug, Default, PartialEq, Eq)]
 pub struct LimitRead {
+    pub refusal: u32,
+    pub counts: Counts,
+}
+
+/// What is seen of a vertex, in millimetres. The mesh's counts stand and are not in it.
+#[repr(C)]
+#[derive(Clone, Copy, Debug, Default, PartialEq)]
+pub struct PointSeen {
+    pub refusal: u32,
+    pub x: f32,
+    pub y: f32,
+    pub z: f32,
+}
+
+/// The answer for all triangles, without the table.
+#[repr(C)]
+#[derive(Clone, Copy, Debug, Default, PartialEq, Eq)]
+pub struct Shown {
     pub refusal: u32,
     pub counts: Counts,
 }
@@ -217,6 +235,37 @@ unsafe extern "C" {
         table: *mut i32,
         table_length: usize,
     ) -> LimitRead;
+
+    pub fn rawplinth_view_point(
+        positions: *const i32,
+        positions_length: usize,
+        corners: *const u32,
+        corners_length: usize,
+        links: *const u32,
+        links_length: usize,
+        generations: *const u8,
+        generations_length: usize,
+        locks: *const u8,
+        locks_length: usize,
+        counts: Counts,
+        vertex: u32,
+    ) -> PointSeen;
+
+    pub fn rawplinth_view_triangles(
+        positions: *const i32,
+        positions_length: usize,
+        corners: *const u32,
+        corners_length: usize,
+        links: *const u32,
+        links_length: usize,
+        generations: *const u8,
+        generations_length: usize,
+        locks: *const u8,
+        locks_length: usize,
+        counts: Counts,
+        table: *mut f32,
+        table_length: usize,
+    ) -> Shown;
 
     pub fn rawplinth_refine_list(
         positions: *mut i32,

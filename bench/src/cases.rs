@@ -16,6 +16,8 @@ pub const LIMITS: [&str; 2] = ["limit", "limit, rule 2"];
 /// triangle is.
 pub const LONGEST_BESIDE_LOCKS: &str = "refine, chain of 10, beside locks";
 pub const LOCKED_STEP: &str = "whole step, locked";
+/// All triangles for the viewer.
+pub const VIEW: &str = "view triangles";
 /// Lists: of triangles in a row, each refined by one split, and of one triangle again and again, which is passed over
 /// but for its first time.
 pub const LISTS: [&str; 4] = ["list of 1", "list of 100", "list of 10,000", "list of 10,000 times one"];
@@ -25,7 +27,7 @@ pub const PREVIEWS: [&str; 4] = ["preview of 1", "preview of 100", "preview of 1
 /// all, which is refused with 11 when no slots are left.
 pub const BOXES: [&str; 3] = ["box of nothing", "box of a twentieth", "box of all, refused"];
 
-const NAMES: [&str; 28] = [
+const NAMES: [&str; 30] = [
     "load",
     "soundness",
     "refine even",
@@ -43,6 +45,8 @@ const NAMES: [&str; 28] = [
     "position",
     LIMITS[0],
     LIMITS[1],
+    "view point",
+    VIEW,
     LISTS[0],
     LISTS[1],
     LISTS[2],
@@ -116,6 +120,9 @@ fn case(name: &'static str, cage: &Cage, shuffled: bool) -> Case {
     if LIMITS.contains(&name) {
         lent.table = vec![0; 3 * lent.counts.vertices as usize];
     }
+    if name == VIEW {
+        lent.view = vec![-1.0; 9 * lent.counts.triangles as usize];
+    }
     if name == "load" {
         // A load has to write these anew, while the counts tell the scan what is read.
         lent.tables.positions.fill(-1);
@@ -155,6 +162,8 @@ fn case(name: &'static str, cage: &Cage, shuffled: bool) -> Case {
         "soundness" => Call::Refine(lent.counts.triangles),
         "ring" => Call::Ring(vertex),
         "position" => Call::Position(vertex),
+        "view point" => Call::ViewPoint(vertex),
+        VIEW => Call::ViewTriangles,
         "lock" => Call::Lock(triangle),
         "unlock" => Call::Unlock(triangle),
         name if STEPS.contains(&name) || name == LOCKED_STEP => Call::WholeStep,

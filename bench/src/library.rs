@@ -52,6 +52,10 @@ pub fn answer(lent: &mut Lent, call: Call) -> Answer {
         }
         Call::Position(vertex) => Answer::Position(call!(rawplinth_position, lent, vertex)),
         Call::Limit => Answer::Limit(call!(rawplinth_limit, lent, lent.table.as_mut_ptr(), lent.table.len())),
+        Call::ViewPoint(vertex) => Answer::Seen(call!(rawplinth_view_point, lent, vertex)),
+        Call::ViewTriangles => {
+            Answer::Shown(call!(rawplinth_view_triangles, lent, lent.view.as_mut_ptr(), lent.view.len()))
+        }
         Call::RefineList => {
             Answer::List(call!(rawplinth_refine_list, lent, lent.list.as_ptr(), lent.list.len(); lent.spares))
         }

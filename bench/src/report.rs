@@ -1,6 +1,6 @@
 //! The table.
 
-use crate::cases::{BOXES, Case, LIMITS, LISTS, PREVIEWS, is_listed};
+use crate::cases::{BOXES, Case, LIMITS, LISTS, PREVIEWS, VIEW, is_listed};
 use crate::measure::{Counted, Timed};
 
 /// Instructions of a C program without proofs, written by an expert, for closed meshes in order.
@@ -12,10 +12,11 @@ const EXPERT: [(&str, usize, u64); 4] = [
 ];
 /// How many times the expert's instructions a call may take.
 const MOST_TIMES: f64 = 1.5;
-/// How many instructions beyond those of soundness a refine, a lock, a ring or a position may take, and limit positions
-/// for each triangle.
+/// How many instructions beyond those of soundness a refine, a lock, a ring or a position, in millimetres or not, may
+/// take, and limit positions and a view of all triangles for each triangle.
 const MOST_BEYOND: u64 = 3_000;
 const MOST_FOR_EACH: u64 = 150;
+const MOST_TO_SHOW: u64 = 90;
 /// How many instructions the limit positions of a tetrahedron may take, with soundness.
 const MOST_OF_SMALL: u64 = 3_500;
 /// How many instructions beyond those of soundness a list may take: for each triangle in use, to copy it to the spare
@@ -59,6 +60,7 @@ pub fn print(cases: &[Case], counts: Option<&[Counted]>, times: &[Timed]) {
         println!("\n{}", shares("Lists", LISTS, cases, counts));
         println!("{}", shares("Previews", PREVIEWS, cases, counts));
         println!("{}", shares_of_boxes(cases, counts));
+        println!("{}", shares_of_view(cases, counts));
     }
 }
 
@@ -81,11 +83,23 @@ fn shares_of_boxes(cases: &[Case], counts: &[Counted]) -> String {
     format!("Boxes: {triangle:.1} for each triangle in use, {split:.1} for each split.")
 }
 
+/// What a view takes for each triangle of the largest mesh, in order: soundness, and beyond it.
+fn shares_of_view(cases: &[Case], counts: &[Counted]) -> String {
+    let place = largest(VIEW, cases);
+    let [library, soundness, ..] = counts[place].map(|count| count as f64 / cases[place].triangles as f64);
+    format!("Views: {soundness:.1} for each triangle in use to find it sound, {:.1} to show it.", library - soundness)
+}
+
 /// What a case takes in order beyond soundness, and the case.
 fn beyond<'a>(name: &str, cases: &'a [Case], counts: &[Counted]) -> (f64, &'a Case) {
-    let place = cases.iter().position(|case| case.name == name && !case.shuffled).expect("each name is a case");
+    let place = largest(name, cases);
     let [library, soundness, ..] = counts[place];
     (library as f64 - soundness as f64, &cases[place])
+}
+
+/// The place of the case with the largest mesh in order.
+fn largest(name: &str, cases: &[Case]) -> usize {
+    cases.iter().rposition(|case| case.name == name && !case.shuffled).expect("each name is a case")
 }
 
 fn count_columns(case: &Case, [library, soundness, fast, scan]: Counted) -> [String; 7] {
@@ -124,7 +138,8 @@ fn most_beyond(case: &Case, soundness: u64) -> Option<u64> {
             let splits = case.splits_in_spares() as u64;
             Some((MOST_TO_COPY + MOST_TO_LOOK) * case.triangles as u64 + MOST_TO_SPLIT_IN_BOX * splits)
         }
-        "lock" | "unlock" | "ring" | "position" => Some(MOST_BEYOND),
+        VIEW => Some(MOST_TO_SHOW * case.triangles as u64),
+        "lock" | "unlock" | "ring" | "position" | "view point" => Some(MOST_BEYOND),
         name => name.starts_with("refine").then_some(MOST_BEYOND),
     }
 }

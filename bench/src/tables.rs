@@ -1,7 +1,8 @@
 //! What a call is lent and what it answers.
 
-pub use crate::rawplinth::{BatchForeseen, BatchWorked, Counts, LimitRead, Point, PositionRead, RingRead, Worked};
+pub use crate::rawplinth::{BatchForeseen, BatchWorked, Counts, LimitRead, Point, PointSeen, PositionRead};
 pub use crate::rawplinth::{RAWPLINTH_HALF_AWAY as HALF_AWAY, RAWPLINTH_HALF_UP as HALF_UP};
+pub use crate::rawplinth::{RingRead, Shown, Worked};
 
 /// The link of a boundary side.
 pub const BOUNDARY: u32 = u32::MAX;
@@ -30,6 +31,8 @@ pub struct Lent {
     pub buffer: Vec<u32>,
     /// The table of a limit query.
     pub table: Vec<i32>,
+    /// The table that all triangles are shown in.
+    pub view: Vec<f32>,
     /// A list of triangles, and the tables that it or a box is worked off in.
     pub list: Vec<u32>,
     pub spares: Tables,
@@ -46,6 +49,8 @@ pub enum Call {
     Ring(u32),
     Position(u32),
     Limit,
+    ViewPoint(u32),
+    ViewTriangles,
     RefineList,
     Preview,
     RefineBox(Panel),
@@ -66,6 +71,8 @@ pub enum Answer {
     Ring(RingRead),
     Position(PositionRead),
     Limit(LimitRead),
+    Seen(PointSeen),
+    Shown(Shown),
     List(BatchWorked),
     Preview(BatchForeseen),
 }
@@ -93,6 +100,7 @@ impl Lent {
             cage,
             buffer: vec![0; 16],
             table: Vec::new(),
+            view: Vec::new(),
             list: Vec::new(),
             spares: Tables::with_slots(0, 0),
         }

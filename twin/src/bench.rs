@@ -11,6 +11,7 @@ use crate::coverage::Coverage;
 use crate::locked::violated_by_lock;
 use crate::mirror;
 use crate::tables::{Answer, Call, Counts, HALF_AWAY, HALF_UP, Service, Store, Tables};
+use crate::viewed::violated_by_view;
 
 /// A case on which the services differ, or on which a claim of demand 3 fails.
 #[derive(Debug)]
@@ -148,6 +149,7 @@ impl Apart {
             .or_else(|| Apart::tables("spare ", &room.spares, &other_room.spares))
             .or_else(|| Apart::entry("", "ring buffers", &room.ring, &other_room.ring))
             .or_else(|| Apart::entry("", "limit tables", &room.table, &other_room.table))
+            .or_else(|| Apart::entry("", "view tables", &room.view, &other_room.view))
     }
 
     fn tables(which: &str, one: &Tables, other: &Tables) -> Option<Apart> {
@@ -179,7 +181,7 @@ pub fn difference(what: String, store: Store, call: &Call) -> Box<Difference> {
 }
 
 /// The fourth claim of demand 3, for every refine that is carried out; what every list and every box that is carried
-/// out adds; that a box leaves none; and that locked triangles stay as they are.
+/// out adds; that a box leaves none; that locked triangles stay as they are; and that what is seen is exact.
 fn claim_violated(before: &Store, call: &Call, answer: &Answer, after: &Store) -> Option<String> {
     let violated = match (call, answer.refusal) {
         (&Call::Refine { triangle }, 0) => violated_by_refine(before, triangle as usize, answer, after),
@@ -189,5 +191,6 @@ fn claim_violated(before: &Store, call: &Call, answer: &Answer, after: &Store) -
         }
         _ => None,
     };
-    violated.or_else(|| violated_by_lock(before, call, answer, after))
+    let violated = violated.or_else(|| violated_by_lock(before, call, answer, after));
+    violated.or_else(|| violated_by_view(before, call, answer, after))
 }

@@ -13,26 +13,28 @@ pub const WRAPPING: u32 = 0x5555_5556;
 /// One call of any kind but load, for which the store gets room.
 pub fn random_call(store: &mut Store, rng: &mut Rng) -> Call {
     match rng.below(100) {
-        0..42 => Call::Refine { triangle: some_triangle(store, rng) },
-        42..51 => {
+        0..40 => Call::Refine { triangle: some_triangle(store, rng) },
+        40..48 => {
             store.room.spares = some_spares(store, rng);
             let list = some_list(store, rng);
             if rng.percent(80) { Call::RefineList { list } } else { Call::Preview { list } }
         }
-        51..56 => {
+        48..53 => {
             store.room.spares = some_spares(store, rng);
             some_box(store, rng)
         }
-        56..64 => Call::WholeStep,
-        64..70 => limit(store, rng),
-        70..80 => ring(store, rng),
-        80..88 => Call::Position { vertex: some_number(store.counts.vertices, rng) },
+        53..60 => Call::WholeStep,
+        60..65 => limit(store, rng),
+        65..73 => ring(store, rng),
+        73..79 => Call::Position { vertex: some_number(store.counts.vertices, rng) },
+        79..84 => Call::ViewPoint { vertex: some_number(store.counts.vertices, rng) },
+        84..89 => view(store, rng),
         _ => set_lock(store, rng),
     }
 }
 
 /// One call of each kind but load, for which the store gets room, its spare tables of fitting sizes.
-pub fn one_of_each(store: &mut Store, rng: &mut Rng) -> [Call; 8] {
+pub fn one_of_each(store: &mut Store, rng: &mut Rng) -> [Call; 10] {
     store.room.spares = fitting_spares(store, rng);
     [
         Call::Refine { triangle: some_triangle(store, rng) },
@@ -41,6 +43,8 @@ pub fn one_of_each(store: &mut Store, rng: &mut Rng) -> [Call; 8] {
         ring(store, rng),
         Call::Position { vertex: some_number(store.counts.vertices, rng) },
         Call::SetLock { triangle: some_triangle(store, rng), on: rng.percent(50) },
+        Call::ViewPoint { vertex: some_number(store.counts.vertices, rng) },
+        view(store, rng),
         Call::RefineList { list: some_list(store, rng) },
         Call::RefineBox { bounds: some_bounds(store, rng), below: some_generation(store, rng) },
     ]
@@ -84,6 +88,33 @@ pub fn compare_limits(bench: &mut Bench, store: &mut Store, rng: &mut Rng) -> Ou
         bench.compare_only(store, &Call::Limit)?;
     }
     Ok(())
+}
+
+/// The lengths of a table for all triangles that are tried: none, one, a triangle, two and one short, the length
+/// wanted, one and a triangle over, and what all slots would want.
+pub fn view_lengths(store: &Store) -> [usize; 9] {
+    let wanted = 9 * store.triangles();
+    let short = |by: usize| wanted.saturating_sub(by);
+    [0, 1, short(9), short(2), short(1), wanted, wanted + 1, wanted + 9, 9 * store.triangle_slots()]
+}
+
+/// All triangles for the viewer, in a table of any content, half of the time of a length that goes.
+fn view(store: &mut Store, rng: &mut Rng) -> Call {
+    let lengths = view_lengths(store);
+    let length = if rng.percent(50) { rng.pick(&lengths[5..]) } else { rng.pick(&lengths) };
+    store.room.view = some_numbers(length, rng);
+    Call::ViewTriangles
+}
+
+/// The bits of so many f32: any, among them small ones, both zeros, infinite ones, and what is no number, with bits
+/// that a copy as a number may change.
+pub fn some_numbers(length: usize, rng: &mut Rng) -> Vec<u32> {
+    let some = |rng: &mut Rng| {
+        let (any, sign) = (rng.word(), rng.pick(&[0, 1 << 31]));
+        let exact = (rng.between(-FARTHEST, FARTHEST) as f32 / 1024.0).to_bits();
+        sign | rng.pick(&[any, exact, 0, any >> 9, 0x7F80_0000, 0x7FC0_0000 | any >> 10, 0x7F80_0001 | any >> 10])
+    };
+    (0..length).map(|_| some(rng)).collect()
 }
 
 /// Spare tables of the mesh's sizes, with any content.
@@ -206,6 +237,11 @@ pub fn some_number(count: u32, rng: &mut Rng) -> u32 {
         3 => rng.word(),
         _ => rng.below(count.max(1) as usize) as u32,
     }
+}
+
+/// Every number below a count, those just past it, and some far off.
+pub fn all_numbers(count: u32, slots: usize) -> impl Iterator<Item = u32> {
+    (0..count + 3).chain([slots as u32, 1 << 16, 1 << 31, WRAPPING, u32::MAX])
 }
 
 /// A triangle: anywhere, or the deepest that a few tries find.

@@ -20,6 +20,7 @@ impl Display for Case {
         writeln!(out, "counts {} {} {}", counts.vertices, counts.triangles, counts.rule)?;
         writeln!(out, "ring-buffer{}", numbers(&room.ring))?;
         writeln!(out, "limit-table{}", numbers(&room.table))?;
+        writeln!(out, "view-table{}", numbers(&room.view))?;
         write_tables(out, "spare-", &room.spares)?;
         match &self.call {
             Call::Load { rule, cage } => writeln!(out, "load {rule}{}", numbers(cage)),
@@ -30,6 +31,8 @@ impl Display for Case {
             Call::Ring { vertex } => writeln!(out, "ring {vertex}"),
             Call::Position { vertex } => writeln!(out, "position {vertex}"),
             Call::Limit => writeln!(out, "limit"),
+            Call::ViewPoint { vertex } => writeln!(out, "view-point {vertex}"),
+            Call::ViewTriangles => writeln!(out, "view-triangles"),
             Call::RefineList { list } => writeln!(out, "refine-list{}", numbers(list)),
             Call::Preview { list } => writeln!(out, "preview{}", numbers(list)),
             Call::RefineBox { bounds: Bounds { low, high }, below } => {
@@ -85,6 +88,7 @@ impl FromStr for Case {
         let room = Room {
             ring: parsed(words_of(&lines, "ring-buffer")?)?,
             table: parsed(words_of(&lines, "limit-table")?)?,
+            view: parsed(words_of(&lines, "view-table")?)?,
             spares: parsed_tables(&lines, "spare-")?,
         };
         let call = parsed_call(lines.last().expect("there are lines"))?;
@@ -123,6 +127,8 @@ fn parsed_call(words: &[&str]) -> Result<Call, String> {
         "ring" => Ok(Call::Ring { vertex: number()? }),
         "position" => Ok(Call::Position { vertex: number()? }),
         "limit" => Ok(Call::Limit),
+        "view-point" => Ok(Call::ViewPoint { vertex: number()? }),
+        "view-triangles" => Ok(Call::ViewTriangles),
         "refine-list" => Ok(Call::RefineList { list: parsed(&words[1..])? }),
         "preview" => Ok(Call::Preview { list: parsed(&words[1..])? }),
         "refine-box" => Ok(Call::RefineBox { below: number()?, bounds: parsed_bounds(&words[2..])? }),

@@ -1,6 +1,6 @@
 //! What a run has met: each refusal of each call, each rule, each kind of linked pair, each chain length over an even
 //! triangle and over the boundary, each ring length of a whole step and of a limit query, halves in these, sides linked
-//! to themselves, what becomes of the entries of lists, foils, boxes, and locks.
+//! to themselves, what becomes of the entries of lists, foils, boxes, locks, and views.
 
 use std::collections::{BTreeMap, BTreeSet};
 use std::fmt::{self, Display};
@@ -15,6 +15,7 @@ use crate::refine::handle;
 use crate::smooth::{Fraction, fractions};
 use crate::sound::{has_one_fan_each, kind};
 use crate::tables::{Answer, BOUNDARY, Call, HALF_UP, Store};
+use crate::view_coverage::ViewCoverage;
 
 /// The calls, each with the refusals that it can give and 0 for none.
 const CALLS: &[(&str, &[u32])] = &[
@@ -29,6 +30,8 @@ const CALLS: &[(&str, &[u32])] = &[
     ("refine box", &[0, 1, 7, 9, 11, 17, 18, 19]),
     ("lock", &[0, 1, 7, 8]),
     ("unlock", &[0, 1, 7, 8]),
+    ("view point", &[0, 1, 7, 8]),
+    ("view all", &[0, 1, 7, 20]),
 ];
 
 /// The longest of the lists that have to be met in every length.
@@ -76,6 +79,7 @@ pub struct Coverage {
     twos: [u64; 2],
     boxes: BoxCoverage,
     locks: LockCoverage,
+    views: ViewCoverage,
 }
 
 /// What a load is refused with 6 for.
@@ -117,6 +121,8 @@ fn row(call: &Call) -> usize {
         Call::RefineBox { .. } => 8,
         Call::SetLock { on: true, .. } => 9,
         Call::SetLock { on: false, .. } => 10,
+        Call::ViewPoint { .. } => 11,
+        Call::ViewTriangles => 12,
     }
 }
 
@@ -162,6 +168,7 @@ impl Coverage {
             count(&mut self.rules, answer.counts.rule as usize);
         }
         self.locks.note(before, call, answer);
+        self.views.note(before, call, answer);
         match (call, answer.refusal) {
             (&Call::Refine { triangle }, 0) => self.note_refine(before, triangle as usize, answer),
             (&Call::Refine { triangle }, 9) => {
@@ -319,6 +326,7 @@ impl Coverage {
         ];
         named.extend(self.boxes.named());
         named.extend(self.locks.named());
+        named.extend(self.views.named());
         named
     }
 }

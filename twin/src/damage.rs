@@ -5,7 +5,7 @@ use crate::cages;
 use crate::calls;
 use crate::handmade;
 use crate::rng::Rng;
-use crate::tables::{BOUNDARY, Call, Counts, FARTHEST, HALF_AWAY, HALF_UP, NO_RULES, Service, Store};
+use crate::tables::{BOUNDARY, Call, Counts, FARTHEST, HALF_AWAY, HALF_UP, LAST_GENERATION, NO_RULES, Service, Store};
 use crate::twin::Twin;
 
 /// The store with a cage in it, by either rule, after a list of refines, with some slots to spare that hold anything.
@@ -48,6 +48,14 @@ pub fn small_stores(rng: &mut Rng) -> Vec<Store> {
         stores.push(gluing.store(1, 2, rng));
     }
     stores
+}
+
+/// A sound store, the same with tables that are not sound, and with tables that do not fit each other.
+pub fn sound_and_refused(sound: Store) -> [Store; 3] {
+    let (mut unsound, mut disagreeing) = (sound.clone(), sound.clone());
+    unsound.tables.generations[0] = LAST_GENERATION + 1;
+    disagreeing.tables.locks.pop();
+    [sound, unsound, disagreeing]
 }
 
 /// Every single entry of small sound tables overwritten with every interesting value.
@@ -165,7 +173,7 @@ fn compare_lengths(bench: &mut Bench, store: &Store, lengths: [usize; 5], rng: &
     }
     // Spare tables that agree, or do not, with each other, but not with the mesh's: for the list and the box.
     changed.room.spares = store.tables.clone();
-    for call in &of_each[6..] {
+    for call in &of_each[8..] {
         bench.compare_only(&changed, call)?;
     }
     Ok(())

@@ -94,6 +94,8 @@ pub fn refusals(rng: &mut Rng) -> Vec<Example> {
         example(17, refined(&tetrahedron, &[], 0, rng), Call::RefineList { list: vec![] }),
         boxed(18, refined(&tetrahedron, &[], 0, rng), [[0; 3], [9, -1, 9]], 1, rng),
         example(19, refined(&tetrahedron, &[], 5, rng).locked(0), refine(0)),
+        // No table at all.
+        example(20, refined(&tetrahedron, &[], 0, rng), Call::ViewTriangles),
     ]
 }
 

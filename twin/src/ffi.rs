@@ -138,6 +138,19 @@ impl From<LimitRead> for Answer {
     }
 }
 
+/// Without the counts, which a point does not answer.
+impl From<PointSeen> for Answer {
+    fn from(PointSeen { refusal, x, y, z }: PointSeen) -> Answer {
+        Answer { refusal, seen: [x, y, z].map(f32::to_bits), ..Answer::default() }
+    }
+}
+
+impl From<Shown> for Answer {
+    fn from(Shown { refusal, counts }: Shown) -> Answer {
+        Answer { refusal, counts, ..Answer::default() }
+    }
+}
+
 impl From<BatchWorked> for Answer {
     fn from(BatchWorked { refusal, splits, flips, counts, handled, spares }: BatchWorked) -> Answer {
         Answer { refusal, splits, flips, counts, handled, spares, ..Answer::default() }
@@ -187,6 +200,18 @@ impl Service for Library {
                 let read = call!(rawplinth_limit, lent, *counts, table.pointer(), table.length);
                 table.give_back(&mut room.table)?;
                 read.into()
+            }
+            Call::ViewPoint { vertex } => {
+                let seen = call!(rawplinth_view_point, lent, *counts, *vertex);
+                Answer { counts: *counts, ..seen.into() }
+            }
+            Call::ViewTriangles => {
+                // The guard is no number, with bits that a quiet one does not have.
+                let mut table = Lent::new("view table", &room.view, 0x7FA5_A5A5);
+                let numbers = table.pointer().cast::<f32>();
+                let shown = call!(rawplinth_view_triangles, lent, *counts, numbers, table.length);
+                table.give_back(&mut room.view)?;
+                shown.into()
             }
             Call::RefineList { list } | Call::Preview { list } => {
                 let (mut entries, mut spares) = (Lent::new("list", list, !0), LentTables::new(SPARES, &room.spares));

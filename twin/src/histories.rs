@@ -10,6 +10,7 @@ use crate::malformed;
 use crate::random_cages::random_cage;
 use crate::rng::Rng;
 use crate::tables::{BOUNDARY, Bounds, Call, Counts, LAST_GENERATION, Store};
+use crate::views;
 
 /// A mesh in the course of a history, with V − E + F of the cage of the last accepted load.
 struct History {
@@ -79,8 +80,8 @@ impl History {
     }
 }
 
-/// Every shape, plain and shuffled: loaded or stored, all rings and positions read, limits and the whole step tried, refined at
-/// random.
+/// Every shape, plain and shuffled: loaded or stored, all rings and positions read and all triangles shown, limits and
+/// the whole step tried, refined at random.
 pub fn shapes(bench: &mut Bench, rng: &mut Rng) -> Outcome {
     for shape in cages::shapes() {
         for shuffle in 0..3 {
@@ -91,6 +92,7 @@ pub fn shapes(bench: &mut Bench, rng: &mut Rng) -> Outcome {
             for vertex in 0..cage.points.len() as u32 {
                 read_vertex(bench, &mut history.store, vertex, rng)?;
             }
+            views::compare_lengths(bench, &mut history.store, rng)?;
             calls::compare_limits(bench, &mut history.store, rng)?;
             bench.compare_only(&history.store, &Call::WholeStep)?;
             calls::compare_some(bench, &mut history.store, 40, rng)?;
@@ -100,9 +102,10 @@ pub fn shapes(bench: &mut Bench, rng: &mut Rng) -> Outcome {
     Ok(())
 }
 
-/// A vertex's position, and its ring in a buffer that is long, just long enough, and one entry too short.
+/// A vertex's position, also in millimetres, and its ring in a buffer that is long, just long enough, and one entry too short.
 fn read_vertex(bench: &mut Bench, store: &mut Store, vertex: u32, rng: &mut Rng) -> Outcome {
     bench.compare_only(store, &Call::Position { vertex })?;
+    bench.compare_only(store, &Call::ViewPoint { vertex })?;
     store.room.ring = vec![rng.word(); 42];
     let length = bench.compare_only(store, &Call::Ring { vertex })?.length;
     for length in [length, length.saturating_sub(1)] {
@@ -270,7 +273,8 @@ fn all_lists_from(bench: &mut Bench, store: &Store, length: usize) -> Outcome {
     Ok(())
 }
 
-/// Cages that fill the largest tables, a whole step that nearly does, and rings, lists and boxes of tens of thousands.
+/// Cages that fill the largest tables, a whole step that nearly does, and rings, lists, boxes and views of tens of
+/// thousands.
 pub fn largest(bench: &mut Bench, rng: &mut Rng) -> Outcome {
     let fans = [cages::double_pyramid(32_700), cages::open_fan(32_766)];
     for cage in [cages::torus(128, 256), cages::torus(106, 103)].into_iter().chain(fans) {
@@ -291,6 +295,10 @@ pub fn largest(bench: &mut Bench, rng: &mut Rng) -> Outcome {
             bench.compare(&mut history.store, &Call::WholeStep)?;
             calls::compare_some(bench, &mut history.store, 4, rng)?;
         }
+        history.store.room.view = calls::some_numbers(9 * history.store.triangles() + 9, rng);
+        bench.compare(&mut history.store, &Call::ViewTriangles)?;
+        history.store.room.view.truncate(9 * history.store.triangles() - 1);
+        bench.compare(&mut history.store, &Call::ViewTriangles)?;
         history.store.room.ring = vec![7; 32_768];
         bench.compare(&mut history.store, &Call::Ring { vertex: rng.below(cage.points.len()) as u32 })?;
         history.check(bench, rng)?;

@@ -3,8 +3,8 @@
 
 use crate::bench::{Bench, Outcome};
 use crate::cages;
-use crate::calls::{self, WRAPPING};
-use crate::damage::{at_generation, refined, small_stores};
+use crate::calls;
+use crate::damage::{at_generation, refined, small_stores, sound_and_refused};
 use crate::examples::{self, Example, boxed, example, limit, list, load, refine};
 use crate::handmade::{self, chain};
 use crate::lists::with_spares;
@@ -237,18 +237,10 @@ pub fn values(bench: &mut Bench, rng: &mut Rng) -> Outcome {
 
 /// Locks of all triangles in use, and of numbers past them, set, set again, cleared and cleared again.
 pub fn set_and_clear(bench: &mut Bench, rng: &mut Rng) -> Outcome {
-    for sound in small_stores(rng) {
-        let mut unsound = sound.clone();
-        unsound.tables.generations[0] = LAST_GENERATION + 1;
-        let mut disagreeing = sound.clone();
-        disagreeing.tables.locks.pop();
-        let past = [0, 1, 2].map(|more| sound.counts.triangles + more);
-        let far = [sound.triangle_slots() as u32, 1 << 16, 1 << 31, WRAPPING, u32::MAX];
-        for mut store in [sound, unsound, disagreeing] {
-            for triangle in (0..store.counts.triangles).chain(past).chain(far) {
-                for on in [true, true, false, false, rng.percent(50)] {
-                    bench.compare(&mut store, &Call::SetLock { triangle, on })?;
-                }
+    for mut store in small_stores(rng).into_iter().flat_map(sound_and_refused) {
+        for triangle in calls::all_numbers(store.counts.triangles, store.triangle_slots()) {
+            for on in [true, true, false, false, rng.percent(50)] {
+                bench.compare(&mut store, &Call::SetLock { triangle, on })?;
             }
         }
     }

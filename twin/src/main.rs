@@ -46,6 +46,10 @@ mod tables;
 mod tests;
 mod twin;
 mod unsound;
+mod view;
+mod view_coverage;
+mod viewed;
+mod views;
 
 use std::fs;
 use std::panic::{AssertUnwindSafe, catch_unwind};

@@ -15,6 +15,7 @@ pub fn of_store(store: &Store, axis: usize) -> Store {
     let mut image = store.clone();
     negate(&mut image.tables.positions, axis);
     negate(&mut image.room.table, axis);
+    negate_seen(&mut image.room.view, axis);
     negate(&mut image.room.spares.positions, axis);
     image
 }
@@ -35,6 +36,7 @@ pub fn of_call(call: &Call, axis: usize) -> Option<Call> {
 pub fn of_answer(answer: &Answer, axis: usize) -> Answer {
     let mut answer = *answer;
     negate(&mut answer.point, axis);
+    negate_seen(&mut answer.seen, axis);
     answer
 }
 
@@ -42,6 +44,14 @@ pub fn of_answer(answer: &Answer, axis: usize) -> Answer {
 fn negate(coordinates: &mut [i32], axis: usize) {
     for coordinate in coordinates.iter_mut().skip(axis).step_by(3) {
         *coordinate = coordinate.wrapping_neg();
+    }
+}
+
+/// The same by the bits of f32, numbers or not. Both zeros stay: that of a coordinate has one sign only.
+fn negate_seen(numbers: &mut [u32], axis: usize) {
+    const SIGN: u32 = 1 << 31;
+    for bits in numbers.iter_mut().skip(axis).step_by(3).filter(|bits| **bits & !SIGN != 0) {
+        *bits ^= SIGN;
     }
 }
 

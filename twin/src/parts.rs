@@ -4,7 +4,9 @@ use std::time::Instant;
 
 use crate::bench::{Bench, Outcome};
 use crate::rng::Rng;
-use crate::{boxes, damage, examples, halves, handmade, histories, limits, lists, locks, malformed, surgery, unsound};
+use crate::{
+    boxes, damage, examples, halves, handmade, histories, limits, lists, locks, malformed, surgery, unsound, views,
+};
 
 type Part = fn(&mut Bench, &mut Rng) -> Outcome;
 
@@ -14,6 +16,11 @@ const PARTS: &[(&str, Part)] = &[
     ("locks as they are told", locks::as_told),
     ("locks set and cleared", locks::set_and_clear),
     ("whole steps with locks", locks::whole_steps),
+    ("views as they are told", views::as_told),
+    ("view tables of all lengths", views::lengths),
+    ("views with all refusals", views::orders),
+    ("coordinates in views", views::coordinates),
+    ("views of hand-made tables", |bench, rng| views::random(bench, 2_000, rng)),
     ("halves by both rules", halves::run),
     ("cages with sets of faults", malformed::sets_of_faults),
     ("cages of all lengths", malformed::lengths_and_slots),
@@ -50,6 +57,7 @@ const PARTS: &[(&str, Part)] = &[
     ("shells with boundary", |bench, rng| histories::shells(bench, 150, rng)),
     ("deep histories", |bench, rng| histories::deep(bench, 120, rng)),
     ("random histories", |bench, rng| histories::random(bench, 4_000, rng)),
+    ("views of every coordinate", views::every_coordinate),
     ("largest tables", histories::largest),
 ];
 
@@ -73,6 +81,7 @@ pub fn soak_round(bench: &mut Bench, rng: &mut Rng) -> Outcome {
     handmade::histories(bench, 20, rng)?;
     surgery::random_damage(bench, 30, rng)?;
     locks::several(bench, 20, rng)?;
+    views::random(bench, 20, rng)?;
     histories::shells(bench, 1, rng)?;
     histories::deep(bench, 1, rng)?;
     histories::random(bench, 20, rng)

@@ -81,6 +81,8 @@ pub struct Room {
     pub ring: Vec<u32>,
     /// The table of a limit query.
     pub table: Vec<i32>,
+    /// The table that all triangles are shown in, each f32 by its bits: so numbers that are equal, or none, differ.
+    pub view: Vec<u32>,
     /// The tables that a list or a box is worked off in.
     pub spares: Tables,
 }
@@ -191,6 +193,12 @@ pub enum Call {
         vertex: u32,
     },
     Limit,
+    /// A vertex in millimetres.
+    ViewPoint {
+        vertex: u32,
+    },
+    /// All triangles in millimetres.
+    ViewTriangles,
     RefineList {
         list: Vec<u32>,
     },
@@ -213,6 +221,8 @@ pub struct Answer {
     /// The entries written to the ring buffer.
     pub length: u32,
     pub point: [i32; 3],
+    /// A point in millimetres, each f32 by its bits.
+    pub seen: [u32; 3],
     pub counts: Counts,
     /// The entries of a list that were handled or the refines of a box, and the counts of the mesh that is in the spare
     /// tables by it.

@@ -29,6 +29,8 @@ impl Service for Twin {
             Call::Ring { vertex } => self.ring(tables, *counts, *vertex as usize, &mut room.ring),
             Call::Position { vertex } => self.position(tables, *counts, *vertex as usize),
             Call::Limit => self.limit(tables, *counts, &mut room.table),
+            Call::ViewPoint { vertex } => self.view_point(tables, *counts, *vertex as usize),
+            Call::ViewTriangles => self.view_triangles(tables, *counts, &mut room.view),
             Call::RefineList { list } => self.refine_each(tables, *counts, Job::List(list), &mut room.spares),
             Call::Preview { list } => Ok(self.preview(tables, *counts, list, &mut room.spares)),
             Call::RefineBox { bounds, below } => {

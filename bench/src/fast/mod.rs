@@ -10,13 +10,13 @@ mod step;
 
 use crate::tables::{
     Answer, BOUNDARY, BatchForeseen, BatchWorked, Call, Counts, HALF_AWAY, HALF_UP, Lent, LimitRead,
-    MOST_TRIANGLE_SLOTS, MOST_VERTEX_SLOTS, Panel, PositionRead, RingRead, Tables, Worked,
+    MOST_TRIANGLE_SLOTS, MOST_VERTEX_SLOTS, Panel, PointSeen, PositionRead, RingRead, Shown, Tables, Worked,
 };
 
 const LAST_GENERATION: u8 = 20;
 
 pub fn answer(lent: &mut Lent, call: Call) -> Answer {
-    let Lent { tables, counts, cage, buffer, table, list, spares } = lent;
+    let Lent { tables, counts, cage, buffer, table, view, list, spares } = lent;
     match call {
         Call::Load(rule) => Answer::Worked(fast_load(tables, *counts, rule, cage)),
         Call::Refine(triangle) => Answer::Worked(fast_refine(tables, *counts, triangle)),
@@ -26,6 +26,8 @@ pub fn answer(lent: &mut Lent, call: Call) -> Answer {
         Call::Ring(vertex) => Answer::Ring(fast_ring(tables, *counts, vertex, buffer)),
         Call::Position(vertex) => Answer::Position(fast_position(tables, *counts, vertex)),
         Call::Limit => Answer::Limit(fast_limit(tables, *counts, table)),
+        Call::ViewPoint(vertex) => Answer::Seen(fast_view_point(tables, *counts, vertex)),
+        Call::ViewTriangles => Answer::Shown(fast_view_triangles(tables, *counts, view)),
         Call::RefineList => Answer::List(fast_refine_list(tables, *counts, list, spares)),
         Call::Preview => Answer::Preview(fast_preview(tables, *counts, list, spares)),
         Call::RefineBox(panel) => Answer::List(fast_refine_box(tables, *counts, panel, spares)),
@@ -103,6 +105,25 @@ fn fast_position(tables: &Tables, counts: Counts, vertex: u32) -> PositionRead {
 fn fast_limit(tables: &Tables, counts: Counts, table: &mut [i32]) -> LimitRead {
     let refused = starts(tables, counts).and_then(|_| step::limit(tables, counts, table)).err();
     LimitRead { refusal: refused.unwrap_or(0), counts }
+}
+
+#[unsafe(no_mangle)]
+#[inline(never)]
+fn fast_view_point(tables: &Tables, counts: Counts, vertex: u32) -> PointSeen {
+    match starts(tables, counts) {
+        Ok(_) if vertex < counts.vertices => {
+            let [x, y, z] = triple(&tables.positions, vertex as usize).map(millimetres);
+            PointSeen { refusal: 0, x, y, z }
+        }
+        refused => PointSeen { refusal: refused.err().unwrap_or(8), ..PointSeen::default() },
+    }
+}
+
+#[unsafe(no_mangle)]
+#[inline(never)]
+fn fast_view_triangles(tables: &Tables, counts: Counts, view: &mut [f32]) -> Shown {
+    let refused = starts(tables, counts).and_then(|_| show(tables, counts, view)).err();
+    Shown { refusal: refused.unwrap_or(0), counts }
 }
 
 #[unsafe(no_mangle)]
@@ -187,6 +208,20 @@ fn ring(tables: &Tables, starts: &[u32], vertex: u32, buffer: &mut [u32]) -> Res
         buffer[length - 1] = tables.corners[last];
     }
     Ok(length as u32)
+}
+
+/// Writes all triangles of sound tables, corner by corner, or refuses with 20.
+fn show(tables: &Tables, counts: Counts, view: &mut [f32]) -> Result<(), u32> {
+    let corners = &tables.corners[..3 * counts.triangles as usize];
+    let (view, _) = view.get_mut(..3 * corners.len()).ok_or(20u32)?.as_chunks_mut::<3>();
+    for (entries, &corner) in view.iter_mut().zip(corners) {
+        *entries = triple(&tables.positions, corner as usize).map(millimetres);
+    }
+    Ok(())
+}
+
+fn millimetres(coordinate: i32) -> f32 {
+    coordinate as f32 / 1024.0
 }
 
 fn next(side: usize) -> usize {

@@ -1,7 +1,7 @@
 //! The harness against itself: what it makes is what it says, and what is broken is caught.
 
 use crate::bench::Bench;
-use crate::calls::fitting_spares;
+use crate::calls::{fitting_spares, some_numbers};
 use crate::case::Case;
 use crate::claims;
 use crate::damage;
@@ -74,6 +74,7 @@ fn cases_are_read_back_as_they_were_written() {
     let mut store = handmade::random(rng);
     store.room.ring = vec![9, 9, 4];
     store.room.table = vec![-1, -1, i32::MAX];
+    store.room.view = vec![0, 1 << 31, 0x7FA0_0001, u32::MAX];
     store.room.spares = fitting_spares(&store, rng);
     let calls = [
         Call::Load { rule: 1, cage: vec![1, 1, 1, 255, 0] },
@@ -85,6 +86,8 @@ fn cases_are_read_back_as_they_were_written() {
         Call::Ring { vertex: 9 },
         Call::Position { vertex: u32::MAX },
         Call::Limit,
+        Call::ViewPoint { vertex: 3 },
+        Call::ViewTriangles,
         Call::RefineList { list: vec![] },
         Call::RefineList { list: vec![3, 3, 3, u32::MAX] },
         Call::Preview { list: vec![] },
@@ -119,9 +122,11 @@ fn mirror_images_tell_what_spoils_them() {
     let rng = &mut Rng::new(15);
     let mut store = handmade::random(rng);
     store.room.spares = fitting_spares(&store, rng);
+    store.room.view = some_numbers(99, rng);
     for axis in AXES {
         assert_ne!(mirror::of_store(&store, axis).tables, store.tables);
         assert_ne!(mirror::of_store(&store, axis).room.spares, store.room.spares);
+        assert_ne!(mirror::of_store(&store, axis).room.view, store.room.view);
         assert_eq!(mirror::of_store(&mirror::of_store(&store, axis), axis), store);
         let load = Call::Load { rule: 2, cage: malformed::random(rng) };
         let image = mirror::of_call(&load, axis).expect("a load has an image");

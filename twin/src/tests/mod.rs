@@ -8,6 +8,7 @@ mod modules;
 mod plain_sound;
 mod rules;
 mod version;
+mod views;
 
 use crate::cages::Cage;
 use crate::rng::Rng;

@@ -142,7 +142,7 @@ fn a_foil_is_turned_away_and_two_triangles_on_the_boundary_are_not() {
 fn refusals_are_those_of_the_table() {
     let rng = &mut Rng::new(3);
     let table = examples::refusals(rng);
-    assert!(table.iter().map(|example| example.refusal).eq((1..=19).filter(|&number| number != 10)));
+    assert!(table.iter().map(|example| example.refusal).eq((1..=20).filter(|&number| number != 10)));
     for Example { refusal, store, call } in table.into_iter().chain(examples::orders(rng)) {
         let mut after = store.clone();
         let answer = run(&mut after, &call);
