@@ -1,13 +1,19 @@
--- Runs computed from the rules: the twelve facts of the tetrahedron run, the nine triangles of Figure 8, and base
--- chains that end at the boundary. (The tetrahedron run; request b)
+-- Runs computed from the rules: the twelve facts of the tetrahedron run, the nine triangles of Figure 8, base chains
+-- that end at the boundary, and the splits that raise a triangle. (The tetrahedron run; requests b, k)
 use Prim.Native.Nat.{ℕ, zero, suc, _+_, _-_, _*_}
+use mathlib.Core.Bool.{Bool, false, not, _&&_, _||_}
 use mathlib.Core.List.{List, [], _∷_, _++_, map}
 use mathlib.Core.Path.{_≡_, refl}
+use lib.Dec.{eqb, ltb}
 use lib.IntN.{ℤ, pos}
 use Rattle.rules.proofs.Computing.{computing, made, madeEach, fresh, tetrahedron, bytes}
+use Rattle.rules.proofs.Refusals.{hinge}
+use Rattle.rules.specs.Below.{any}
 use Rattle.rules.specs.Calls.{Outcome, refineCall}
 use Rattle.rules.specs.History.{Change, loads, refines, steps}
-use Rattle.rules.specs.Tables.{Mesh, origin, generation, coordinate, topologyOf, meshOf, boundary}
+use Rattle.rules.specs.Runs.{ran}
+use Rattle.rules.specs.Split.{Work, atFirst, chainAt, splitAt, refine}
+use Rattle.rules.specs.Tables.{Mesh, origin, generation, coordinate, topologyOf, meshOf, boundary, link, odd}
 use lib.ListN.{replicate}
 
 -- ---- what the facts speak of
@@ -200,3 +206,61 @@ pub record ChainTable : Type 0 where
 pub chains : ChainTable
 unfolding computing chainOf lastRefined
 chains = record { enough = refl; ten = refl; tooFew = refl }
+
+-- ---- runs that raise a triangle (request k)
+
+-- The hinge with triangles 0, 2, 4 and 4 refined, ten triangles. Slots 4 and 9 have base chains of four odd triangles:
+-- that of 4 ends at the even slot 1, that of 9 at the boundary.
+unfoldable pub fourDeep : Mesh
+unfolding fresh hinge
+fourDeep = made (loads 1 hinge ∷ refines 0 ∷ refines 2 ∷ refines 4 ∷ refines 4 ∷ []) (fresh 18 18)
+
+-- What a run makes of it.
+unfoldable pub fourRun : List ℕ → Work
+unfolding fourDeep
+fourRun slots = ran slots (atFirst fourDeep)
+
+abbrev pub generationsOf : Work → List ℕ
+generationsOf w = w .mesh .topology .generations
+
+-- Some run of n splits from w on leaves t above generation g. Each triangle is tried that is even or has its base on
+-- the boundary; slots and age suffice here.
+unfoldable pub someRaises : ℕ → ℕ → ℕ → Work → Bool
+someRaises zero g t w = ltb g (generation (w .mesh .topology) t)
+someRaises (suc n) g t w =
+    let m = w .mesh .topology in
+    let may : ℕ → Bool = λ x. not (odd (generation m x)) || eqb (link m (3 * x)) boundary in
+    any (m .triangles) (λ x. may x && someRaises n g t (splitAt x w))
+
+pub record RunTable : Type 0 where
+  pub chain : map (λ i. chainAt i (fourDeep .topology) 4) (0 ∷ 1 ∷ 2 ∷ 3 ∷ 4 ∷ []) ≡ 4 ∷ 7 ∷ 2 ∷ 0 ∷ 1 ∷ []
+  pub generations : map (generation (fourDeep .topology)) (4 ∷ 7 ∷ 2 ∷ 0 ∷ 1 ∷ []) ≡ 7 ∷ 5 ∷ 3 ∷ 1 ∷ 0 ∷ []
+  pub refined : map (λ t. lineOf (refineCall t fourDeep)) (4 ∷ 9 ∷ []) ≡ (0 ∷ 4 ∷ 4 ∷ 14 ∷ 18 ∷ [])
+      ∷ (0 ∷ 3 ∷ 3 ∷ 14 ∷ 16 ∷ []) ∷ []
+  -- The generations of the refine of 4 are those of the run of slots 1, 1, 2 and 15; of 9 of 3, at the boundary, 3 and 6.
+  pub asRun : map generationsOf (refine 4 (fourRun []) ∷ fourRun (1 ∷ 1 ∷ 2 ∷ 15 ∷ []) ∷ [])
+      ≡ replicate 2 (2 ∷ 4 ∷ 5 ∷ 1 ∷ 8 ∷ 3 ∷ 5 ∷ 6 ∷ 8 ∷ 7 ∷ 1 ∷ 1 ∷ 3 ∷ 3 ∷ 5 ∷ 8 ∷ 7 ∷ 7 ∷ [])
+  pub asRunAtBoundary : map generationsOf (refine 9 (fourRun []) ∷ fourRun (3 ∷ 3 ∷ 6 ∷ []) ∷ [])
+      ≡ replicate 2 (1 ∷ 0 ∷ 3 ∷ 6 ∷ 7 ∷ 4 ∷ 7 ∷ 5 ∷ 8 ∷ 8 ∷ 4 ∷ 3 ∷ 5 ∷ 5 ∷ 7 ∷ 8 ∷ 0 ∷ 0 ∷ [])
+  -- Slot 4 before each of its splits, and after the last.
+  pub waits : map (λ run. generation (fourRun run .mesh .topology) 4)
+      ([] ∷ (1 ∷ []) ∷ (1 ∷ 1 ∷ []) ∷ (1 ∷ 1 ∷ 2 ∷ []) ∷ (1 ∷ 1 ∷ 2 ∷ 15 ∷ []) ∷ []) ≡ 7 ∷ 7 ∷ 7 ∷ 7 ∷ 8 ∷ []
+  -- No run of three splits raises slot 4, and none of two raises slot 9.
+  pub fewer : someRaises 3 7 4 (fourRun []) ≡ false
+  pub fewerAtBoundary : someRaises 2 7 9 (fourRun []) ≡ false
+  -- Slot 8 is even and beside 4 and 9, but meets them at no base: its split leaves them.
+  pub besideLeft : map (generation (fourRun (8 ∷ []) .mesh .topology)) (4 ∷ 8 ∷ 9 ∷ []) ≡ 7 ∷ 9 ∷ 7 ∷ []
+
+pub runs-of-four : RunTable
+unfolding computing fresh hinge fourDeep fourRun someRaises
+runs-of-four = record {
+  chain = refl;
+  generations = refl;
+  refined = refl;
+  asRun = refl;
+  asRunAtBoundary = refl;
+  waits = refl;
+  fewer = refl;
+  fewerAtBoundary = refl;
+  besideLeft = refl;
+}

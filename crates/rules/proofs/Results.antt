@@ -18,7 +18,9 @@ use Rattle.rules.proofs.Calls.Histories.{every-history, history-sound, 
 use Rattle.rules.proofs.Loads.InnerOfTwo.{some-inner-of-two-is, back-to-back}
 use Rattle.rules.proofs.Loads.Load.{links-are}
 use Rattle.rules.proofs.Calls.Outcomes.{load-makes, refine-makes, chain-falls, refine-is-split}
+use Rattle.rules.proofs.Calls.Outcomes.{refine-is-least}
 use Rattle.rules.proofs.Calls.Outcomes.{whole-step-makes, lock-makes, limit-makes, ring-reads, position-reads, view-reads}
+use Rattle.rules.proofs.Chains.Least.{run-least}
 use Rattle.rules.proofs.Chains.Refine.{chain-counts, chain-takes}
 use Rattle.rules.proofs.Lists.Entries.{handled-then}
 use Rattle.rules.proofs.Lists.ListCall.{list-refusal, list-makes, list-stops}
@@ -45,7 +47,7 @@ use Rattle.rules.specs.Conditions.{refineConditions, wholeStepConditions
 use Rattle.rules.specs.Conditions.{positionConditions, listConditions, Takes, FailsAfter}
 use Rattle.rules.specs.Conditions.{SizesFit, CornersFit, FansFit, InnerOfTwo, SomeInnerOfTwo}
 use Rattle.rules.specs.Conditions.{TooOld, TooFewSlots, Alters, Locked, SomeLocked, BoxFits, Wanted, LowestWanted}
-use Rattle.rules.specs.Conditions.{TurnFails, boxConditions}
+use Rattle.rules.specs.Conditions.{TurnFails, boxConditions, Risen}
 use Rattle.rules.specs.History.{Call, outcome, after, lastLoad, nothing, cage, EveryHistory}
 use Rattle.rules.specs.Lists.{Progress, begun, handleAll, refineEach, sparesRefusal, allOrNothing}
 use Rattle.rules.specs.Lists.{listCall, previewCall}
@@ -54,6 +56,7 @@ use Rattle.rules.specs.Numbers.{nearestThird, rounded}
 use Rattle.rules.specs.Promises.{Nearest, Matches, Loaded, ChainFalls, RefineMakes, added, StepMakes, LimitMakes}
 use Rattle.rules.specs.Promises.{refusedAs, AgreeInUse, RingMakes, kobbelt, ListMakes, SameWork, BackToBack}
 use Rattle.rules.specs.Promises.{BoxMakes, LockMakes, Stands, NoLoad, NoClearing, LeaveLocked}
+use Rattle.rules.specs.Runs.{MayRun, ran, LeastDisturbance}
 use Rattle.rules.specs.Sound.{Sound, isSound}
 use Rattle.rules.specs.Spares.{Spares, copied, meshIn, SameSizes}
 use Rattle.rules.specs.Split.{Work, atFirst, chainOdd, refine}
@@ -206,6 +209,22 @@ chain-steps = chain-falls
 pub refine-recursive : (t n : ℕ) (m : Mesh) → refineCall t m .answer .refusal ≡ 0 → generation (m .topology) t < n
     → refine t (atFirst m) ≡ kobbelt n t (atFirst m)
 refine-recursive = refine-is-split
+
+-- ---- least disturbance (Request k)
+
+-- From a sound mesh no run of splits, each with its flips, after which t has risen has fewer splits than refining t
+-- takes. Locks are left aside: a run may alter locked triangles, so that the bound holds for those that do not. So are
+-- 9 and 11: each split of a run has its slots and is of no triangle that 9 refuses, and where the refine of t is
+-- refused, the bound is what it would take.
+pub least-splits : (t : ℕ) (m : Mesh) → Sound m → t < m .topology .triangles
+    → (run : List ℕ) → MayRun run (atFirst m) → Risen m t (ran run (atFirst m) .mesh)
+    → splitsOf (m .topology) t ≤ length run
+least-splits = run-least
+
+-- Refining t, where it is carried out, is such a run, with exactly as many splits as it answers; no run that raises t
+-- has fewer.
+pub refine-least : (t : ℕ) (m : Mesh) → refineCall t m .answer .refusal ≡ 0 → LeastDisturbance t m (refineCall t m)
+refine-least = refine-is-least
 
 -- ---- a list of triangles (Request e)
 

@@ -1,5 +1,5 @@
 -- What each call that is carried out makes.
-use mathlib.Core.Path.{_≡_, refl, sym, subst}
+use mathlib.Core.Path.{_≡_, refl, sym, ap, _∙_, subst}
 use mathlib.Core.Bool.{Bool}
 use mathlib.Core.Logic.{_≢_}
 use mathlib.Core.List.{List}
@@ -22,12 +22,14 @@ use Rattle.rules.proofs.Steps.Limits.{limits-made}
 use Rattle.rules.proofs.Calls.Histories.{found-refines}
 use Rattle.rules.proofs.Chains.Kobbelt.{refine-is-kobbelt}
 use Rattle.rules.proofs.Chains.Going.{going-begins, going-on, same-past}
+use Rattle.rules.proofs.Chains.Least.{run-least, refine-run}
 use Rattle.rules.proofs.Loads.Load.{loaded-loads, links-are, load-sound, loaded-past, loaded-positions-past}
 use Rattle.rules.proofs.Soundness.Relaxed.{sound-manifold, sound-bases}
 use Rattle.rules.specs.Cage.{Cage, cageOf, loaded}
 use Rattle.rules.specs.Calls.{worked, loadCall, refineCall, wholeStepCall, ringRead, ringCall, positionRead}
 use Rattle.rules.specs.Calls.{positionCall, limitRead, limitCall, withLock, lockCall, viewRead, viewCall}
 use Rattle.rules.specs.Promises.{Loaded, ChainFalls, RefineMakes, StepMakes, LockMakes, LimitMakes, kobbelt}
+use Rattle.rules.specs.Runs.{LeastDisturbance}
 use Rattle.rules.specs.Sound.{Sound}
 use Rattle.rules.specs.Split.{atFirst, refine}
 use Rattle.rules.specs.Step.{wholeStep, limitPositions}
@@ -102,6 +104,22 @@ refine-makes t m z =
         past = same-past (going-on (going-begins (F .sound)) F);
       },
     )
+
+-- It is a run, and none that raises t has fewer splits.
+pub refine-is-least : (t : ℕ) (m : Mesh) → refineCall t m .answer .refusal ≡ 0 → LeastDisturbance t m (refineCall t m)
+refine-is-least t m z =
+    let x = judged-carried (refine-judged t m) z in
+    let F = refine-found t m (x .0) in
+    let R = found-refined F in
+    let L = refine-run F in
+    rw (x .1) (record {
+      run = L .run;
+      mayRun = L .may;
+      outcome = ap worked (sym (L .makes));
+      splits = L .splits ∙ sym (R .splits);
+      raises = R .rises;
+      least = λ other M up. omega (arith, R .splits, run-least t m (F .sound) (F .inUse) other M up);
+    })
 
 -- The chain's count is that of its odd triangles.
 pub chain-falls : (m : Mesh) → Sound m → (t : ℕ) → t < m .topology .triangles → generation (m .topology) t % 2 ≡ 1

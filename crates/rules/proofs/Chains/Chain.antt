@@ -257,22 +257,23 @@ module _ (v g p r : ℕ) (m n : Topology) (F : Manifold m) (K : BasesMeetIn nowh
       go (yes e) = e
       go (no d) = absurd (ne (hit x l o q d))
 
+  -- Where the next is left too, the chain goes on from it.
+  pub further-on : {w k : ℕ} (x : ℕ) → x < m .triangles → generation m x % 2 ≡ 1 → link m (3 * x) ≢ boundary
+      → link m (3 * x) / 3 ≢ v → generation n (link m (3 * x) / 3) ≡ generation m (link m (3 * x) / 3)
+      → Path n (link m (3 * x) / 3) w k → (generation n x ≡ generation m x) × Path n x w (suc k)
+  further-on {w} {k} x l o q ne f a =
+      let e : generation n x ≡ generation m x = left x l o q ne in
+      let s : link n (3 * x) ≡ link m (3 * x) = stays x l q e f in
+      (e, across {t = x} (omega arith) (λ z. q (sym s ∙ z)) (subst (λ (h : ℕ). Path n (h / 3) w k) (sym s) a))
+
   shorter-on : (x k : ℕ) → x < m .triangles → generation m x % 2 ≡ 1 → link m (3 * x) ≢ boundary
       → link m (3 * x) / 3 ≢ v → Shorter m n (link m (3 * x) / 3) (suc k) → Shorter m n x (suc (suc k))
   shorter-on x zero l o q ne a =
       let e : generation n x ≡ generation m x = left x l o q ne in
       (e, lands x l o q e (λ z. omega arith))
   shorter-on x (suc k) l o q ne a =
-      let e : generation n x ≡ generation m x = left x l o q ne in
-      let s : link n (3 * x) ≡ link m (3 * x) = stays x l q e (a .0) in (
-        e,
-        (
-          a .1 .0,
-          a .1 .1,
-          across {t = x} (omega arith) (λ z. q (sym s ∙ z))
-              (subst (λ (z : ℕ). Path n (z / 3) (a .1 .0) (suc k)) (sym s) (a .1 .2)),
-        ),
-      )
+      let b = further-on x l o q ne (a .0) (a .1 .2) in
+      (b .0, (a .1 .0, a .1 .1, b .1))
 
   rises-itself : (x : ℕ) → x ≡ v → generation m x < generation n x
   rises-itself x e = rw e (S .own)
