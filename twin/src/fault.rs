@@ -199,6 +199,8 @@ faults! {
     ViewVertexPastUse: "a view lets the first vertex past use pass",
     ViewLastVertexRefused: "a view refuses the last vertex in use",
     ViewVertexBeforeSound: "a view of a vertex tests 8 before 7",
+    SplitWhenFlipped: "refine splits an odd triangle, too, once it is flipped",
+    FlipAcrossNoBase: "a split flips wherever the base of a new triangle meets an odd one",
 }
 
 impl Fault {

@@ -193,7 +193,7 @@ pub fn shells(bench: &mut Bench, rounds: u32, rng: &mut Rng) -> Outcome {
 
 /// A triangle whose refining may lengthen the longest base chain: an even one beside a non-base side of its first
 /// triangle, whose child then stands on that side; or, to get such an even one, an odd triangle there.
-fn chain_lengthener(store: &Store, rng: &mut Rng) -> u32 {
+pub fn chain_lengthener(store: &Store, rng: &mut Rng) -> u32 {
     let first = calls::longest_chain_triangle(store) as usize;
     let side = 3 * first + 1 + rng.below(2);
     let beside = store.tables.links[side];

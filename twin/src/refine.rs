@@ -145,6 +145,10 @@ impl Mesh {
         refuse_unless(self.leaves_free(slots, vertices_needed, triangles_needed), 11)?;
         refuse_unless(!alters_locked, 19)?;
         let mut work = self.refine(t);
+        let flipped = generation % 2 == 1 && !self.triangles[t].is_odd();
+        if self.fault.has(Fault::SplitWhenFlipped) && flipped && self.leaves_free(slots, 1, 2) {
+            work = work.and(Work { splits: 1, flips: self.face_split(t) });
+        }
         if self.fault.has(Fault::SplitsFromGeneration) && generation % 2 == 1 {
             work.splits = u32::from(generation).div_ceil(2);
         }

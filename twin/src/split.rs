@@ -106,7 +106,7 @@ impl Mesh {
     ///       .     t     .             .   /     \   .
     ///      A-------------B           A---A'-----B'---B
     /// ```
-    fn rim_split(&mut self, t: usize) -> u32 {
+    pub fn rim_split(&mut self, t: usize) -> u32 {
         let Triangle { corners: [a, b, p], generation, .. } = self.triangles[t];
         let v = self.points.len();
         let thirds = [[a, a, b], [a, b, b]].map(|vertices| self.third_of(vertices));
@@ -151,7 +151,8 @@ impl Mesh {
     fn base_meets_base(&self, s: usize) -> Option<usize> {
         let across = self.across(Side::new(s, 0))?;
         let odd = self.triangles[across.triangle].is_odd() || self.fault.has(Fault::FlipBySideNumber);
-        (odd && across.number == 0).then_some(across.triangle)
+        let is_base = across.number == 0 || self.fault.has(Fault::FlipAcrossNoBase);
+        (odd && is_base).then_some(across.triangle)
     }
 
     /// The flip of (A,B,P) in s and (B,A,Q) in u to (A,Q,P) and (B,P,Q), one generation on.

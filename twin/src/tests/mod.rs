@@ -7,6 +7,7 @@ mod locks;
 mod modules;
 mod plain_sound;
 mod rules;
+mod runs;
 mod version;
 mod views;
 
