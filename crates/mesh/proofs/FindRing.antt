@@ -9,7 +9,7 @@ use lib.ListN.{length, getD}
 use Rattle.rules.proofs.Numbers.Decide.{when-true}
 use Rattle.rules.proofs.Rings.Fans.{first-in-use}
 use Rattle.rules.proofs.Soundness.SoundTest.{sound-is}
-use Rattle.rules.specs.Calls.{answerOf, ringRoom, outcomeOf, zeroPoint, ringRefusal, ringRead}
+use Rattle.rules.specs.Calls.{answerOf, bufferRoom, outcomeOf, zeroPoint, ringRefusal, ringRead}
 use Rattle.rules.specs.Below.{fill}
 use Rattle.rules.specs.Ring.{firstSide, ring}
 use Rattle.rules.specs.Sound.{OneFan, Sound, isSound}
@@ -94,7 +94,7 @@ module _ (v room : ℕ) (m : Mesh) where
 -- The ring as it is written and reported, by the walk from its first side.
 pub written : (v : ℕ) (m : Mesh) (a : FoundRing) (before after : List ℕ) → Found v (length before) m a
     → after ≡ (let r = ringFrom (m .topology) (a .first) in fill (length r) (λ i. getD r i 0) before)
-    → outcomeOf (answerOf 0 0 0 (a .length) zeroPoint m) m (ringRoom after) ≡ ringRead v before m
+    → outcomeOf (answerOf 0 0 0 (a .length) zeroPoint m) m (bufferRoom after) ≡ ringRead v before m
 written v m a before after F w =
     let e = F .same in
     rw (F .entries, w, sym e) refl

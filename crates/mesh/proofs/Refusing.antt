@@ -14,7 +14,7 @@ use Rattle.rules.proofs.Calls.Carried.{lock-found}
 use Rattle.rules.proofs.Numbers.Decide.{stable}
 use Rattle.rules.proofs.Calls.FirstThatHolds.{two-kept, refuses, carries, none-hold}
 use Rattle.rules.proofs.Soundness.SoundTest.{tables-agree-is}
-use Rattle.rules.specs.Calls.{_if_, firstOf, noRoom, ringRoom}
+use Rattle.rules.specs.Calls.{_if_, firstOf, noRoom, bufferRoom}
 use Rattle.rules.specs.Calls.{refusedWith, roomFor, closedEven, longRing}
 use Rattle.rules.specs.Calls.{wholeStepRefusal, limitRefusal, ringRefusal, ringRead, ringCall, positionRefusal}
 use Rattle.rules.specs.Calls.{positionRead, positionCall, worked, someLocked, withLock, lockRefusal, lockCall}
@@ -98,13 +98,13 @@ module _ (v : ℕ) (buffer : List ℕ) (m : Mesh) where
 -- ---- outcomes
 
 module _ (v : ℕ) (buffer : List ℕ) (m : Mesh) (r : ℕ) (e : r ≡ ringRefusal v buffer m) where
-  pub ring-refused : r ≢ 0 → refusedWith r m (ringRoom buffer) ≡ ringCall v buffer m
+  pub ring-refused : r ≢ 0 → refusedWith r m (bufferRoom buffer) ≡ ringCall v buffer m
   unfolding ringCall
-  ring-refused = refuses m (ringRoom buffer) (ringRead v buffer m) (ringRefusal v buffer m) r e
+  ring-refused = refuses m (bufferRoom buffer) (ringRead v buffer m) (ringRefusal v buffer m) r e
 
   pub ring-carried : r ≡ 0 → ringRead v buffer m ≡ ringCall v buffer m
   unfolding ringCall
-  ring-carried = carries m (ringRoom buffer) (ringRead v buffer m) (ringRefusal v buffer m) r e
+  ring-carried = carries m (bufferRoom buffer) (ringRead v buffer m) (ringRefusal v buffer m) r e
 
 module _ (v : ℕ) (m : Mesh) (r : ℕ) (e : r ≡ slotRefusal (m .topology .vertices) v m) where
   of-position : r ≡ positionRefusal v m

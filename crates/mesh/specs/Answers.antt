@@ -7,7 +7,7 @@ use lib.Dec.{leb, ltb}
 use lib.IntN.{ℤ, pos}
 use lib.ListN.{length}
 use Rattle.points.specs.declared.Point.{Point}
-use Rattle.rules.specs.Calls.{Outcome, answerOf, noRoom, ringRoom, outcomeOf, zeroPoint, ringRefusal, firstOf, _if_}
+use Rattle.rules.specs.Calls.{Outcome, answerOf, noRoom, bufferRoom, outcomeOf, zeroPoint, ringRefusal, firstOf, _if_}
 use Rattle.rules.specs.Ring.{ring}
 use Rattle.rules.specs.Sound.{isSound}
 use Rattle.rules.specs.Tables.{Mesh, tablesAgree}
@@ -32,7 +32,7 @@ limitOutcome a positions corners links generations locks table =
 abbrev pub ringOutcome : RingRead → List ℤ → List ℕ → List ℕ → List ℕ → List ℕ → List ℕ → Outcome
 ringOutcome a positions corners links generations locks buffer =
     let m = meshNow (a .counts) positions corners links generations locks in
-    outcomeOf (answerOf (a .refusal) 0 0 (a .length) zeroPoint m) m (ringRoom buffer)
+    outcomeOf (answerOf (a .refusal) 0 0 (a .length) zeroPoint m) m (bufferRoom buffer)
 
 -- A ring that is refused.
 abbrev pub noRing : ℕ → FoundRing

@@ -8,8 +8,10 @@ ghost use mathlib.Core.Path.{_≡_};
 ghost use Prim.Native.Nat.{_<_};
 ghost use lib.ListN.{length, set};
 ghost use Rattle.rules.specs.Calls.{loadCall, refineCall, wholeStepCall, lockCall, limitCall, ringCall, positionCall};
+ghost use Rattle.rules.specs.Notes.{notedCall, takeBackCall};
 ghost use Rattle.tables.specs.Answers.{workedOutcome};
 ghost use Rattle.tables.specs.Lent.{meshNow};
+ghost use Rattle.noting.specs.Noting.{notedOutcome};
 ghost use Rattle.refining.specs.Standing.{standing};
 ghost use Rattle.mesh.specs.Answers.{slotRefusal, limitOutcome, noRing, FoundFor, ringOutcome, positionOutcome};
 ghost use Rattle.mesh.specs.Answers.{pointOrZero};
@@ -134,6 +136,66 @@ pub fn refine(
         counts,
         t,
         bad,
+    )
+}
+
+// Refines triangle t, with a note by which it can be taken back.
+pub fn refine_noted(
+    positions: &mut [i32],
+    corners: &mut [u32],
+    links: &mut [u32],
+    generations: &mut [u8],
+    locks: &mut [u8],
+    counts: Counts,
+    t: u32,
+    note: &mut [u32],
+) -> Worked
+    ensures { λ r. ⌜
+        notedOutcome r (now (positions .exit)) (now (corners .exit)) (now (links .exit)) (now (generations .exit))
+        (now (locks .exit)) (now (note .exit))
+        ≡ notedCall t (now (note .entry)) (meshNow counts (now (positions .entry)) (now (corners .entry))
+        (now (links .entry)) (now (generations .entry)) (now (locks .entry))) ⌝ }
+{
+    let bad = first_refusal(positions, corners, links, generations, locks, counts);
+    noting::refine_noted(
+        positions,
+        corners,
+        links,
+        generations,
+        locks,
+        counts,
+        t,
+        bad,
+        note,
+    )
+}
+
+// Takes back the refine that wrote the note.
+pub fn take_back(
+    positions: &[i32],
+    corners: &mut [u32],
+    links: &mut [u32],
+    generations: &mut [u8],
+    locks: &mut [u8],
+    counts: Counts,
+    note: &[u32],
+) -> Worked
+    ensures { λ r. ⌜
+        workedOutcome r (now (positions .entry)) (now (corners .exit)) (now (links .exit)) (now (generations .exit))
+        (now (locks .exit))
+        ≡ takeBackCall (now (note .entry)) (meshNow counts (now (positions .entry)) (now (corners .entry))
+        (now (links .entry)) (now (generations .entry)) (now (locks .entry))) ⌝ }
+{
+    let bad = first_refusal(positions, corners, links, generations, locks, counts);
+    undoing::take_back(
+        positions,
+        corners,
+        links,
+        generations,
+        locks,
+        counts,
+        bad,
+        note,
     )
 }
 

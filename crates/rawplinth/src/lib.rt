@@ -18,9 +18,11 @@ ghost use Rattle.rules.specs.Boxes.{boxCall};
 ghost use Rattle.rules.specs.Calls.{loadCall, refineCall, wholeStepCall, lockCall, limitCall, ringCall, positionCall};
 ghost use Rattle.rules.specs.Calls.{viewCall};
 ghost use Rattle.rules.specs.Lists.{listCall, previewCall};
+ghost use Rattle.rules.specs.Notes.{notedCall, takeBackCall};
 ghost use Rattle.tables.specs.Answers.{workedOutcome};
 ghost use Rattle.tables.specs.Lent.{meshNow, sparesNow};
 ghost use Rattle.refining.specs.Batches.{batchOutcome, foreseenOutcome};
+ghost use Rattle.noting.specs.Noting.{notedOutcome};
 ghost use Rattle.mesh.specs.Answers.{limitOutcome, ringOutcome, positionOutcome};
 ghost use Rattle.viewer.specs.View.{tableAfter, shownOutcome};
 ghost use Rattle.rawplinth.specs.Seeing.{pointTold};
@@ -79,6 +81,54 @@ pub extern "C" fn rawplinth_refine(
         counts,
         triangle,
     )
+}
+
+// Refines one triangle, with a note by which it can be taken back.
+#[no_mangle]
+pub extern "C" fn rawplinth_refine_noted(
+    positions: &mut [i32],
+    corners: &mut [u32],
+    links: &mut [u32],
+    generations: &mut [u8],
+    locks: &mut [u8],
+    counts: Counts,
+    triangle: u32,
+    note: &mut [u32],
+) -> Worked
+    ensures { λ r. ⌜ notedOutcome r (now (positions .exit)) (now (corners .exit)) (now (links .exit))
+        (now (generations .exit)) (now (locks .exit)) (now (note .exit))
+        ≡ notedCall triangle (now (note .entry)) (meshNow counts (now (positions .entry)) (now (corners .entry))
+        (now (links .entry)) (now (generations .entry)) (now (locks .entry))) ⌝ }
+{
+    mesh::refine_noted(
+        positions,
+        corners,
+        links,
+        generations,
+        locks,
+        counts,
+        triangle,
+        note,
+    )
+}
+
+// Takes a refine back by its note.
+#[no_mangle]
+pub extern "C" fn rawplinth_take_back(
+    positions: &[i32],
+    corners: &mut [u32],
+    links: &mut [u32],
+    generations: &mut [u8],
+    locks: &mut [u8],
+    counts: Counts,
+    note: &[u32],
+) -> Worked
+    ensures { λ r. ⌜ workedOutcome r (now (positions .entry)) (now (corners .exit)) (now (links .exit))
+        (now (generations .exit)) (now (locks .exit))
+        ≡ takeBackCall (now (note .entry)) (meshNow counts (now (positions .entry)) (now (corners .entry))
+        (now (links .entry)) (now (generations .entry)) (now (locks .entry))) ⌝ }
+{
+    mesh::take_back(positions, corners, links, generations, locks, counts, note)
 }
 
 // The whole smoothing step.

@@ -107,7 +107,7 @@ has-slots n S =
     }
 
 -- Tables as long have the same.
-same-slots : {n : Counts} {p q : List ℤ} {c l g k c′ l′ g′ k′ : List ℕ} → HasSlots n p c l g k → length q ≡ length p
+pub same-slots : {n : Counts} {p q : List ℤ} {c l g k c′ l′ g′ k′ : List ℕ} → HasSlots n p c l g k → length q ≡ length p
     → length c′ ≡ length c → length l′ ≡ length l → length g′ ≡ length g → length k′ ≡ length k
     → HasSlots n q c′ l′ g′ k′
 same-slots H a b c d e = record {

@@ -8,6 +8,7 @@ use Prim.Native.Nat.{ℕ, _*_, _≤_, _<_}
 use native.Mathlib.Omega.{arith}
 use lib.Dec.{eqb, leb}
 use Rattle.rules.proofs.Numbers.Decide.{Decides, is-true, is-same}
+use Rattle.rules.proofs.Calls.Carried.{refine-found}
 use Rattle.rules.proofs.Calls.FirstThatHolds.{two-kept, two-passed, refuses, carries}
 use Rattle.rules.proofs.Soundness.SoundTest.{tables-agree-is, sound-is}
 use Rattle.rules.specs.Calls.{Test, _if_, firstOf, noRoom, refusedWith, roomFor, worked, refineRefusal, refineCall}
@@ -15,7 +16,9 @@ use Rattle.rules.specs.Calls.{verticesOf, trianglesOf, tooOld, altersLocked}
 use Rattle.rules.specs.Sound.{Sound, isSound}
 use Rattle.rules.specs.Split.{atFirst, refine}
 use Rattle.rules.specs.Tables.{Mesh, tablesAgree, generation, Topology, boundary, link}
+use Rattle.refining.specs.Finding.{Finds, Goes}
 use Rattle.refining.specs.Standing.{standing}
+use Rattle.refining.specs.declared.Found.{Found}
 
 pub standing-sound : (m : Mesh) (r : ℕ) → r ≡ standing m → r ≡ 0 → Sound m
 standing-sound m r e z = go (tablesAgree m) (isSound m) (sound-is m) (sym e ∙ z)
@@ -150,3 +153,7 @@ module _ (t : ℕ) (m : Mesh) (r : ℕ) (e : r ≡ refineRefusal t m) where
   pub refine-carried : r ≡ 0 → worked (refine t (atFirst m)) ≡ refineCall t m
   unfolding refineCall
   refine-carried = carries m noRoom (worked (refine t (atFirst m))) (refineRefusal t m) r e
+
+-- Where nothing is found to refuse, the refine is carried out.
+pub finds-goes : {t : ℕ} {m : Mesh} {f : Found} → Finds t m f → f .refusal ≡ 0 → Goes t m (f .chain)
+finds-goes {t} {m} F z = record { found = refine-found t m (sym (F .refusal) ∙ z); chain = F .chain z }

@@ -2,3 +2,4 @@
 pub mod Standing
 pub mod Locked
 pub mod Batches
+pub mod Finding

@@ -12,8 +12,9 @@ ghost use mathlib.Core.Bool.{not};
 ghost use Prim.Native.Nat.{ℕ, _+_, _-_, _*_, max};
 ghost use lib.Dec.{leb};
 ghost use lib.IntN.{ℤ};
-ghost use Rattle.rules.specs.Calls.{firstOf, _if_, roomFor, tooOld, altersLocked, refineCall};
+ghost use Rattle.rules.specs.Calls.{firstOf, _if_, roomFor, tooOld, altersLocked, worked, refineCall};
 ghost use Rattle.rules.specs.Sound.{isSound};
+ghost use Rattle.rules.specs.Split.{atFirst, refine};
 ghost use Rattle.rules.specs.Tables.{tablesAgree};
 ghost use Rattle.tables.specs.Answers.{workedOutcome};
 ghost use Rattle.tables.specs.Lent.{topologyNow, meshNow};
@@ -21,6 +22,13 @@ ghost use Rattle.tables.specs.declared.Counts.{Counts};
 ghost use Rattle.split.specs.Made.{BaseChain};
 ghost use Rattle.refining.specs.Standing.{standing};
 ghost use Rattle.refining.specs.Locked.{Follows};
+ghost use Rattle.refining.specs.Finding.{Finds, Goes};
+
+// What is found before a refine: its refusal, and where that is 0 the base chain of its triangle.
+pub struct Found {
+    pub refusal: u32,
+    pub chain: Chain,
+}
 
 // Whether t may rise no more: it is of generation 20, or of 19 with its base on the boundary.
 fn too_old(links: &[u32], generations: &[u8], t: u32) -> bool
@@ -77,8 +85,42 @@ fn chain_refusal(
     0
 }
 
-// Refines triangle t of a mesh whose first refusal is known.
-pub fn refine(
+// What a refine of t finds before its work, on a mesh whose first refusal is `bad`.
+pub fn find(
+    positions: &[i32],
+    links: &[u32],
+    generations: &[u8],
+    locks: &[u8],
+    counts: Counts,
+    t: u32,
+    bad: u32,
+) -> Found
+    requires { ⌜ ((corners : List ℕ) ×
+        (bad ≡ standing (meshNow counts (now positions) corners (now links) (now generations) (now locks)))) ⌝ }
+    ensures { λ r. ⌜ ((corners : List ℕ) →
+        let m = meshNow counts (now (positions .entry)) corners (now (links .entry)) (now (generations .entry))
+        (now (locks .entry)) in
+        bad ≡ standing m → Finds t m r) ⌝ }
+{
+    let refused = triangle_refusal(links, generations, counts, t, bad);
+    if refused != 0 {
+        return Found {
+            refusal: refused,
+            chain: Chain {
+                odd: 0,
+                end: t,
+                rim: 0,
+                slots: [0; 20],
+            },
+        };
+    }
+    let chain = split::base_chain(links, generations, t);
+    let refusal = chain_refusal(positions, links, generations, locks, counts, chain);
+    Found { refusal, chain }
+}
+
+// The refine of t along its base chain, which nothing refuses.
+pub fn carry_out(
     positions: &mut [i32],
     corners: &mut [u32],
     links: &mut [u32],
@@ -86,35 +128,16 @@ pub fn refine(
     locks: &mut [u8],
     counts: Counts,
     t: u32,
-    bad: u32,
+    chain: Chain,
 ) -> Worked
-    requires { ⌜ bad ≡ standing (meshNow counts (now positions) (now corners) (now links) (now generations)
-        (now locks)) ⌝ }
+    requires { ⌜ Goes t (meshNow counts (now positions) (now corners) (now links) (now generations) (now locks))
+        chain ⌝ }
     ensures { λ r. ⌜
         workedOutcome r (now (positions .exit)) (now (corners .exit)) (now (links .exit)) (now (generations .exit))
         (now (locks .exit))
-        ≡ refineCall t (meshNow counts (now (positions .entry)) (now (corners .entry)) (now (links .entry))
-        (now (generations .entry)) (now (locks .entry))) ⌝ }
+        ≡ worked (refine t (atFirst (meshNow counts (now (positions .entry)) (now (corners .entry))
+        (now (links .entry)) (now (generations .entry)) (now (locks .entry))))) ⌝ }
 {
-    let refused = triangle_refusal(links, generations, counts, t, bad);
-    if refused != 0 {
-        return Worked {
-            refusal: refused,
-            splits: 0,
-            flips: 0,
-            counts,
-        };
-    }
-    let chain = split::base_chain(links, generations, t);
-    let refusal = chain_refusal(positions, links, generations, locks, counts, chain);
-    if refusal != 0 {
-        return Worked {
-            refusal,
-            splits: 0,
-            flips: 0,
-            counts,
-        };
-    }
     let done = split::refine(
         positions,
         corners,
@@ -135,4 +158,44 @@ pub fn refine(
             rule: counts.rule,
         },
     }
+}
+
+// Refines triangle t of a mesh whose first refusal is known.
+pub fn refine(
+    positions: &mut [i32],
+    corners: &mut [u32],
+    links: &mut [u32],
+    generations: &mut [u8],
+    locks: &mut [u8],
+    counts: Counts,
+    t: u32,
+    bad: u32,
+) -> Worked
+    requires { ⌜ bad ≡ standing (meshNow counts (now positions) (now corners) (now links) (now generations)
+        (now locks)) ⌝ }
+    ensures { λ r. ⌜
+        workedOutcome r (now (positions .exit)) (now (corners .exit)) (now (links .exit)) (now (generations .exit))
+        (now (locks .exit))
+        ≡ refineCall t (meshNow counts (now (positions .entry)) (now (corners .entry)) (now (links .entry))
+        (now (generations .entry)) (now (locks .entry))) ⌝ }
+{
+    let found = find(positions, links, generations, locks, counts, t, bad);
+    if found.refusal != 0 {
+        return Worked {
+            refusal: found.refusal,
+            splits: 0,
+            flips: 0,
+            counts,
+        };
+    }
+    carry_out(
+        positions,
+        corners,
+        links,
+        generations,
+        locks,
+        counts,
+        t,
+        found.chain,
+    )
 }

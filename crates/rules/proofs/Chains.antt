@@ -1,5 +1,5 @@
--- The base chain falls and its count is exact; refine raises its triangle, writes slots known before the work, and is
--- Kobbelt's procedure; and no run of splits raises a triangle with fewer.
+-- The base chain falls and its count is exact; refine raises its triangle, writes and relinks slots known before the
+-- work, and is Kobbelt's procedure; and no run of splits raises a triangle with fewer.
 pub mod Runs
 pub mod Chain
 pub mod Remembered
@@ -8,6 +8,8 @@ pub mod Refine
 pub mod RefineLoop
 pub mod Altering
 pub mod Altered
+pub mod Noted
+pub mod Listed
 pub mod Kobbelt
 pub mod Going
 pub mod Least

@@ -3,7 +3,7 @@ use Prim.Native.Nat.{ℕ, _*_}
 use mathlib.Core.List.{List, [], _∷_, map}
 use lib.IntN.{ℤ, pos}
 use lib.ListN.{replicate}
-use Rattle.rules.specs.Below.{all, any, lowest, total, fill}
+use Rattle.rules.specs.Below.{all, any, lowest, total, those, fill}
 use Rattle.rules.specs.Boxes.{Box, wanted, refineWanted, boxRefusal, boxCall}
 use Rattle.rules.specs.Cage.{cageOf, partner, loaded, sizesFit, cornersFit, coordinatesFit, sidesDiffer, fansFit}
 use Rattle.rules.specs.Cage.{someInnerOfTwo}
@@ -14,6 +14,8 @@ use Rattle.rules.specs.Calls.{viewRefusal, viewCall}
 use Rattle.rules.specs.History.{Change, changes, after, outcomes, lastLoad, edges, cageEdges}
 use Rattle.rules.specs.Lists.{entryRefusal, entryWork, handle, handleAll, sparesRefusal, listCall}
 use Rattle.rules.specs.Lists.{previewCall}
+use Rattle.rules.specs.Notes.{differs, ninesOf, notedRefusal, notedCall, putBackAll, restored, sameInUse}
+use Rattle.rules.specs.Notes.{accepted, takeBackRefusal, takeBackCall}
 use Rattle.rules.specs.Numbers.{numberAt, signed, floorDiv, nearestThird, halfUp, rounded, weights, weight, moved}
 use Rattle.rules.specs.Numbers.{limit}
 use Rattle.rules.specs.Ring.{firstSide, fanFrom, fan, neighbours, ring}
@@ -36,6 +38,7 @@ unfolding all any lowest total fill cageOf partner loaded sizesFit cornersFit co
     moveVertices refineFirst wholeStep tablesAgree copied sameSizes entryRefusal entryWork handle handleAll
     sparesRefusal listCall previewCall wanted refineWanted boxRefusal boxCall chainAt
     altersLocked someLocked lockRefusal lockCall viewRefusal viewCall
+    those differs ninesOf notedRefusal notedCall putBackAll restored sameInUse accepted takeBackRefusal takeBackCall
 computing = tt
 
 -- The mesh after these changes, and the outcome of each.

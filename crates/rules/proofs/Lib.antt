@@ -9,6 +9,7 @@ pub mod Loads
 pub mod Steps
 pub mod Calls
 pub mod Spares
+pub mod Notes
 pub mod Lists
 pub mod Boxes
 pub mod Locks

@@ -5,4 +5,5 @@ pub mod MirrorWork
 pub mod MirrorRefusals
 pub mod MirrorLists
 pub mod MirrorBoxes
+pub mod MirrorNotes
 pub mod MirrorCalls

@@ -5,4 +5,6 @@ pub mod Rounding
 pub mod Sums
 pub mod Entries
 pub mod Fill
+pub mod Those
+pub mod Take
 pub mod Pigeonhole

@@ -4,19 +4,21 @@ use mathlib.Core.Bool.{true, false}
 use mathlib.Core.List.{List, [], _∷_, _++_, map}
 use mathlib.Core.Path.{_≡_, refl}
 use lib.IntN.{ℤ, pos, negsuc}
-use lib.ListN.{replicate, drop, getD}
+use lib.ListN.{replicate, drop, getD, set}
 use Rattle.rules.proofs.Computing.{computing, made, madeEach, fresh, sevens, boxOf, bytes, tetrahedron}
 use Rattle.rules.proofs.Examples.{lineOf, triangleOf, pointOf, oneTriangle}
-use Rattle.rules.proofs.Refusals.{refusalAfter, cageAtOrigin, triangle, hinge}
+use Rattle.rules.proofs.Refusals.{refusalAfter, cageAtOrigin, triangle, hinge, firstNote}
+use Rattle.rules.specs.Below.{those}
 use Rattle.rules.specs.Boxes.{Box}
 use Rattle.rules.specs.Calls.{Outcome}
 use Rattle.rules.specs.History.{Change, loads, refines, steps, refinesEach, refinesInBox, setsLock, ringOf}
 use Rattle.rules.specs.History.{positionOf, limitsOf, asked, changes, asks, previewOf, outcome, outcomes}
-use Rattle.rules.specs.History.{nothing, cage, lastLoad, edges}
+use Rattle.rules.specs.History.{refinesNoted, takesBack, nothing, cage, lastLoad, edges}
 use Rattle.rules.specs.Mirror.{mirror, mirrorTable}
 use Rattle.rules.specs.Numbers.{nearestThird, rounded}
 use Rattle.rules.specs.Sound.{isSound}
-use Rattle.rules.specs.Tables.{Mesh, topologyOf, meshOf, withLocks, link, generation, coordinate, triangleSlots}
+use Rattle.rules.specs.Tables.{Mesh, topologyOf, meshOf, withLocks, sides, origin, link, generation, coordinate}
+use Rattle.rules.specs.Tables.{triangleSlots}
 
 unfoldable pub store : Mesh
 unfolding fresh
@@ -168,6 +170,66 @@ unfoldable pub linksAfter : List Change → Change → List ℕ → List ℕ
 unfolding store
 linksAfter before c hs =
     map (link (made before store .topology)) hs ++ map (link (made (before ++ (c ∷ [])) store .topology)) hs
+
+-- The notes of the second and of the fourth refine of triangle 0 of the tetrahedron. (Request l)
+unfoldable pub secondNote : List ℕ
+secondNote =
+    0 ∷ 5 ∷ 6 ∷ 4
+    ∷ 0 ∷ 0 ∷ 1 ∷ 4 ∷ 5 ∷ 14 ∷ 16 ∷ 1 ∷ 0
+    ∷ 1 ∷ 0 ∷ 3 ∷ 1 ∷ 10 ∷ 6 ∷ 0 ∷ 0 ∷ 0
+    ∷ 2 ∷ 1 ∷ 3 ∷ 2 ∷ 4 ∷ 9 ∷ 12 ∷ 0 ∷ 0
+    ∷ 4 ∷ 1 ∷ 2 ∷ 4 ∷ 8 ∷ 17 ∷ 1 ∷ 1 ∷ 0
+    ∷ []
+
+unfoldable pub fourthNote : List ℕ
+fourthNote =
+    0 ∷ 7 ∷ 10 ∷ 7
+    ∷ 0 ∷ 0 ∷ 5 ∷ 6 ∷ 5 ∷ 26 ∷ 28 ∷ 3 ∷ 0
+    ∷ 1 ∷ 0 ∷ 3 ∷ 5 ∷ 10 ∷ 20 ∷ 0 ∷ 1 ∷ 0
+    ∷ 3 ∷ 2 ∷ 3 ∷ 0 ∷ 7 ∷ 3 ∷ 15 ∷ 0 ∷ 0
+    ∷ 5 ∷ 2 ∷ 0 ∷ 4 ∷ 11 ∷ 27 ∷ 13 ∷ 1 ∷ 0
+    ∷ 6 ∷ 3 ∷ 1 ∷ 5 ∷ 6 ∷ 23 ∷ 4 ∷ 1 ∷ 0
+    ∷ 8 ∷ 5 ∷ 4 ∷ 6 ∷ 22 ∷ 29 ∷ 1 ∷ 3 ∷ 0
+    ∷ 9 ∷ 4 ∷ 0 ∷ 6 ∷ 16 ∷ 2 ∷ 25 ∷ 3 ∷ 0
+    ∷ []
+
+-- The tetrahedron with its four triangles refined, and the note of the last refine. (Request l)
+unfoldable pub fourRefined : List Change
+unfolding tetrahedron
+fourRefined = loads 1 tetrahedron ∷ refines 0 ∷ refines 1 ∷ refines 2 ∷ refines 3 ∷ []
+
+unfoldable pub lastNote : List ℕ
+lastNote =
+    3 ∷ 7 ∷ 10 ∷ 7
+    ∷ 0 ∷ 0 ∷ 5 ∷ 4 ∷ 5 ∷ 22 ∷ 16 ∷ 2 ∷ 0
+    ∷ 1 ∷ 0 ∷ 3 ∷ 5 ∷ 10 ∷ 20 ∷ 0 ∷ 1 ∷ 0
+    ∷ 3 ∷ 2 ∷ 3 ∷ 0 ∷ 24 ∷ 3 ∷ 15 ∷ 0 ∷ 0
+    ∷ 5 ∷ 2 ∷ 0 ∷ 4 ∷ 11 ∷ 2 ∷ 27 ∷ 1 ∷ 0
+    ∷ 6 ∷ 3 ∷ 6 ∷ 5 ∷ 26 ∷ 7 ∷ 4 ∷ 2 ∷ 0
+    ∷ 8 ∷ 3 ∷ 2 ∷ 6 ∷ 9 ∷ 29 ∷ 18 ∷ 1 ∷ 0
+    ∷ 9 ∷ 2 ∷ 4 ∷ 6 ∷ 17 ∷ 13 ∷ 25 ∷ 2 ∷ 0
+    ∷ []
+
+-- The corners and the links of the twelve triangles.
+unfoldable pub twelve : List ℕ
+twelve =
+    0 ∷ 5 ∷ 4 ∷ 0 ∷ 7 ∷ 5 ∷ 1 ∷ 5 ∷ 6 ∷ 2 ∷ 6 ∷ 7 ∷ 1 ∷ 6 ∷ 4 ∷ 2 ∷ 7 ∷ 4
+    ∷ 3 ∷ 6 ∷ 5 ∷ 1 ∷ 4 ∷ 5 ∷ 3 ∷ 7 ∷ 6 ∷ 2 ∷ 4 ∷ 6 ∷ 3 ∷ 5 ∷ 7 ∷ 0 ∷ 4 ∷ 7
+    ∷ 5 ∷ 22 ∷ 33 ∷ 35 ∷ 31 ∷ 0 ∷ 23 ∷ 19 ∷ 12 ∷ 29 ∷ 25 ∷ 15 ∷ 8 ∷ 28 ∷ 21 ∷ 11 ∷ 34 ∷ 27
+    ∷ 26 ∷ 7 ∷ 30 ∷ 14 ∷ 1 ∷ 6 ∷ 32 ∷ 10 ∷ 18 ∷ 17 ∷ 13 ∷ 9 ∷ 20 ∷ 4 ∷ 24 ∷ 2 ∷ 16 ∷ 3
+    ∷ []
+
+-- What is lent for a note, n sevens, after a refine of t that follows these changes.
+unfoldable pub notedBy : List Change → ℕ → ℕ → List ℕ
+unfolding store
+notedBy cs t n = outcome (changes (refinesNoted t (replicate n 7))) (made cs store) .room .buffer
+
+-- The corners of all sides, and their links.
+unfoldable pub sidesOf : Mesh → List ℕ
+unfolding those
+sidesOf m =
+    let all : List ℕ = those (sides (m .topology)) (λ h. true) in
+    map (origin (m .topology)) all ++ map (link (m .topology)) all
 
 pub record Table : Type 0 where
   -- After a flip the even triangle across the previous base may be in another slot: here in slot 1 and not in slot 6.
@@ -324,11 +386,51 @@ pub record Table : Type 0 where
       ∷ refines 0 ∷ setsLock false 0 ∷ setsLock false 0 ∷ refines 0 ∷ []) store)) ≡
       (0 ∷ 0 ∷ 0 ∷ 4 ∷ 4 ∷ []) ∷ (0 ∷ 0 ∷ 0 ∷ 4 ∷ 4 ∷ []) ∷ (19 ∷ 0 ∷ 0 ∷ 4 ∷ 4 ∷ [])
       ∷ (0 ∷ 0 ∷ 0 ∷ 4 ∷ 4 ∷ []) ∷ (0 ∷ 0 ∷ 0 ∷ 4 ∷ 4 ∷ []) ∷ (0 ∷ 1 ∷ 0 ∷ 5 ∷ 6 ∷ []) ∷ []
+  -- A note leaves the rest of what is lent for it. Taken back, the refine answers no splits and no flips, the links are
+  -- the old ones, and the slots given up keep their content. The note is refused then, until the refine is made again,
+  -- which takes these slots. (Request l)
+  pub noteWritten : notedBy (loads 1 tetrahedron ∷ []) 0 33 ≡ firstNote ++ (7 ∷ 7 ∷ [])
+  pub notesWritten : map (λ cs. notedBy (loads 1 tetrahedron ∷ cs) 0 67)
+      ((refines 0 ∷ []) ∷ (refines 0 ∷ refines 0 ∷ refines 0 ∷ []) ∷ []) ≡ (secondNote ++ replicate 27 7) ∷ fourthNote ∷ []
+  pub lastWritten : notedBy (loads 1 tetrahedron ∷ refines 0 ∷ refines 1 ∷ refines 2 ∷ []) 3 67 ≡ lastNote
+  pub takenBackLines : map lineOf (drop 1 (madeEach (loads 1 tetrahedron ∷ refinesNoted 0 (replicate 31 7)
+      ∷ takesBack firstNote ∷ takesBack firstNote ∷ refines 0 ∷ takesBack firstNote ∷ []) store)) ≡
+      (0 ∷ 1 ∷ 0 ∷ 5 ∷ 6 ∷ []) ∷ (0 ∷ 0 ∷ 0 ∷ 4 ∷ 4 ∷ []) ∷ (21 ∷ 0 ∷ 0 ∷ 4 ∷ 4 ∷ [])
+      ∷ (0 ∷ 1 ∷ 0 ∷ 5 ∷ 6 ∷ []) ∷ (0 ∷ 0 ∷ 0 ∷ 4 ∷ 4 ∷ []) ∷ []
+  pub takenBackSides : sidesOf (made (loads 1 tetrahedron ∷ refines 0 ∷ takesBack firstNote ∷ []) store)
+      ≡ 0 ∷ 1 ∷ 2 ∷ 0 ∷ 3 ∷ 1 ∷ 1 ∷ 3 ∷ 2 ∷ 2 ∷ 3 ∷ 0
+      ∷ 5 ∷ 8 ∷ 11 ∷ 10 ∷ 6 ∷ 0 ∷ 4 ∷ 9 ∷ 1 ∷ 7 ∷ 3 ∷ 2 ∷ []
+  pub givenUp : map (triangleOf (made (loads 1 tetrahedron ∷ refines 0 ∷ takesBack firstNote ∷ []) store)) (4 ∷ 5 ∷ [])
+      ≡ (1 ∷ 2 ∷ 4 ∷ 1 ∷ []) ∷ (2 ∷ 0 ∷ 4 ∷ 1 ∷ []) ∷ []
+  -- Two refines taken back in turn, and a rim split.
+  pub takenBackInTurn : map lineOf (drop 1 (madeEach (loads 1 tetrahedron ∷ refines 0 ∷ refines 0
+      ∷ takesBack secondNote ∷ takesBack firstNote ∷ []) store)) ≡
+      (0 ∷ 1 ∷ 0 ∷ 5 ∷ 6 ∷ []) ∷ (0 ∷ 1 ∷ 1 ∷ 6 ∷ 8 ∷ []) ∷ (0 ∷ 0 ∷ 0 ∷ 5 ∷ 6 ∷ []) ∷ (0 ∷ 0 ∷ 0 ∷ 4 ∷ 4 ∷ []) ∷ []
+  pub rimTakenBack : map lineOf (drop 2 (madeEach (loads 1 triangle ∷ refines 0 ∷ refines 0
+      ∷ takesBack (notedBy (loads 1 triangle ∷ refines 0 ∷ []) 0 31) ∷ []) store)) ≡
+      (0 ∷ 1 ∷ 0 ∷ 6 ∷ 5 ∷ []) ∷ (0 ∷ 0 ∷ 0 ∷ 4 ∷ 3 ∷ []) ∷ []
+  -- The link of a locked triangle goes back with its side.
+  pub linkGoesBack : linksAfter (loads 1 tetrahedron ∷ setsLock true 2 ∷ refines 0 ∷ [])
+      (takesBack (set firstNote 21 1)) (8 ∷ []) ≡ 12 ∷ 1 ∷ []
+  -- Positions are compared too: four refines and a whole step give the same corners and links, and the note of the last
+  -- refine is refused after the step.
+  pub sameSides : map (λ cs. sidesOf (made cs store)) (fourRefined ∷ (loads 1 tetrahedron ∷ steps ∷ []) ∷ [])
+      ≡ twelve ∷ twelve ∷ []
+  pub staleNote : map (λ cs. refusalAfter cs (changes (takesBack lastNote)) store)
+      (fourRefined ∷ (loads 1 tetrahedron ∷ steps ∷ []) ∷ []) ≡ 0 ∷ 21 ∷ []
+  -- A note with another triangle is accepted where its refine makes the same mesh: slot 1, across the base of slot 0.
+  pub otherTriangle : map (λ t. refusalAfter (loads 1 tetrahedron ∷ refines 0 ∷ refines 0 ∷ [])
+      (changes (takesBack (set secondNote 0 t))) store) (0 ∷ 1 ∷ 2 ∷ []) ≡ 0 ∷ 0 ∷ 21 ∷ []
+  -- What is compared are meshes, not clicks: where two refines make what the noted one made, its note takes back both.
+  pub twoTakenBack : map lineOf (drop 4 (madeEach (loads 1 tetrahedron ∷ refines 0 ∷ refines 0 ∷ refines 0
+      ∷ refines 3 ∷ refines 1 ∷ takesBack fourthNote ∷ []) store)) ≡
+      (0 ∷ 1 ∷ 2 ∷ 8 ∷ 12 ∷ []) ∷ (0 ∷ 1 ∷ 1 ∷ 9 ∷ 14 ∷ []) ∷ (0 ∷ 0 ∷ 0 ∷ 7 ∷ 10 ∷ []) ∷ []
 
 pub readings : Table
 unfolding computing mirrorTable fresh sevens listed heldBy tetrahedron triangle store solid smoothed sideOne throughOne
     octahedron pulled spike longChain hinge withFirst signedBytes foil atEighteen tight alone boxed boxLine atPoint
     everywhere shortBoxes linksAfter
+    firstNote secondNote fourthNote fourRefined lastNote twelve notedBy sidesOf
 readings = record {
   throughSideOne = refl;
   throughSideOne₉ = refl;
@@ -399,4 +501,17 @@ readings = record {
   linkFollowsFlip = refl;
   linkFollowsRim = refl;
   unlockedAgain = refl;
+  noteWritten = refl;
+  notesWritten = refl;
+  lastWritten = refl;
+  takenBackLines = refl;
+  takenBackSides = refl;
+  givenUp = refl;
+  takenBackInTurn = refl;
+  rimTakenBack = refl;
+  linkGoesBack = refl;
+  sameSides = refl;
+  staleNote = refl;
+  otherTriangle = refl;
+  twoTakenBack = refl;
 }

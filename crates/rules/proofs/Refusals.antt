@@ -4,13 +4,13 @@ use mathlib.Core.Bool.{true, false}
 use mathlib.Core.List.{List, [], _∷_, _++_, map}
 use mathlib.Core.Path.{_≡_, refl}
 use lib.IntN.{pos}
-use lib.ListN.{replicate, take}
+use lib.ListN.{replicate, take, drop, set}
 use Rattle.rules.proofs.Computing.{computing, made, fresh, sevens, boxOf, bytes, tetrahedron}
 use Rattle.rules.specs.Boxes.{Box}
 use Rattle.rules.specs.Calls.{zeroPoint}
 use Rattle.rules.specs.History.{Change, loads, refines, steps, refinesEach, refinesInBox, setsLock, ringOf}
 use Rattle.rules.specs.History.{positionOf, limitsOf, previewOf, pointSeen, trianglesSeen, Call, changes, asks}
-use Rattle.rules.specs.History.{outcome}
+use Rattle.rules.specs.History.{refinesNoted, takesBack, outcome}
 use Rattle.rules.specs.Spares.{Spares}
 use Rattle.rules.specs.Tables.{Mesh, topologyOf, meshOf, withLocks, withRule, boundary}
 
@@ -125,6 +125,21 @@ shortLocks =
       locks = replicate 8 7;
     }
 
+-- What a refine of triangle 0 of the tetrahedron notes: slots 0, 2 and 3, the latter two for one link each. (Request l)
+unfoldable pub firstNote : List ℕ
+firstNote =
+    0 ∷ 4 ∷ 4 ∷ 3
+    ∷ 0 ∷ 0 ∷ 1 ∷ 2 ∷ 5 ∷ 8 ∷ 11 ∷ 0 ∷ 0
+    ∷ 2 ∷ 1 ∷ 3 ∷ 2 ∷ 4 ∷ 9 ∷ 1 ∷ 0 ∷ 0
+    ∷ 3 ∷ 2 ∷ 3 ∷ 0 ∷ 7 ∷ 3 ∷ 2 ∷ 0 ∷ 0
+    ∷ []
+
+-- The refusal of a take-back by a note, after that refine and these changes.
+unfoldable pub takenBack : List Change → List ℕ → ℕ
+unfolding small tetrahedron
+takenBack later note =
+    refusalAfter (loads 1 tetrahedron ∷ refines 0 ∷ later) (changes (takesBack note)) small
+
 pub record Table : Type 0 where
   pub n1 : refusalAfter [] (changes (loads 1 tetrahedron)) uneven ≡ 1
   pub n2 : refusalAfter [] (changes (loads 1 (take 7 tetrahedron))) small ≡ 2
@@ -215,10 +230,42 @@ pub record Table : Type 0 where
   pub soundBeforeShort : map (λ q. refusalAfter [] (asks q) (withRule 3 solid))
       (trianglesSeen 0 ∷ pointSeen 4 ∷ []) ≡ 7 ∷ 7 ∷ []
   pub unusedUnseen : map (λ v. refusalAfter [] (asks (pointSeen v)) solid) (3 ∷ 4 ∷ []) ≡ 0 ∷ 8 ∷ []
+  -- The note of a refine, at once; after the lock of slot 1, which it does not list; after that of slot 2, which it
+  -- lists for a link, and of slot 4, which the refine made; and after another refine. (Request l)
+  pub n21 : map (λ later. takenBack later firstNote)
+      ([] ∷ (setsLock true 1 ∷ []) ∷ (setsLock true 2 ∷ []) ∷ (setsLock true 4 ∷ []) ∷ (refines 1 ∷ []) ∷ [])
+      ≡ 0 ∷ 0 ∷ 21 ∷ 21 ∷ 21 ∷ []
+  -- A note of nothing, with a triangle whose refine is refused: the mesh stands, but is not made.
+  pub n21Refused : takenBack [] (99 ∷ 5 ∷ 6 ∷ 0 ∷ []) ≡ 21
+  -- No note; one entry short; for one slot more, and for so many that 4 + 9 k is 5 in 32 bits.
+  pub n21ByLength : map (takenBack [])
+      ([] ∷ take 30 firstNote ∷ set firstNote 3 4 ∷ set firstNote 3 954437177 ∷ []) ≡ 21 ∷ 21 ∷ 21 ∷ 21 ∷ []
+  -- With one slot more: slot 1 as it stands, in its place; the last one again; and one that was not in use.
+  pub n21BySlots : map (takenBack [])
+      ((set (take 13 firstNote) 3 4 ++ (1 ∷ 0 ∷ 3 ∷ 1 ∷ 10 ∷ 6 ∷ 0 ∷ 0 ∷ 0 ∷ []) ++ drop 13 firstNote)
+      ∷ (set firstNote 3 4 ++ drop 22 firstNote)
+      ∷ (set firstNote 3 4 ++ (4 ∷ replicate 8 0)) ∷ []) ≡ 0 ∷ 21 ∷ 21 ∷ []
+  -- Another triangle, old V and old F; a slot twice, and one not below the old F; another link and generation.
+  pub n21ByEntry : map (λ (i, x). takenBack [] (set firstNote i x))
+      ((0, 1) ∷ (1, 5) ∷ (2, 6) ∷ (13, 0) ∷ (22, 4) ∷ (8, 7) ∷ (11, 2) ∷ [])
+      ≡ 21 ∷ 21 ∷ 21 ∷ 21 ∷ 21 ∷ 21 ∷ 21 ∷ []
+  -- The lock of slot 0, with which the refine is refused, and of slot 2, with which another mesh comes of it.
+  pub n21ByLock : map (λ i. takenBack [] (set firstNote i 1)) (12 ∷ 21 ∷ []) ≡ 21 ∷ 21 ∷ []
+  -- Entries past the note do not count.
+  pub longerIsAccepted : takenBack [] (firstNote ++ (7 ∷ [])) ≡ 0
+  pub soundBeforeNote : map (refusalAfter [] (changes (takesBack []))) (uneven ∷ small ∷ []) ≡ 1 ∷ 7 ∷ []
+  -- A refine that changes three slots, with 0, 30, 31 and 32 entries for its note; after 8, 9, 19 and 11.
+  pub n22 : map (λ n. refusalAfter [] (changes (refinesNoted 0 (replicate n 7))) solid)
+      (0 ∷ 30 ∷ 31 ∷ 32 ∷ []) ≡ 22 ∷ 22 ∷ 0 ∷ 0 ∷ []
+  pub roomBeforeNote : refusalAfter (loads 1 tetrahedron ∷ []) (changes (refinesNoted 0 [])) (fresh 6 5) ≡ 11
+  pub lockBeforeNote : refusalAfter (setsLock true 0 ∷ []) (changes (refinesNoted 0 [])) solid ≡ 19
+  pub unusedBeforeNote : refusalAfter [] (changes (refinesNoted 4 [])) solid ≡ 8
+  pub ageBeforeNote : refusalAfter [] (changes (refinesNoted 0 [])) grown ≡ 9
 
 pub refusals : Table
 unfolding computing fresh sevens small solid uneven tetrahedron cageAtOrigin triangle hinge foilCage foilLast foilFirst
     tooFar grown shell tooFine boxesRefused doublePyramid pyramid lockedInTurn chained cutAtBoundary shortLocks
+    firstNote takenBack
 refusals = record {
   n1 = refl;
   n2 = refl;
@@ -280,4 +327,17 @@ refusals = record {
   tablesBeforeShort = refl;
   soundBeforeShort = refl;
   unusedUnseen = refl;
+  n21 = refl;
+  n21Refused = refl;
+  n21ByLength = refl;
+  n21BySlots = refl;
+  n21ByEntry = refl;
+  n21ByLock = refl;
+  longerIsAccepted = refl;
+  soundBeforeNote = refl;
+  n22 = refl;
+  roomBeforeNote = refl;
+  lockBeforeNote = refl;
+  unusedBeforeNote = refl;
+  ageBeforeNote = refl;
 }

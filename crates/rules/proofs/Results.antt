@@ -3,23 +3,24 @@ use mathlib.Core.Path.{_≡_}
 use mathlib.Core.Bool.{Bool}
 use mathlib.Core.Logic.{_≢_, _⊎_, _↔_}
 use mathlib.Core.List.{List, [], _∷_, _++_}
-use Prim.Native.Nat.{ℕ, _+_, _-_, _*_, _%_, _≤_, _<_}
+use Prim.Native.Nat.{ℕ, suc, _+_, _-_, _*_, _%_, _≤_, _<_}
 use lib.Dec.{T}
 use lib.IntN.{ℤ, pos, natAbs, _-ℤ_, _*ℤ_}
-use lib.ListN.{length}
+use lib.ListN.{length, getD}
 use Rattle.rules.proofs.Boxes.BoxCall.{box-refusal, box-makes, box-refused-first, box-stops, fails-same}
 use Rattle.rules.proofs.Boxes.BoxCall.{box-in-spares, nothing-wanted, box-twice, turn-takes}
 use Rattle.rules.proofs.Calls.CallRefusals.{load-refusal, refine-refusal, whole-step-refusal, ring-refusal}
 use Rattle.rules.proofs.Calls.CallRefusals.{lock-refusal, view-refusal, position-refusal, limit-refusal}
-use Rattle.rules.proofs.Calls.CallRefusals.{taken-at-boundary}
+use Rattle.rules.proofs.Calls.CallRefusals.{taken-at-boundary, noted-refusal, take-back-refusal}
 use Rattle.rules.proofs.Calls.Carried.{may-refine}
 use Rattle.rules.proofs.Calls.EveryCall.{refused-is, no-ten}
 use Rattle.rules.proofs.Calls.Histories.{every-history, history-sound, history-keeps-sound, history-none-of-two}
 use Rattle.rules.proofs.Loads.InnerOfTwo.{some-inner-of-two-is, back-to-back}
 use Rattle.rules.proofs.Loads.Load.{links-are}
-use Rattle.rules.proofs.Calls.Outcomes.{load-makes, refine-makes, chain-falls, refine-is-split}
-use Rattle.rules.proofs.Calls.Outcomes.{refine-is-least}
-use Rattle.rules.proofs.Calls.Outcomes.{whole-step-makes, lock-makes, limit-makes, ring-reads, position-reads, view-reads}
+use Rattle.rules.proofs.Calls.Outcomes.{load-makes, refine-makes, chain-falls, refine-is-split, noted-makes}
+use Rattle.rules.proofs.Calls.Outcomes.{refine-is-least, noted-short, noted-as-refine, few-noted, noted-enough}
+use Rattle.rules.proofs.Calls.Outcomes.{take-back-makes, whole-step-makes, lock-makes, limit-makes, ring-reads}
+use Rattle.rules.proofs.Calls.Outcomes.{position-reads, view-reads}
 use Rattle.rules.proofs.Chains.Least.{run-least}
 use Rattle.rules.proofs.Chains.Refine.{chain-counts, chain-takes}
 use Rattle.rules.proofs.Lists.Entries.{handled-then}
@@ -29,8 +30,11 @@ use Rattle.rules.proofs.Lists.EveryList.{refused-first, empty-list, hel
 use Rattle.rules.proofs.Lists.Preview.{preview-refusal, preview-is, preview-same, preview-shows, list-after}
 use Rattle.rules.proofs.Lists.Preview.{preview-again}
 use Rattle.rules.proofs.Locks.LeftAlone.{altered-exactly}
-use Rattle.rules.proofs.Locks.LockedFaces.{step-locked, call-stands, history-stands}
+use Rattle.rules.proofs.Locks.LockedFaces.{step-locked, call-stands, call-follows, history-stands}
+use Rattle.rules.proofs.Locks.LockedFaces.{history-follows, goes-back}
 use Rattle.rules.proofs.Mirrors.MirrorCalls.{call-mirror, history-mirror}
+use Rattle.rules.proofs.Notes.Accepting.{kept-taken-back}
+use Rattle.rules.proofs.Notes.Reading.{changed-are}
 use Rattle.rules.proofs.Rings.RingTheory.{ring-makes}
 use Rattle.rules.proofs.Numbers.Rounding.{nearest-third, nearest-third-only, rounded-nearest, nearest-only}
 use Rattle.rules.proofs.Soundness.SoundTest.{sound-is}
@@ -42,7 +46,7 @@ use Rattle.rules.specs.Calls.{positionRead, positionCall, limitRead, lim
 use Rattle.rules.specs.Calls.{rimSplitsOf, verticesOf, trianglesOf, spareRoom, refusedWith, withLock, lockCall}
 use Rattle.rules.specs.Calls.{viewRead, viewCall}
 use Rattle.rules.specs.Conditions.{SidesDiffer, EndsAtBoundary, OddInChain, First, loadConditions, lockConditions}
-use Rattle.rules.specs.Conditions.{viewConditions}
+use Rattle.rules.specs.Conditions.{viewConditions, notedConditions, takeBackConditions}
 use Rattle.rules.specs.Conditions.{refineConditions, wholeStepConditions, limitConditions, ringConditions}
 use Rattle.rules.specs.Conditions.{positionConditions, listConditions, Takes, FailsAfter}
 use Rattle.rules.specs.Conditions.{SizesFit, CornersFit, FansFit, InnerOfTwo, SomeInnerOfTwo}
@@ -52,10 +56,13 @@ use Rattle.rules.specs.History.{Call, outcome, after, lastLoad, nothing,
 use Rattle.rules.specs.Lists.{Progress, begun, handleAll, refineEach, sparesRefusal, allOrNothing}
 use Rattle.rules.specs.Lists.{listCall, previewCall}
 use Rattle.rules.specs.Mirror.{mirror, mirrorOutcome, Mirrors, Rounds, MirrorsEach}
+use Rattle.rules.specs.Notes.{nineOf, changedSlots, refined, notedWork, notedCall, notedTriangle, restored}
+use Rattle.rules.specs.Notes.{SameInUse, Accepted, takeBackCall}
 use Rattle.rules.specs.Numbers.{nearestThird, rounded}
 use Rattle.rules.specs.Promises.{Nearest, Matches, Loaded, ChainFalls, RefineMakes, added, StepMakes, LimitMakes}
 use Rattle.rules.specs.Promises.{refusedAs, AgreeInUse, RingMakes, kobbelt, ListMakes, SameWork, BackToBack}
-use Rattle.rules.specs.Promises.{BoxMakes, LockMakes, Stands, NoLoad, NoClearing, LeaveLocked}
+use Rattle.rules.specs.Promises.{BoxMakes, LockMakes, Stands, NoLoad, NoClearing, LeaveLocked, LinksFollow}
+use Rattle.rules.specs.Promises.{NoTakeBack, NoneTakenBack, HasNote, NotedMakes, TakeBackMakes}
 use Rattle.rules.specs.Runs.{MayRun, ran, LeastDisturbance}
 use Rattle.rules.specs.Sound.{Sound, isSound}
 use Rattle.rules.specs.Spares.{Spares, copied, meshIn, SameSizes}
@@ -98,6 +105,16 @@ load-returns = load-refusal
 -- So does a refine.
 pub refine-returns : (t : ℕ) (m : Mesh) → First (refineConditions t m) (refineCall t m .answer .refusal)
 refine-returns = refine-refusal
+
+-- So does a refine with a note: after the refusals of the refine, 22 where the note is too short. (Request l)
+pub noted-returns : (t : ℕ) (note : List ℕ) (m : Mesh)
+    → First (notedConditions t note m) (notedCall t note m .answer .refusal)
+noted-returns = noted-refusal
+
+-- So does a take-back. (Request l)
+pub take-back-returns : (note : List ℕ) (m : Mesh)
+    → First (takeBackConditions note m) (takeBackCall note m .answer .refusal)
+take-back-returns = take-back-refusal
 
 -- So does a whole step.
 pub whole-step-returns : (m : Mesh) → First (wholeStepConditions m) (wholeStepCall m .answer .refusal)
@@ -225,6 +242,63 @@ least-splits = run-least
 -- has fewer.
 pub refine-least : (t : ℕ) (m : Mesh) → refineCall t m .answer .refusal ≡ 0 → LeastDisturbance t m (refineCall t m)
 refine-least = refine-is-least
+
+-- ---- a refine with a note, and one taken back (Request l)
+
+-- A refine with a note that is carried out answers and makes what the refine does, and writes its note.
+pub noted-carried : (t : ℕ) (note : List ℕ) (m : Mesh) → notedCall t note m .answer .refusal ≡ 0
+    → (notedCall t note m ≡ notedWork t note m) × NotedMakes t note m (notedCall t note m)
+noted-carried = noted-makes
+
+-- It is refused with 22 exactly where the refine is not refused and the note is shorter than four entries and nine for
+-- each slot that changes.
+pub noted-too-short : (t : ℕ) (note : List ℕ) (m : Mesh) →
+    (notedCall t note m .answer .refusal ≡ 22)
+    ↔ ((refineCall t m .answer .refusal ≡ 0) × (length note < 4 + 9 * length (changedSlots m (refined t m))))
+noted-too-short = noted-short
+
+-- With any other number, or carried out, it answers and leaves the mesh as the refine does, on any content.
+pub noted-is-refine : (t : ℕ) (note : List ℕ) (m : Mesh) → notedCall t note m .answer .refusal ≢ 22
+    → (notedCall t note m .answer ≡ refineCall t m .answer) × (notedCall t note m .mesh ≡ refineCall t m .mesh)
+noted-is-refine = noted-as-refine
+
+-- 25 slots change at most.
+pub noted-slots : (t : ℕ) (m : Mesh) → refineCall t m .answer .refusal ≡ 0
+    → length (changedSlots m (refined t m)) ≤ 25
+noted-slots = few-noted
+
+-- So 229 entries always do.
+pub noted-in-229 : (t : ℕ) (note : List ℕ) (m : Mesh) → 229 ≤ length note → notedCall t note m .answer .refusal ≢ 22
+noted-in-229 = noted-enough
+
+-- The slots that have changed from m to n rise, and are exactly those in use in m that hold other numbers in n.
+pub changed-exactly : (m n : Mesh) →
+    let l = changedSlots m n in
+    ((i : ℕ) → suc i < length l → getD l i 0 < getD l (suc i) 0)
+    × ((i : ℕ) → i < length l
+    → (getD l i 0 < m .topology .triangles) × (nineOf m (getD l i 0) ≢ nineOf n (getD l i 0)))
+    × ((s : ℕ) → s < m .topology .triangles → nineOf m s ≢ nineOf n s → (i : ℕ) × (i < length l) × (getD l i 0 ≡ s))
+changed-exactly = changed-are
+
+-- The note of a refine, kept as it was written or with more after it, is accepted wherever the mesh is again, or still,
+-- what the refine made, in every entry in use. What is left is sound and has all that was in use before the refine,
+-- counts included; refined again, it gives the refine's answer and the mesh before the take-back, in every slot.
+pub noted-taken-back : (t : ℕ) (m : Mesh) → refineCall t m .answer .refusal ≡ 0
+    → let o = refineCall t m in
+    (note : List ℕ) (s : Spares) → HasNote t m (o .mesh) note → SameSizes s (o .mesh) → AgreeInUse s (o .mesh)
+    → let n = meshIn s (o .mesh) in
+    let back = takeBackCall note n in
+    let again = refineCall t (back .mesh) in
+    Accepted note n × (back .answer .refusal ≡ 0) × Sound (back .mesh) × SameInUse m (back .mesh)
+    × (again .answer ≡ o .answer) × (again .mesh ≡ n)
+noted-taken-back = kept-taken-back
+
+-- A take-back that is carried out answers no splits and no flips, and leaves the mesh that its note restores; there the
+-- refine of the noted triangle makes the mesh before the take-back, in every slot.
+pub take-back-carried : (note : List ℕ) (m : Mesh) → takeBackCall note m .answer .refusal ≡ 0
+    → let n = restored note m in
+    (takeBackCall note m ≡ worked (atFirst n)) × Accepted note m × TakeBackMakes (notedTriangle note) m n
+take-back-carried = take-back-makes
 
 -- ---- a list of triangles (Request e)
 
@@ -409,7 +483,7 @@ pub locked-no-step : (m : Mesh) → SomeLocked m → wholeStepCall m .answer .re
 locked-no-step = step-locked
 
 -- On any content, every call but a load that is carried out leaves a locked triangle as it was; its links follow the
--- sides that they name. It stays locked, unless the call clears its lock.
+-- sides that they name, or go back with them. It stays locked, unless the call clears its lock.
 pub locked-stands : (x : ℕ) (c : Call) (m : Mesh) → Locked m x → NoLoad c m
     → Stands x m (outcome c m .mesh) × (NoClearing x c m → Locked (outcome c m .mesh) x)
 locked-stands = call-stands
@@ -418,6 +492,21 @@ locked-stands = call-stands
 pub locked-stands-after : (x : ℕ) (cs : List Call) (m : Mesh) → Locked m x → LeaveLocked x cs m
     → Stands x m (after cs m) × Locked (after cs m) x
 locked-stands-after = history-stands
+
+-- Where a refine is taken back, its links have followed from the mesh that is left to the one before.
+pub locked-goes-back : (x : ℕ) (note : List ℕ) (m : Mesh) → Locked m x → takeBackCall note m .answer .refusal ≡ 0
+    → LinksFollow x (takeBackCall note m .mesh .topology) (m .topology)
+locked-goes-back = goes-back
+
+-- Where the call takes nothing back, its links only follow.
+pub locked-follows : (x : ℕ) (c : Call) (m : Mesh) → Locked m x → NoLoad c m → NoTakeBack c m
+    → LinksFollow x (m .topology) (outcome c m .mesh .topology)
+locked-follows = call-follows
+
+-- So they do where no call of the list takes anything back.
+pub locked-follows-after : (x : ℕ) (cs : List Call) (m : Mesh) → Locked m x → LeaveLocked x cs m
+    → NoneTakenBack cs m → LinksFollow x (m .topology) (after cs m .topology)
+locked-follows-after = history-follows
 
 -- ---- limit positions (Request a)
 
@@ -452,7 +541,7 @@ view-carried = view-reads
 
 -- For every list of calls, begun on any tables and counts, once a load in it was accepted: all links are mutual;
 -- vertices minus edges plus triangles is that of the cage of the last accepted load; neighbours' generations differ as
--- demanded; and a refine that follows makes and reports what is demanded.
+-- demanded; and a refine that follows, with a note or without, makes and reports what is demanded.
 pub third-demand : EveryHistory
 third-demand = every-history
 

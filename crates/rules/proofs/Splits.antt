@@ -9,6 +9,7 @@ pub mod Bases
 pub mod Edges
 pub mod Settling
 pub mod Settled
+pub mod Told
 pub mod Cut
 pub mod PartsCut
 pub mod Unlocking

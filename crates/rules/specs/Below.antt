@@ -1,6 +1,6 @@
 -- Tests, searches, counts and writes that run over the numbers below n.
 use mathlib.Core.Bool.{Bool, true, false, _&&_}
-use mathlib.Core.List.{List}
+use mathlib.Core.List.{List, [], _∷_, _++_}
 use Prim.Native.Nat.{ℕ, zero, suc, _+_}
 use lib.ListN.{set}
 use lib.Dec.{ltb}
@@ -34,6 +34,11 @@ bit false = 0
 -- How many numbers below n pass.
 abbrev pub count : ℕ → (ℕ → Bool) → ℕ
 count n p = total n (λ i. bit (p i))
+
+-- The numbers below n that pass, in rising order.
+unfoldable pub those : ℕ → (ℕ → Bool) → List ℕ
+those zero p = []
+those (suc n) p = those n p ++ elim (p n) [ true ↦ n ∷ [] | false ↦ [] ]
 
 -- The list with its first n entries written from f, and the later ones as they are.
 unfoldable pub fill : {A : Type 0} → ℕ → (ℕ → A) → List A → List A

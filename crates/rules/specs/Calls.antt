@@ -35,8 +35,8 @@ pub record Answer : Type 0 where
   pub spareTriangles : ℕ
   pub spareRule : ℕ
 
--- What a call is lent beside the mesh: a ring buffer, a table of points, spare tables. What it is not lent is empty. Of
--- a viewer's f32 the crate `viewer` tells.
+-- What a call is lent beside the mesh: a buffer for a ring or a note, a table of points, spare tables. What it is not
+-- lent is empty. Of a viewer's f32 the crate `viewer` tells.
 pub record Room : Type 0 where
   pub buffer : List ℕ
   pub table : List ℤ
@@ -65,12 +65,12 @@ answerOf refusal splits flips n point m = record {
   spareRule = 0;
 }
 
--- No room; a ring buffer, a table, spare tables alone.
+-- No room; a buffer, a table, spare tables alone.
 abbrev pub noRoom : Room
 noRoom = record { buffer = []; table = []; spares = noSpares }
 
-abbrev pub ringRoom : List ℕ → Room
-ringRoom buffer = record { buffer = buffer; table = []; spares = noSpares }
+abbrev pub bufferRoom : List ℕ → Room
+bufferRoom buffer = record { buffer = buffer; table = []; spares = noSpares }
 
 abbrev pub tableRoom : List ℤ → Room
 tableRoom table = record { buffer = []; table = table; spares = noSpares }
@@ -279,11 +279,11 @@ limitCall table m = unless (limitRefusal table m) m (tableRoom table) (limitRead
 abbrev pub ringRead : ℕ → List ℕ → Mesh → Outcome
 ringRead v buffer m =
     let r = ring (m .topology) v in
-    outcomeOf (answerOf 0 0 0 (length r) zeroPoint m) m (ringRoom (fill (length r) (λ i. getD r i 0) buffer))
+    outcomeOf (answerOf 0 0 0 (length r) zeroPoint m) m (bufferRoom (fill (length r) (λ i. getD r i 0) buffer))
 
 -- (Rings and positions)
 unfoldable pub ringCall : ℕ → List ℕ → Mesh → Outcome
-ringCall v buffer m = unless (ringRefusal v buffer m) m (ringRoom buffer) (ringRead v buffer m)
+ringCall v buffer m = unless (ringRefusal v buffer m) m (bufferRoom buffer) (ringRead v buffer m)
 
 -- The position of v. (Rings and positions)
 abbrev pub positionRead : ℕ → Mesh → Outcome

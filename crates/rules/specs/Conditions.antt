@@ -8,6 +8,7 @@ use lib.ListN.{length}
 use lib.Signed.{_≤ℤ_}
 use Rattle.rules.specs.Boxes.{Box}
 use Rattle.rules.specs.Cage.{Cage, cageOf, loaded}
+use Rattle.rules.specs.Notes.{changedSlots, Accepted}
 use Rattle.rules.specs.Numbers.{InRange, KnownRule}
 use Rattle.rules.specs.Ring.{OnBoundary, triangleCount, ring}
 use Rattle.rules.specs.Sound.{OneFan, Sound}
@@ -258,6 +259,15 @@ refineConditions t m =
     ∷ 19 when AltersLocked t m
     ∷ 11 when TooFewSlots t m
     ∷ []
+
+-- Those of the refine, and then 22: the note has under 4 + 9 k entries, where k slots change. (Request l)
+abbrev pub notedConditions : ℕ → List ℕ → Mesh → List Condition
+notedConditions t note m =
+    let k = length (changedSlots m (refine t (atFirst m) .mesh)) in
+    refineConditions t m ++ (22 when (length note < 4 + 9 * k) ∷ [])
+
+abbrev pub takeBackConditions : List ℕ → Mesh → List Condition
+takeBackConditions note m = 1 when (¬ TablesAgree m) ∷ 7 when (¬ Sound m) ∷ 21 when (¬ Accepted note m) ∷ []
 
 abbrev pub wholeStepConditions : Mesh → List Condition
 wholeStepConditions m =

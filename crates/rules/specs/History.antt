@@ -13,12 +13,13 @@ use Rattle.rules.specs.Calls.{Outcome, loadCall}
 use Rattle.rules.specs.Calls.{refineCall, wholeStepCall, lockCall, ringCall, positionCall, limitCall, viewCall}
 use Rattle.rules.specs.Conditions.{OddInChain, EndsAtBoundary}
 use Rattle.rules.specs.Lists.{listCall, previewCall}
+use Rattle.rules.specs.Notes.{notedCall, takeBackCall}
 use Rattle.rules.specs.Spares.{Spares}
 use Rattle.rules.specs.Tables.{Topology, Mesh, sides, link, boundary, generation, next}
 
--- A call that may change the mesh, with its arguments: a rule and a cage's bytes, a triangle, none, a list of triangles
--- and spare tables, a box and spare tables, whether to set or to clear, and a triangle. What a call is lent are lists
--- of their own, never one of the mesh's tables.
+-- A call that may change the mesh, with its arguments: a rule and a cage's bytes; a triangle; none; a list of triangles
+-- and spare tables; a box and spare tables; whether to set or to clear, and a triangle; a triangle and what is lent for
+-- its note; a note. What a call is lent are lists of their own, never one of the mesh's tables.
 pub data Change : Type 0 where
   loads : ℕ → List ℕ → Change
   refines : ℕ → Change
@@ -26,6 +27,8 @@ pub data Change : Type 0 where
   refinesEach : List ℕ → Spares → Change
   refinesInBox : Box → Spares → Change
   setsLock : Bool → ℕ → Change
+  refinesNoted : ℕ → List ℕ → Change
+  takesBack : List ℕ → Change
 
 -- A call that reads the mesh: a vertex and a ring buffer, a vertex, a table for limit positions, a list of triangles
 -- and spare tables; and for a viewer a vertex, which is a position query, and the length of a table. A preview
@@ -51,6 +54,8 @@ changed steps m = wholeStepCall m
 changed (refinesEach list spares) m = listCall list spares m
 changed (refinesInBox box spares) m = boxCall box spares m
 changed (setsLock on t) m = lockCall on t m
+changed (refinesNoted t note) m = notedCall t note m
+changed (takesBack note) m = takeBackCall note m
 
 abbrev pub asked : Question → Mesh → Outcome
 asked (ringOf v buffer) m = ringCall v buffer m
@@ -90,6 +95,8 @@ opens (changes steps) m before = before
 opens (changes (refinesEach list spares)) m before = before
 opens (changes (refinesInBox box spares)) m before = before
 opens (changes (setsLock on t)) m before = before
+opens (changes (refinesNoted t note)) m before = before
+opens (changes (takesBack note)) m before = before
 opens (asks q) m before = before
 
 -- The last accepted load after a list of calls.
@@ -151,6 +158,8 @@ pub record Kept (bytes : List ℕ) (m : Mesh) : Type 0 where
   pub near : (h : ℕ) → h < sides (m .topology) → link (m .topology) h ≢ boundary
       → Near (generation (m .topology) (h / 3)) (generation (m .topology) (link (m .topology) h / 3))
   pub refines : (t : ℕ) → refineCall t m .answer .refusal ≡ 0 → ReportsSplits m t (refineCall t m)
+  pub refinesNoted : (t : ℕ) (note : List ℕ) → notedCall t note m .answer .refusal ≡ 0
+      → ReportsSplits m t (notedCall t note m)
 
 -- The customer's third demand: every list of calls, begun on any tables and counts.
 abbrev pub EveryHistory : Type 0

@@ -25,6 +25,7 @@ pub mod Cage
 pub mod Calls
 pub mod Lists
 pub mod Boxes
+pub mod Notes
 pub mod Conditions
 pub mod Runs
 pub mod History

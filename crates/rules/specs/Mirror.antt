@@ -11,7 +11,8 @@ use Rattle.rules.specs.Boxes.{Box}
 use Rattle.rules.specs.Cage.{cageOf}
 use Rattle.rules.specs.Calls.{Answer, Room, Outcome, outcomeOf}
 use Rattle.rules.specs.History.{Call, changes, asks, loads, refines, steps, refinesEach, refinesInBox, setsLock}
-use Rattle.rules.specs.History.{ringOf, positionOf, limitsOf, previewOf, pointSeen, trianglesSeen, outcome}
+use Rattle.rules.specs.History.{refinesNoted, takesBack, ringOf, positionOf, limitsOf, previewOf, pointSeen}
+use Rattle.rules.specs.History.{trianglesSeen, outcome}
 use Rattle.rules.specs.Spares.{Spares}
 use Rattle.rules.specs.Tables.{Mesh, withPositions}
 
@@ -100,6 +101,9 @@ pub data Mirrors (k : ℕ) : Call → Call → Type 0 where
   box : {b : Box} {spares : Spares}
       → Mirrors k (changes (refinesInBox b spares)) (changes (refinesInBox (mirrorBox k b) (mirrorSpares k spares)))
   lock : {on : Bool} {t : ℕ} → Mirrors k (changes (setsLock on t)) (changes (setsLock on t))
+  -- A note has no coordinates. (Request l)
+  noted : {t : ℕ} {note : List ℕ} → Mirrors k (changes (refinesNoted t note)) (changes (refinesNoted t note))
+  takeBack : {note : List ℕ} → Mirrors k (changes (takesBack note)) (changes (takesBack note))
   ring : {v : ℕ} {buffer : List ℕ} → Mirrors k (asks (ringOf v buffer)) (asks (ringOf v buffer))
   position : {v : ℕ} → Mirrors k (asks (positionOf v)) (asks (positionOf v))
   limit : {table : List ℤ} → Mirrors k (asks (limitsOf table)) (asks (limitsOf (mirrorTable k table)))

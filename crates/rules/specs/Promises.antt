@@ -11,14 +11,15 @@ use lib.Signed.{_≤ℤ_, _<ℤ_}
 use Rattle.rules.specs.Actions.{LeadsTo, newPlace}
 use Rattle.rules.specs.Below.{total}
 use Rattle.rules.specs.Boxes.{Box, refineInBox, boxRefusal}
-use Rattle.rules.specs.Calls.{Outcome, outcomeOf, noRoom, ringRoom, tableRoom, spareRoom, refusedWith, worked}
-use Rattle.rules.specs.Calls.{splitsOf, rimSplitsOf}
+use Rattle.rules.specs.Calls.{Outcome, outcomeOf, noRoom, bufferRoom, tableRoom, spareRoom, refusedWith, worked}
+use Rattle.rules.specs.Calls.{splitsOf, rimSplitsOf, refineCall}
 use Rattle.rules.specs.Cage.{Cage}
 use Rattle.rules.specs.Conditions.{InnerOfTwo, Risen, Handled, Wanted, Turns}
 use Rattle.rules.specs.History.{Call, changes, asks, loads, refines, steps, refinesEach, refinesInBox, setsLock}
-use Rattle.rules.specs.History.{ringOf, positionOf, limitsOf, previewOf, pointSeen, trianglesSeen, outcome, ReportsSplits}
-use Rattle.rules.specs.History.{edges, cageEdges}
+use Rattle.rules.specs.History.{refinesNoted, takesBack, ringOf, positionOf, limitsOf, previewOf, pointSeen}
+use Rattle.rules.specs.History.{trianglesSeen, outcome, ReportsSplits, edges, cageEdges}
 use Rattle.rules.specs.Lists.{Progress, refineEach, sparesRefusal, sparesAnswer}
+use Rattle.rules.specs.Notes.{noteOf}
 use Rattle.rules.specs.Numbers.{InRange, weight}
 use Rattle.rules.specs.Ring.{OnBoundary, triangleCount, firstSide, fan, ring}
 use Rattle.rules.specs.Sound.{Sound}
@@ -88,7 +89,9 @@ refusedAs (changes steps) n m = refusedWith n m noRoom
 refusedAs (changes (refinesEach list spares)) n m = refusedList list spares n m
 refusedAs (changes (refinesInBox b spares)) n m = refusedBox b spares n m
 refusedAs (changes (setsLock on t)) n m = refusedWith n m noRoom
-refusedAs (asks (ringOf v buffer)) n m = refusedWith n m (ringRoom buffer)
+refusedAs (changes (refinesNoted t note)) n m = refusedWith n m (bufferRoom note)
+refusedAs (changes (takesBack note)) n m = refusedWith n m noRoom
+refusedAs (asks (ringOf v buffer)) n m = refusedWith n m (bufferRoom buffer)
 refusedAs (asks (positionOf v)) n m = refusedWith n m noRoom
 refusedAs (asks (limitsOf table)) n m = refusedWith n m (tableRoom table)
 refusedAs (asks (previewOf list spares)) n m = refusedList list spares n m
@@ -197,6 +200,25 @@ pub record RefineMakes (t : ℕ) (m : Mesh) (w : Work) : Type 0 where
       → getD (w .mesh .positions) i (pos 0) ≡ getD (m .positions) i (pos 0)
   pub rule : w .mesh .rule ≡ m .rule
   pub past : SamePast m (w .mesh)
+
+-- A list that begins with the note of the refine of t that made n of m. (Request l)
+pub record HasNote (t : ℕ) (m n : Mesh) (note : List ℕ) : Type 0 where
+  pub long : length (noteOf t m n) ≤ length note
+  pub same : (i : ℕ) → i < length (noteOf t m n) → getD note i 0 ≡ getD (noteOf t m n) i 0
+
+-- What a refine of t with a note, carried out with outcome o, leaves there: the note first, and later entries as they
+-- were.
+pub record NotedMakes (t : ℕ) (note : List ℕ) (m : Mesh) (o : Outcome) : Type 0 where
+  pub has : HasNote t m (o .mesh) (o .room .buffer)
+  pub size : length (o .room .buffer) ≡ length note
+  pub later : drop (length (noteOf t m (o .mesh))) (o .room .buffer) ≡ drop (length (noteOf t m (o .mesh))) note
+
+-- A refine of t taken back from m leaves n, which is sound; refining t there is carried out and makes m again, in every
+-- slot. Slots given up keep their content. (Request l)
+pub record TakeBackMakes (t : ℕ) (m n : Mesh) : Type 0 where
+  pub sound : Sound n
+  pub again : (refineCall t n .answer .refusal ≡ 0) × (refineCall t n .mesh ≡ m)
+  pub past : SamePast m n
 
 -- The triangle across the base of t (Kobbelt's mate[1]).
 abbrev pub mate : ℕ → Work → ℕ
@@ -310,8 +332,24 @@ pub record LockMakes (on : Bool) (t : ℕ) (m n : Mesh) : Type 0 where
   pub positions : n .positions ≡ m .positions
   pub rule : n .rule ≡ m .rule
 
+-- Cuts and flips that do not write triangle x lead from m to n, and its links name the sides that they named, in their
+-- new places.
+pub record LinksFollow (x : ℕ) (m n : Topology) : Type 0 where
+  pub leads : LeadsTo m n
+  pub unwritten : generation n x ≡ generation m x
+  pub links : (i : ℕ) → i < 3 → link n (3 * x + i) ≡ newPlace leads (link m (3 * x + i))
+
+-- The links of triangle x name in n the sides that they named in m: they followed these from m to n; or from n to m,
+-- and have gone back with them; or they went one such way and then another, through a mesh whose links are mutual, so
+-- that no two name one side. (Requests i, l)
+pub data LinksKept (x : ℕ) : Topology → Topology → Type 0 where
+  onward : {m n : Topology} → LinksFollow x m n → LinksKept x m n
+  back : {m n : Topology} → LinksFollow x n m → LinksKept x m n
+  through : {m n : Topology} {k : Mesh} → Sound k → LinksKept x m (k .topology) → LinksKept x (k .topology) n
+      → LinksKept x m n
+
 -- Triangle x of m is in n as it was: its generation, its corners, where they lie, and its links, which name the sides
--- that they named, in their new places.
+-- that they named, in their new places or back in their old ones.
 pub record Stands (x : ℕ) (m n : Mesh) : Type 0 where
   pub inUse : x < n .topology .triangles
   pub generation : generation (n .topology) x ≡ generation (m .topology) x
@@ -319,20 +357,28 @@ pub record Stands (x : ℕ) (m n : Mesh) : Type 0 where
   pub positions : (i k : ℕ) → i < 3 → k < 3 →
       let v = origin (m .topology) (3 * x + i) in
       coordinate n v k ≡ coordinate m v k
-  pub leads : LeadsTo (m .topology) (n .topology)
-  pub links : (i : ℕ) → i < 3 → link (n .topology) (3 * x + i) ≡ newPlace leads (link (m .topology) (3 * x + i))
+  pub links : LinksKept x (m .topology) (n .topology)
 
--- The call is no load that is carried out; it is none that is carried out and clears the lock of x.
+-- The call is no load that is carried out; it is none that is carried out and clears the lock of x; it takes nothing
+-- back.
 abbrev pub NoLoad : Call → Mesh → Type 0
 NoLoad c m = (rule : ℕ) (bytes : List ℕ) → c ≡ changes (loads rule bytes) → outcome c m .answer .refusal ≢ 0
 
 abbrev pub NoClearing : ℕ → Call → Mesh → Type 0
 NoClearing x c m = c ≡ changes (setsLock false x) → outcome c m .answer .refusal ≢ 0
 
+abbrev pub NoTakeBack : Call → Mesh → Type 0
+NoTakeBack c m = (note : List ℕ) → c ≡ changes (takesBack note) → outcome c m .answer .refusal ≢ 0
+
 -- No call of the list, made one after the other from m on, loads a cage or clears the lock of x.
 abbrev pub LeaveLocked : ℕ → List Call → Mesh → Type 0
 LeaveLocked x [] m = Unit {0}
 LeaveLocked x (c ∷ cs) m = NoLoad c m × NoClearing x c m × LeaveLocked x cs (outcome c m .mesh)
+
+-- None of them takes anything back.
+abbrev pub NoneTakenBack : List Call → Mesh → Type 0
+NoneTakenBack [] m = Unit {0}
+NoneTakenBack (c ∷ cs) m = NoTakeBack c m × NoneTakenBack cs (outcome c m .mesh)
 
 -- ---- limit positions (Request a)
 

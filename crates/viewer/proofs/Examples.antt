@@ -7,7 +7,6 @@ use lib.IntN.{pos, negsuc}
 use Rattle.rules.proofs.Computing.{computing}
 use Rattle.rules.specs.Calls.{positionCall}
 use Rattle.rules.specs.Tables.{Mesh, topologyOf, meshOf, boundary}
-use Rattle.viewer.specs.declared.Seen.{Seen}
 use Rattle.viewer.specs.declared.Seen.the-variants as Seen·
 use Rattle.viewer.specs.View.{millimetres, seenOf, shown, tableAfter}
 

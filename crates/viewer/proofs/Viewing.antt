@@ -2,7 +2,7 @@
 use mathlib.Core.Path.{_≡_, refl, sym, ap, _∙_}
 use mathlib.Core.List.{List}
 use mathlib.Core.Logic.{_≢_}
-use Prim.Native.Nat.{ℕ, zero, suc, _+_, _*_, _/_, _%_, _≤_, _<_}
+use Prim.Native.Nat.{ℕ, zero, suc, _+_, _*_, _/_, _%_, _≤_}
 use native.Mathlib.Omega.{arith}
 use lib.Ieee.{Float}
 use lib.ListN.{length}
@@ -17,10 +17,9 @@ use Rattle.rules.specs.Calls.{positionCall, viewRefusal, viewRead, viewCall}
 use Rattle.rules.specs.Numbers.{InRange}
 use Rattle.rules.specs.Sound.{Sound}
 use Rattle.rules.specs.Tables.{Mesh, origin}
-use Rattle.viewer.specs.declared.Seen.{Seen}
 use Rattle.viewer.specs.declared.Seen.the-variants as Seen·
 use Rattle.viewer.specs.declared.ViewPoint.{ViewPoint}
-use Rattle.viewer.specs.View.{millimetres, inMillimetres, told, seenUnless, seenOf, entryOf, shown, shownUnless}
+use Rattle.viewer.specs.View.{inMillimetres, told, seenUnless, seenOf, entryOf, shown, shownUnless}
 use Rattle.viewer.specs.View.{Corners, ShownIn}
 
 -- A table that is long enough holds the corners' points in slot order.

@@ -2,7 +2,7 @@
 use points::Point;
 use tables::Counts;
 ghost use mathlib.Core.Path.{_≡_};
-ghost use Prim.Native.Nat.{ℕ, _+_, _*_, _≤_, _<_};
+ghost use Prim.Native.Nat.{_+_, _*_, _≤_, _<_};
 ghost use lib.ListN.{length};
 ghost use Rattle.rules.specs.Below.{fill};
 ghost use Rattle.rules.specs.Calls.{positionCall, viewCall, viewRefusal};

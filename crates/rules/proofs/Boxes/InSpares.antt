@@ -13,7 +13,7 @@ use Rattle.rules.proofs.Lists.Holding.{Holding, holding-begins, holding
 use Rattle.rules.proofs.Lists.Holding.{holding-done, holding-on}
 use Rattle.rules.proofs.Spares.Adds.{refine-adds}
 use Rattle.rules.proofs.Spares.OverSpares.{over, over-refusal, over-refine, generation-same, corner-same}
-use Rattle.rules.proofs.Spares.OverSpares.{coordinate-same}
+use Rattle.rules.proofs.Spares.OverSpares.{coordinate-same, same-holds}
 use Rattle.rules.proofs.Splits.Bases.{reached}
 use Rattle.rules.specs.Boxes.{Box, wanted, refineWanted, refineInBox}
 use Rattle.rules.specs.Calls.{Outcome, worked, noRoom, unless, refineRefusal, refineCall}
@@ -30,9 +30,9 @@ module _ {s : Spares} {m : Mesh} (L : SameSizes s m) (S : Sound m) where
   -- The same triangles are wanted.
   pub wanted-over : (b : Box) (t : ℕ) → t < m .topology .triangles → wanted b (over s m) t ≡ wanted b m t
   wanted-over b t l = wanted-alike b {t = t} (record {
-    generation = generation-same L S t l;
-    corners = λ i j. corner-same L S (3 * t + i) (omega arith);
-    places = λ i k j d. coordinate-same L S _ k (S .corner (3 * t + i) (omega arith)) d;
+    generation = generation-same (same-holds L S) S t l;
+    corners = λ i j. corner-same (same-holds L S) S (3 * t + i) (omega arith);
+    places = λ i k j d. coordinate-same (same-holds L S) S _ k (S .corner (3 * t + i) (omega arith)) d;
   })
 
   lowest-over : {b : Box} {t : ℕ} → LowestWanted b (over s m) t → LowestWanted b m t

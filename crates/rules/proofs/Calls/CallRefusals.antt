@@ -12,15 +12,17 @@ use Rattle.rules.proofs.Loads.CageTests.{sizes-fit-is, corners-fit-is, 
 use Rattle.rules.proofs.Numbers.Decide.{Decides, is-eq, is-lt, is-le, is-not, is-iff, stable, is-and, even-is}
 use Rattle.rules.proofs.Numbers.Decide.{is-all}
 use Rattle.rules.proofs.Numbers.Decide.{is-any, is-or}
-use Rattle.rules.proofs.Calls.FirstThatHolds.{Judged, first-if, first-unless, judged}
+use Rattle.rules.proofs.Calls.FirstThatHolds.{Judged, first-if, first-unless, first-then, judged}
 use Rattle.rules.proofs.Calls.FirstThatHolds.{judged-refusal}
 use Rattle.rules.proofs.Loads.InnerOfTwo.{six-is}
 use Rattle.rules.proofs.Chains.Altering.{alters-locked-is}
 use Rattle.rules.proofs.Chains.Refine.{chain-takes}
+use Rattle.rules.proofs.Notes.Reading.{length-note}
+use Rattle.rules.proofs.Notes.Tests.{accepted-is}
 use Rattle.rules.proofs.Soundness.SoundTest.{tables-agree-is, sound-is, known-rule-is}
 use Rattle.rules.specs.Below.{any}
 use Rattle.rules.specs.Cage.{Cage, cageOf, loaded}
-use Rattle.rules.specs.Calls.{noRoom, ringRoom, tableRoom, limitRefusal, limitRead, limitCall}
+use Rattle.rules.specs.Calls.{noRoom, bufferRoom, tableRoom, limitRefusal, limitRead, limitCall}
 use Rattle.rules.specs.Calls.{worked, roomFor, closedEven, loadRefusal}
 use Rattle.rules.specs.Calls.{refineRefusal, wholeStepRefusal, ringRefusal, positionRefusal, loadCall, refineCall}
 use Rattle.rules.specs.Calls.{wholeStepCall, ringRead, ringCall, positionRead, positionCall, verticesOf}
@@ -30,7 +32,9 @@ use Rattle.rules.specs.Conditions.{OddInChain, atEven, atBoundary, onwar
 use Rattle.rules.specs.Conditions.{ClosedEven, First, none, LongRing, loadConditions, refineConditions}
 use Rattle.rules.specs.Conditions.{wholeStepConditions, limitConditions, ringConditions, positionConditions}
 use Rattle.rules.specs.Conditions.{Takes, evenEnd, boundaryEnd, TooOld, EndsAtBoundary, SomeLocked}
-use Rattle.rules.specs.Conditions.{lockConditions, viewConditions}
+use Rattle.rules.specs.Conditions.{lockConditions, viewConditions, notedConditions, takeBackConditions}
+use Rattle.rules.specs.Notes.{changedSlots, noteOf, refined, notedRefusal, notedWork, notedCall, restored}
+use Rattle.rules.specs.Notes.{takeBackRefusal, takeBackCall}
 use Rattle.rules.specs.Ring.{ring}
 use Rattle.rules.specs.Sound.{Sound}
 use Rattle.rules.specs.Split.{atFirst, refine}
@@ -143,6 +147,27 @@ refine-refusal-first t m =
     first-if 19 (alters-locked-is t m S l) (λ _.
     first-if 11 (too-few-is t m S l) (λ _. none))))))
 
+-- A note is too short for what it is to say.
+pub note-short-is : (t : ℕ) (note : List ℕ) (m : Mesh) →
+    let n = refined t m in
+    Decides (ltb (length note) (length (noteOf t m n))) (length note < 4 + 9 * length (changedSlots m n))
+note-short-is t note m =
+    let n = refined t m in
+    let e = length-note t m n in
+    is-iff (λ l. omega arith) (λ l. omega arith) (is-lt (length note) (length (noteOf t m n)))
+
+pub noted-refusal-first : (t : ℕ) (note : List ℕ) (m : Mesh)
+    → First (notedConditions t note m) (notedRefusal t note m)
+unfolding notedRefusal
+noted-refusal-first t note m =
+    first-then (refine-refusal-first t m) tt (λ _. first-if 22 (note-short-is t note m) (λ _. none))
+
+pub take-back-refusal-first : (note : List ℕ) (m : Mesh) → First (takeBackConditions note m) (takeBackRefusal note m)
+unfolding takeBackRefusal
+take-back-refusal-first note m =
+    first-unless 1 (tables-agree-is m)
+    (λ A. first-unless 7 (sound-is m) (λ S. first-unless 21 (accepted-is note m) (λ _. none)))
+
 pub whole-step-refusal-first : (m : Mesh) → First (wholeStepConditions m) (wholeStepRefusal m)
 unfolding wholeStepRefusal
 whole-step-refusal-first m =
@@ -204,6 +229,16 @@ pub refine-judged : (t : ℕ) (m : Mesh)
 unfolding refineCall
 refine-judged t m = judged (refineRefusal t m) m noRoom (worked (refine t (atFirst m)))
 
+pub noted-judged : (t : ℕ) (note : List ℕ) (m : Mesh)
+    → Judged (notedRefusal t note m) m (bufferRoom note) (notedWork t note m) (notedCall t note m)
+unfolding notedCall
+noted-judged t note m = judged (notedRefusal t note m) m (bufferRoom note) (notedWork t note m)
+
+pub take-back-judged : (note : List ℕ) (m : Mesh)
+    → Judged (takeBackRefusal note m) m noRoom (worked (atFirst (restored note m))) (takeBackCall note m)
+unfolding takeBackCall
+take-back-judged note m = judged (takeBackRefusal note m) m noRoom (worked (atFirst (restored note m)))
+
 pub whole-step-judged : (m : Mesh) → Judged (wholeStepRefusal m) m noRoom (worked (wholeStep m)) (wholeStepCall m)
 unfolding wholeStepCall
 whole-step-judged m = judged (wholeStepRefusal m) m noRoom (worked (wholeStep m))
@@ -219,9 +254,9 @@ unfolding limitCall
 limit-judged table m = judged (limitRefusal table m) m (tableRoom table) (limitRead table m)
 
 pub ring-judged : (v : ℕ) (buffer : List ℕ) (m : Mesh)
-    → Judged (ringRefusal v buffer m) m (ringRoom buffer) (ringRead v buffer m) (ringCall v buffer m)
+    → Judged (ringRefusal v buffer m) m (bufferRoom buffer) (ringRead v buffer m) (ringCall v buffer m)
 unfolding ringCall
-ring-judged v buffer m = judged (ringRefusal v buffer m) m (ringRoom buffer) (ringRead v buffer m)
+ring-judged v buffer m = judged (ringRefusal v buffer m) m (bufferRoom buffer) (ringRead v buffer m)
 
 pub position-judged : (v : ℕ) (m : Mesh) → Judged (positionRefusal v m) m noRoom (positionRead v m) (positionCall v m)
 unfolding positionCall
@@ -239,6 +274,14 @@ load-refusal rule bytes m = rw (judged-refusal refl (load-judged rule bytes m)) 
 
 pub refine-refusal : (t : ℕ) (m : Mesh) → First (refineConditions t m) (refineCall t m .answer .refusal)
 refine-refusal t m = rw (judged-refusal refl (refine-judged t m)) (refine-refusal-first t m)
+
+pub noted-refusal : (t : ℕ) (note : List ℕ) (m : Mesh)
+    → First (notedConditions t note m) (notedCall t note m .answer .refusal)
+noted-refusal t note m = rw (judged-refusal refl (noted-judged t note m)) (noted-refusal-first t note m)
+
+pub take-back-refusal : (note : List ℕ) (m : Mesh)
+    → First (takeBackConditions note m) (takeBackCall note m .answer .refusal)
+take-back-refusal note m = rw (judged-refusal refl (take-back-judged note m)) (take-back-refusal-first note m)
 
 pub whole-step-refusal : (m : Mesh) → First (wholeStepConditions m) (wholeStepCall m .answer .refusal)
 whole-step-refusal m = rw (judged-refusal refl (whole-step-judged m)) (whole-step-refusal-first m)

@@ -3,7 +3,7 @@ use mathlib.Core.Path.{_≡_, refl, _∙_}
 use mathlib.Core.Logic.{_≢_, inl, inr}
 use mathlib.Core.Bool.{Bool, true, false}
 use mathlib.Core.List.{List}
-use Prim.Native.Nat.{ℕ, _*_, _<_, _≤_}
+use Prim.Native.Nat.{ℕ, zero, suc, _*_, _<_, _≤_}
 use native.Mathlib.Decide.{ℕ-discrete}
 use native.Mathlib.Omega.{arith}
 use lib.ListN.{length, length-set}
@@ -12,6 +12,9 @@ use Rattle.rules.proofs.Loads.CageTests.{sizes-fit-is, corners-fit-is, 
 use Rattle.rules.proofs.Calls.CallRefusals.{room-is, closed-even-is}
 use Rattle.rules.proofs.Calls.CallRefusals.{load-refusal-first}
 use Rattle.rules.proofs.Calls.CallRefusals.{refine-refusal-first, whole-step-refusal-first, lock-refusal-first}
+use Rattle.rules.proofs.Calls.CallRefusals.{noted-refusal-first, take-back-refusal-first}
+use Rattle.rules.proofs.Notes.Reading.{length-note}
+use Rattle.rules.proofs.Notes.Tests.{accepted-is}
 use Rattle.rules.proofs.Numbers.Decide.{is-lt, stable}
 use Rattle.rules.proofs.Calls.FirstThatHolds.{none-hold}
 use Rattle.rules.proofs.Loads.Load.{fans-fit-is}
@@ -26,6 +29,7 @@ use Rattle.rules.specs.Conditions.{SizesFit, CornersFit, RoomFor, Closed
 use Rattle.rules.specs.Conditions.{FansFit, SomeInnerOfTwo, TooOld, AltersLocked, TooFewSlots, RefineFails, old}
 use Rattle.rules.specs.Conditions.{guarded, crowded, MayRefine}
 use Rattle.rules.specs.Conditions.{First, this, later, none, refineConditions}
+use Rattle.rules.specs.Notes.{noteOf, refined, notedRefusal, Accepted, takeBackRefusal}
 use Rattle.rules.specs.Numbers.{KnownRule}
 use Rattle.rules.specs.Promises.{StepMakes, LockMakes}
 use Rattle.rules.specs.Sound.{Sound}
@@ -140,6 +144,31 @@ found-young {t} {m} F =
 pub found-refined : {t : ℕ} {m : Mesh} → RefineFound t m
     → Refined t (splitsOf (m .topology) t) (rimSplitsOf (m .topology) t) m (refine t (atFirst m))
 found-refined {t} {m} F = refine-refined t m (F .sound) (F .inUse) (F .young) (F .room)
+
+-- ---- a refine with a note, and one taken back
+
+-- The refine is not refused, and the note is long enough.
+pub record NotedFound (t : ℕ) (note : List ℕ) (m : Mesh) : Type 0 where
+  pub refines : refineRefusal t m ≡ 0
+  pub fits : length (noteOf t m (refined t m)) ≤ length note
+
+noted-refines : (t : ℕ) (note : List ℕ) (m : Mesh) → notedRefusal t note m ≡ 0 → refineRefusal t m ≡ 0
+unfolding notedRefusal
+noted-refines t note m = first (refineRefusal t m) _
+  where
+    first : (n k : ℕ) → _≡_ {A = ℕ} (elim n [ zero ↦ k | suc r ↦ suc r ]) 0 → n ≡ 0
+    first zero k e = refl
+    first (suc r) k e = absurd (omega arith)
+
+pub noted-found : (t : ℕ) (note : List ℕ) (m : Mesh) → notedRefusal t note m ≡ 0 → NotedFound t note m
+noted-found t note m z =
+    let (_, (_, (_, (_, (_, (_, (l, _))))))) = none-hold (noted-refusal-first t note m) z tt in
+    record { refines = noted-refines t note m z; fits = omega (arith, length-note t m (refined t m)) }
+
+pub take-back-found : (note : List ℕ) (m : Mesh) → takeBackRefusal note m ≡ 0 → Accepted note m
+take-back-found note m z =
+    let (_, (_, (a, _))) = none-hold (take-back-refusal-first note m) z tt in
+    stable (accepted-is note m) a
 
 -- ---- whole step
 

@@ -6,13 +6,15 @@ use Rattle.rules.proofs.Boxes.BoxCall.{box-refusal, box-refused-is}
 use Rattle.rules.proofs.Calls.CallRefusals.{load-judged, refine-judged, whole-step-judged, ring-judged}
 use Rattle.rules.proofs.Calls.CallRefusals.{position-judged, limit-judged, load-refusal, refine-refusal}
 use Rattle.rules.proofs.Calls.CallRefusals.{whole-step-refusal, ring-refusal, position-refusal, limit-refusal}
-use Rattle.rules.proofs.Calls.CallRefusals.{lock-judged, lock-refusal, view-judged, view-refusal}
+use Rattle.rules.proofs.Calls.CallRefusals.{lock-judged, lock-refusal, view-judged, view-refusal, noted-judged}
+use Rattle.rules.proofs.Calls.CallRefusals.{noted-refusal, take-back-judged, take-back-refusal}
 use Rattle.rules.proofs.Calls.FirstThatHolds.{Judged, carried, refused, judged-refused, first-not}
 use Rattle.rules.proofs.Lists.ListCall.{list-refusal, list-refused-is}
 use Rattle.rules.proofs.Lists.Preview.{preview-refusal, preview-refused-is, preview-stands}
 use Rattle.rules.specs.Calls.{Room, Outcome}
-use Rattle.rules.specs.History.{loads, refines, steps, setsLock, refinesEach, refinesInBox, Question}
-use Rattle.rules.specs.History.{pointSeen, trianglesSeen, ringOf, positionOf, limitsOf, previewOf, asked, Call, changes, asks, outcome}
+use Rattle.rules.specs.History.{loads, refines, steps, setsLock, refinesNoted, takesBack, refinesEach}
+use Rattle.rules.specs.History.{refinesInBox, Question, pointSeen, trianglesSeen, ringOf, positionOf, limitsOf}
+use Rattle.rules.specs.History.{previewOf, asked, Call, changes, asks, outcome}
 use Rattle.rules.specs.Promises.{refusedAs}
 use Rattle.rules.specs.Tables.{Mesh}
 
@@ -22,6 +24,8 @@ refused-is (changes (loads rule bytes)) m = judged-refused refl (load-judged rul
 refused-is (changes (refines t)) m = judged-refused refl (refine-judged t m)
 refused-is (changes steps) m = judged-refused refl (whole-step-judged m)
 refused-is (changes (setsLock on t)) m = judged-refused refl (lock-judged on t m)
+refused-is (changes (refinesNoted t note)) m = judged-refused refl (noted-judged t note m)
+refused-is (changes (takesBack note)) m = judged-refused refl (take-back-judged note m)
 refused-is (changes (refinesEach list spares)) m = list-refused-is list spares m
 refused-is (changes (refinesInBox b spares)) m = box-refused-is b spares m
 refused-is (asks (ringOf v buffer)) m = judged-refused refl (ring-judged v buffer m)
@@ -51,6 +55,8 @@ no-ten (changes (loads rule bytes)) m = first-not 10 (load-refusal rule bytes m)
 no-ten (changes (refines t)) m = first-not 10 (refine-refusal t m) tt
 no-ten (changes steps) m = first-not 10 (whole-step-refusal m) tt
 no-ten (changes (setsLock on t)) m = first-not 10 (lock-refusal on t m) tt
+no-ten (changes (refinesNoted t note)) m = first-not 10 (noted-refusal t note m) tt
+no-ten (changes (takesBack note)) m = first-not 10 (take-back-refusal note m) tt
 no-ten (changes (refinesEach list spares)) m = first-not 10 (list-refusal list spares m) tt
 no-ten (changes (refinesInBox b spares)) m = first-not 10 (box-refusal b spares m) tt
 no-ten (asks (ringOf v buffer)) m = first-not 10 (ring-refusal v buffer m) tt

@@ -55,6 +55,19 @@ none-hold none z t = tt
 none-hold (this {n} {rest = rest} p) z t = absurd (not-zero n z (positive-both n (positive rest) t .0))
 none-hold (later {n} {rest = rest} q f) z t = (q, none-hold f z (positive-both n (positive rest) t .1))
 
+-- Where none of the first conditions holds, the rest decide.
+first-after : {conditions rest : List Condition} {n k : ℕ} → First conditions n → n ≡ 0 → T (positive conditions)
+    → First rest k → First (conditions ++ rest) k
+first-after none z t g = g
+first-after (this {n} {rest = others} p) z t g = absurd (not-zero n z (positive-both n (positive others) t .0))
+first-after (later {n} {rest = others} q f) z t g =
+    later q (first-after f z (positive-both n (positive others) t .1) g)
+
+pub first-then : {conditions rest : List Condition} {n k : ℕ} → First conditions n → T (positive conditions)
+    → (n ≡ 0 → First rest k) → First (conditions ++ rest) (elim n [ zero ↦ k | suc r ↦ suc r ])
+first-then {n = zero} f t g = first-after f refl t (g refl)
+first-then {rest = rest} {n = suc r} f t g = first-before rest f (λ e. omega arith)
+
 -- ---- a number that no condition has
 
 -- Neither 0 nor a number of the list is k.

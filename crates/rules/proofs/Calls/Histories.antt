@@ -1,5 +1,5 @@
 -- Every history: what each call keeps, and so what holds after every list of calls.
-use mathlib.Core.Path.{_≡_, refl, sym, _∙_, subst}
+use mathlib.Core.Path.{_≡_, refl, sym, ap, _∙_, subst}
 use mathlib.Core.Logic.{inl, inr}
 use mathlib.Core.Bool.{Bool, true, false}
 use mathlib.Core.List.{List, [], _∷_}
@@ -11,16 +11,19 @@ use Rattle.rules.proofs.Splits.Bases.{reached}
 use Rattle.rules.proofs.Loads.CageEdges.{load-characteristic}
 use Rattle.rules.proofs.Boxes.BoxCall.{box-keeps}
 use Rattle.rules.proofs.Calls.CallRefusals.{load-judged, refine-judged, whole-step-judged, lock-judged}
+use Rattle.rules.proofs.Calls.CallRefusals.{noted-judged, take-back-judged}
 use Rattle.rules.proofs.Calls.EveryCall.{question-stands}
 use Rattle.rules.proofs.Chains.Going.{Going, going-begins, going-on, same-characteristic}
 use Rattle.rules.proofs.Lists.ListCall.{list-keeps}
 use Rattle.rules.proofs.Calls.Carried.{LoadFound, RefineFound, load-found, refine-found, found-refined}
-use Rattle.rules.proofs.Calls.Carried.{step-found, found-step, LockFound, lock-found, found-locked}
+use Rattle.rules.proofs.Calls.Carried.{step-found, found-step, LockFound, lock-found, found-locked, noted-found}
+use Rattle.rules.proofs.Calls.Carried.{take-back-found}
 use Rattle.rules.proofs.Calls.FirstThatHolds.{Judged, carried, refused, judged-carried}
 use Rattle.rules.proofs.Loads.InnerOfTwo.{same-two}
 use Rattle.rules.proofs.Loads.Load.{load-sound}
 use Rattle.rules.proofs.Links.Manifold.{partnered}
 use Rattle.rules.proofs.Chains.Refine.{chain-bound, chain-takes}
+use Rattle.rules.proofs.Notes.TakenBack.{makes-present}
 use Rattle.rules.proofs.Soundness.Relaxed.{sound-manifold}
 use Rattle.rules.proofs.Splits.Parts.{mutual-links}
 use Rattle.rules.specs.Cage.{cageOf, loaded}
@@ -28,9 +31,10 @@ use Rattle.rules.specs.Calls.{Room, noRoom, Outcome, worked, loadRefusal
 use Rattle.rules.specs.Conditions.{OddInChain, atEven, atBoundary, onward, EndsAtBoundary, Takes, evenEnd}
 use Rattle.rules.specs.Conditions.{boundaryEnd, SizesFit, SomeInnerOfTwo}
 use Rattle.rules.specs.History.{Near, ReportsSplits, Kept, loads, refines, steps, refinesEach, refinesInBox}
-use Rattle.rules.specs.History.{setsLock, Call, changes, asks}
+use Rattle.rules.specs.History.{setsLock, refinesNoted, takesBack, Call, changes, asks}
 use Rattle.rules.specs.History.{LastLoad, nothing, cage, outcome, after, opens, lastLoad, edges, characteristic}
 use Rattle.rules.specs.History.{cageCharacteristic, EveryHistory}
+use Rattle.rules.specs.Notes.{notedCall, notedTriangle, restored, Accepted}
 use Rattle.rules.specs.Promises.{StepMakes}
 use Rattle.rules.specs.Sound.{Sound}
 use Rattle.rules.specs.Split.{Work, atFirst, refine}
@@ -65,6 +69,9 @@ record Stays (m n : Mesh) : Type 0 where
 going-stays : {m : Mesh} {w : Work} → Going m w → Stays m (w .mesh)
 going-stays G = record { sound = G .sound; euler = G .euler }
 
+refine-stays : {t : ℕ} {m : Mesh} → RefineFound t m → Stays m (refine t (atFirst m) .mesh)
+refine-stays F = going-stays (going-on (going-begins (F .sound)) F)
+
 step-stays : {g : ℕ} {m : Mesh} {w : Work} → StepMakes g m w → Stays m (w .mesh)
 step-stays {m = m} {w = w} P =
     let v : ℕ = m .topology .vertices in
@@ -77,6 +84,17 @@ step-stays {m = m} {w = w} P =
 
 lock-stays : (on : Bool) (t : ℕ) (m : Mesh) → LockFound t m → Stays m (withLock on t m)
 lock-stays on t m F = record { sound = found-locked on F .sound; euler = refl }
+
+-- Refining the noted triangle in what is restored gives the present mesh.
+back-stays : {note : List ℕ} {m : Mesh} → Accepted note m → Stays m (restored note m)
+back-stays {note} {m} A =
+    let F = refine-found (notedTriangle note) (restored note m) (A .carriedOut) in
+    record {
+      sound = A .sound;
+      euler =
+          sym (going-on (going-begins (A .sound)) F .euler)
+          ∙ ap (λ (n : Mesh). characteristic (n .topology)) (makes-present A);
+    }
 
 holds-on : {m n : Mesh} (o : LastLoad) → Stays m n → Holds o m → Holds o n
 holds-on nothing S h = tt
@@ -114,9 +132,16 @@ pub keeps : (c : Call) (m : Mesh) → Keeps c m
 keeps (changes (loads rule bytes)) m = record { holds = λ a. load-holds rule bytes m a (load-judged rule bytes m) }
 keeps (changes (refines t)) m = record {
   holds = λ a.
-      judged-keeps (Holds a) (refine-judged t m) (λ z.
-      let F = refine-found t m z in
-      holds-on a (going-stays (going-on (going-begins (F .sound)) F)));
+      judged-keeps (Holds a) (refine-judged t m) (λ z. holds-on a (refine-stays (refine-found t m z)));
+}
+keeps (changes (refinesNoted t note)) m = record {
+  holds = λ a.
+      judged-keeps (Holds a) (noted-judged t note m) (λ z.
+      holds-on a (refine-stays (refine-found t m (noted-found t note m z .refines))));
+}
+keeps (changes (takesBack note)) m = record {
+  holds = λ a.
+      judged-keeps (Holds a) (take-back-judged note m) (λ z. holds-on a (back-stays (take-back-found note m z)));
 }
 keeps (changes steps) m = record {
   holds = λ a.
@@ -146,6 +171,11 @@ call-keeps-sound (changes (loads rule bytes)) m =
     loaded-good rule bytes m (load-found rule bytes m z) .sound)
 call-keeps-sound (changes (refines t)) m =
     judged-keeps Sound (refine-judged t m) (λ z _. found-refined (refine-found t m z) .sound)
+call-keeps-sound (changes (refinesNoted t note)) m =
+    judged-keeps Sound (noted-judged t note m) (λ z _.
+    found-refined (refine-found t m (noted-found t note m z .refines)) .sound)
+call-keeps-sound (changes (takesBack note)) m =
+    judged-keeps Sound (take-back-judged note m) (λ z _. take-back-found note m z .sound)
 call-keeps-sound (changes steps) m =
     judged-keeps Sound (whole-step-judged m) (λ z _. found-step (step-found m z) .sound)
 call-keeps-sound (changes (setsLock on t)) m =
@@ -217,6 +247,15 @@ carried-refines t m z =
     let x = judged-carried (refine-judged t m) z in
     subst (ReportsSplits m t) (sym (x .1)) (found-refines t m (refine-found t m (x .0)))
 
+-- The same with a note.
+pub carried-notes : (t : ℕ) (note : List ℕ) (m : Mesh) → notedCall t note m .answer .refusal ≡ 0
+    → ReportsSplits m t (notedCall t note m)
+carried-notes t note m z =
+    let x = judged-carried (noted-judged t note m) z in
+    let R = found-refines t m (refine-found t m (noted-found t note m (x .0) .refines)) in
+    subst (ReportsSplits m t) (sym (x .1))
+    (record { odd = R .odd; atBoundary = R .atBoundary; bound = R .bound; even = R .even; made = R .made })
+
 good-kept : (bytes : List ℕ) (m : Mesh) → Good bytes m → Kept bytes m
 good-kept bytes m G =
     let F = sound-manifold (G .sound) in
@@ -225,6 +264,7 @@ good-kept bytes m G =
       euler = G .euler;
       near = λ h l n. level-near _ (h % 3) _ (link (m .topology) h % 3) (sym (partnered (F .linked h l) n .level));
       refines = λ t z. carried-refines t m z;
+      refinesNoted = λ t note z. carried-notes t note m z;
     }
 
 module _ (calls : List Call) (m : Mesh) (bytes : List ℕ) (e : lastLoad calls m nothing ≡ cage bytes) where

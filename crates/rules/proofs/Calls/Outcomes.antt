@@ -1,34 +1,43 @@
 -- What each call that is carried out makes.
 use mathlib.Core.Path.{_≡_, refl, sym, ap, _∙_, subst}
-use mathlib.Core.Bool.{Bool}
-use mathlib.Core.Logic.{_≢_}
-use mathlib.Core.List.{List}
-use Prim.Native.Nat.{ℕ, _*_, _%_, _<_}
+use mathlib.Core.Bool.{Bool, true, false}
+use mathlib.Core.Logic.{_≢_, _↔_}
+use mathlib.Core.List.{List, [], _∷_}
+use Prim.Native.Nat.{ℕ, zero, suc, _+_, _*_, _%_, _≤_, _<_}
 use native.Mathlib.Omega.{arith}
+use lib.Dec.{ltb}
 use lib.IntN.{ℤ}
-use lib.ListN.{length}
+use lib.ListN.{length, getD}
 use Rattle.rules.proofs.Loads.CageEdges.{load-edges}
 use Rattle.rules.proofs.Calls.CallRefusals.{load-judged, refine-judged, whole-step-judged, ring-judged}
 use Rattle.rules.proofs.Calls.CallRefusals.{position-judged, limit-judged, limit-refusal-first, closed-even-is}
-use Rattle.rules.proofs.Calls.CallRefusals.{lock-judged, view-judged}
+use Rattle.rules.proofs.Calls.CallRefusals.{lock-judged, view-judged, noted-judged, take-back-judged}
+use Rattle.rules.proofs.Calls.CallRefusals.{note-short-is, refine-refusal-first}
 use Rattle.rules.proofs.Calls.Carried.{load-found, refine-found, found-refined, step-found, found-step}
-use Rattle.rules.proofs.Calls.Carried.{lock-found, found-locked}
+use Rattle.rules.proofs.Calls.Carried.{lock-found, found-locked, noted-found, take-back-found}
 use Rattle.rules.proofs.Chains.Chain.{falls}
-use Rattle.rules.proofs.Calls.FirstThatHolds.{judged-carried, none-hold}
-use Rattle.rules.proofs.Numbers.Decide.{is-eq, stable}
-use Rattle.rules.proofs.Numbers.Fill.{drop-fill}
+use Rattle.rules.proofs.Calls.FirstThatHolds.{judged-carried, judged-refusal, none-hold, first-not}
+use Rattle.rules.proofs.Notes.Reading.{written-has}
+use Rattle.rules.proofs.Notes.TakenBack.{restored-past, makes-present}
+use Rattle.rules.proofs.Numbers.Decide.{Decides, is-eq, stable}
+use Rattle.rules.proofs.Numbers.Fill.{length-fill, drop-fill}
 use Rattle.rules.proofs.Soundness.SoundTest.{sound-is}
 use Rattle.rules.proofs.Steps.Limits.{limits-made}
 use Rattle.rules.proofs.Calls.Histories.{found-refines}
 use Rattle.rules.proofs.Chains.Kobbelt.{refine-is-kobbelt}
 use Rattle.rules.proofs.Chains.Going.{going-begins, going-on, same-past}
 use Rattle.rules.proofs.Chains.Least.{run-least, refine-run}
+use Rattle.rules.proofs.Chains.Listed.{at-most-25}
 use Rattle.rules.proofs.Loads.Load.{loaded-loads, links-are, load-sound, loaded-past, loaded-positions-past}
 use Rattle.rules.proofs.Soundness.Relaxed.{sound-manifold, sound-bases}
 use Rattle.rules.specs.Cage.{Cage, cageOf, loaded}
-use Rattle.rules.specs.Calls.{worked, loadCall, refineCall, wholeStepCall, ringRead, ringCall, positionRead}
+use Rattle.rules.specs.Calls.{Outcome, unless, firstOf, _if_, noRoom, bufferRoom, refineRefusal, worked}
+use Rattle.rules.specs.Calls.{loadCall, refineCall, wholeStepCall, ringRead, ringCall, positionRead}
 use Rattle.rules.specs.Calls.{positionCall, limitRead, limitCall, withLock, lockCall, viewRead, viewCall}
+use Rattle.rules.specs.Notes.{noteOf, changedSlots, refined, notedRefusal, notedWork, notedCall, notedTriangle}
+use Rattle.rules.specs.Notes.{restored, takeBackCall, Accepted}
 use Rattle.rules.specs.Promises.{Loaded, ChainFalls, RefineMakes, StepMakes, LockMakes, LimitMakes, kobbelt}
+use Rattle.rules.specs.Promises.{NotedMakes, TakeBackMakes}
 use Rattle.rules.specs.Runs.{LeastDisturbance}
 use Rattle.rules.specs.Sound.{Sound}
 use Rattle.rules.specs.Split.{atFirst, refine}
@@ -133,6 +142,87 @@ pub refine-is-split : (t n : ℕ) (m : Mesh) → refineCall t m .answer .refusal
 refine-is-split t n m z i =
     let F = refine-found t m (judged-carried (refine-judged t m) z .0) in
     refine-is-kobbelt t n m (F .sound) (F .inUse) (F .room) i
+
+-- ---- a refine with a note, and one taken back
+
+-- A refine that is not refused.
+refine-called : (t : ℕ) (m : Mesh) → refineRefusal t m ≡ 0 → refineCall t m ≡ worked (refine t (atFirst m))
+unfolding refineCall
+refine-called t m z = ap (λ (n : ℕ). unless n m noRoom (worked (refine t (atFirst m)))) z
+
+pub noted-makes : (t : ℕ) (note : List ℕ) (m : Mesh) → notedCall t note m .answer .refusal ≡ 0
+    → (notedCall t note m ≡ notedWork t note m) × NotedMakes t note m (notedCall t note m)
+noted-makes t note m z =
+    let x = judged-carried (noted-judged t note m) z in
+    let F = noted-found t note m (x .0) in
+    let l = noteOf t m (refined t m) in (
+      x .1,
+      subst (NotedMakes t note m) (sym (x .1))
+          (record {
+            has = written-has t m (refined t m) note (F .fits);
+            size = length-fill (length l) (λ i. getD l i 0) note;
+            later = drop-fill (length l) (λ i. getD l i 0) note (length l) (omega arith);
+          }),
+    )
+
+-- 22, by the number of the refine and the test of the note.
+short-exactly : (n : ℕ) {b : Bool} {P : Type 0} → n ≢ 22 → Decides b P
+    → (_≡_ {A = ℕ} (elim n [ zero ↦ elim b [ true ↦ 22 | false ↦ 0 ] | suc r ↦ suc r ]) 22) ↔ ((n ≡ 0) × P)
+short-exactly zero {b = true} u d = ((λ _. (refl, d .holds tt)), (λ _. refl))
+short-exactly zero {b = false} u d = ((λ e. absurd (omega arith)), (λ (_, p). absurd (d .passes p)))
+short-exactly (suc r) u d = ((λ e. absurd (u e)), (λ (z, _). absurd (omega arith)))
+
+noted-short-by : (t : ℕ) (note : List ℕ) (m : Mesh) →
+    (notedRefusal t note m ≡ 22)
+    ↔ ((refineRefusal t m ≡ 0) × (length note < 4 + 9 * length (changedSlots m (refined t m))))
+unfolding notedRefusal
+noted-short-by t note m =
+    short-exactly (refineRefusal t m) (first-not 22 (refine-refusal-first t m) tt) (note-short-is t note m)
+
+pub noted-short : (t : ℕ) (note : List ℕ) (m : Mesh) →
+    (notedCall t note m .answer .refusal ≡ 22)
+    ↔ ((refineCall t m .answer .refusal ≡ 0) × (length note < 4 + 9 * length (changedSlots m (refined t m))))
+noted-short t note m =
+    rw (judged-refusal refl (noted-judged t note m), judged-refusal refl (refine-judged t m)) (noted-short-by t note m)
+
+pub noted-as-refine : (t : ℕ) (note : List ℕ) (m : Mesh) → notedCall t note m .answer .refusal ≢ 22
+    → (notedCall t note m .answer ≡ refineCall t m .answer) × (notedCall t note m .mesh ≡ refineCall t m .mesh)
+unfolding notedCall notedRefusal refineCall
+noted-as-refine t note m = go (refineRefusal t m) (ltb (length note) (length (noteOf t m (refined t m))))
+  where
+    go : (n : ℕ) (b : Bool) →
+        let o : Outcome =
+        unless (elim n [ zero ↦ firstOf (22 if b ∷ []) | suc r ↦ suc r ]) m (bufferRoom note) (notedWork t note m) in
+        let p : Outcome = unless n m noRoom (worked (refine t (atFirst m))) in
+        o .answer .refusal ≢ 22 → (o .answer ≡ p .answer) × (o .mesh ≡ p .mesh)
+    go zero true f = absurd (f refl)
+    go zero false f = (refl, refl)
+    go (suc r) b f = (refl, refl)
+
+-- 25 slots are noted at most.
+pub few-noted : (t : ℕ) (m : Mesh) → refineCall t m .answer .refusal ≡ 0 → length (changedSlots m (refined t m)) ≤ 25
+few-noted t m z = at-most-25 (refine-found t m (judged-carried (refine-judged t m) z .0))
+
+pub noted-enough : (t : ℕ) (note : List ℕ) (m : Mesh) → 229 ≤ length note → notedCall t note m .answer .refusal ≢ 22
+noted-enough t note m l e =
+    let (z, s) = noted-short t note m .0 e in
+    omega (arith, few-noted t m z)
+
+pub take-back-makes : (note : List ℕ) (m : Mesh) → takeBackCall note m .answer .refusal ≡ 0
+    → let n = restored note m in
+    (takeBackCall note m ≡ worked (atFirst n)) × Accepted note m × TakeBackMakes (notedTriangle note) m n
+take-back-makes note m z =
+    let x = judged-carried (take-back-judged note m) z in
+    let A = take-back-found note m (x .0) in
+    let e = refine-called (notedTriangle note) (restored note m) (A .carriedOut) in (
+      x .1,
+      A,
+      record {
+        sound = A .sound;
+        again = (ap (λ (o : Outcome). o .answer .refusal) e, ap (λ (o : Outcome). o .mesh) e ∙ makes-present A);
+        past = restored-past A;
+      },
+    )
 
 -- ---- whole step
 

@@ -12,7 +12,8 @@ use Rattle.rules.proofs.Chains.RefineLoop.{path-of-two, path-after, ahe
 use Rattle.rules.proofs.Chains.RefineLoop.{refine-is-split-ends}
 use Rattle.rules.proofs.Chains.Remembered.{path-none, path-from, path-within}
 use Rattle.rules.proofs.Chains.Runs.{not-splittable}
-use Rattle.rules.proofs.Links.Manifold.{Partnered, Manifold, BasesMeetIn, partnered, target₀}
+use Rattle.rules.proofs.Links.Manifold.{Partnered, Manifold, BasesMeetIn, partnered}
+use Rattle.rules.proofs.Links.Sides.{next-lt}
 use Rattle.rules.proofs.Splits.Bases.{reached}
 use Rattle.rules.proofs.Splits.Cut.{CutResult}
 use Rattle.rules.proofs.Splits.Settled.{nowhere, unchanged-not}
@@ -20,7 +21,7 @@ use Rattle.rules.specs.Calls.{splitsOf}
 use Rattle.rules.specs.Conditions.{Splittable, Alters, splitFirst, meetsFirst, inChain, further}
 use Rattle.rules.specs.Promises.{Written}
 use Rattle.rules.specs.Split.{Work, atFirst, chainEnd, chainAt, splitAt, refine}
-use Rattle.rules.specs.Tables.{Topology, Mesh, next, origin, target, boundary, link, generation}
+use Rattle.rules.specs.Tables.{Topology, Mesh, sides, next, origin, target, boundary, link, generation}
 
 -- ---- one split
 
@@ -48,19 +49,18 @@ module _ {v g p r : ℕ} {m n : Topology} (S : CutResult v g p r m n) (F : Manif
   split-raises x l (inChain o q _) = not-splittable fit o q
   split-raises x l (further o q _) = not-splittable fit o q
 
-  -- The base of a triangle that is left runs between old vertices.
-  between-old : (x : ℕ) → x < m .triangles → generation n x ≡ generation m x → link n (3 * x) ≢ boundary
-      → (origin n (link n (3 * x)) < m .vertices) × (target n (link n (3 * x)) < m .vertices)
-  between-old x l e q =
+  -- The side across from a triangle that is left runs between old vertices.
+  between-old : (h : ℕ) → h < sides m → generation n (h / 3) ≡ generation m (h / 3) → link n h ≢ boundary
+      → (origin n (link n h) < m .vertices) × (target n (link n h) < m .vertices)
+  between-old h l e q =
       let w = S .triangles in
-      let M : Partnered n (3 * x) = partnered (S .manifold .linked (3 * x) (omega arith)) q in
-      let a : 3 * x / 3 ≡ x = omega arith in
-      let b : (3 * x + 1) / 3 ≡ x = omega arith in
-      let c : origin n (3 * x) ≡ origin m (3 * x) = S .still .corners (3 * x) (omega arith) (rw a e) in
-      let d : origin n (3 * x + 1) ≡ origin m (3 * x + 1) =
-      S .still .corners (3 * x + 1) (omega arith) (rw b e) in (
-        omega (arith, M .from, target₀ n x, F .corner (3 * x + 1) (omega arith)),
-        omega (arith, M .onto, F .corner (3 * x) (omega arith)),
+      let M : Partnered n h = partnered (S .manifold .linked h (omega arith)) q in
+      let i = next-lt h (m .triangles) l in
+      let a : next h / 3 ≡ h / 3 = omega arith in
+      let c : origin n h ≡ origin m h = S .still .corners h l e in
+      let d : target n h ≡ target m h = S .still .corners (next h) i (rw a e) in (
+        omega (arith, M .from, F .corner (next h) i),
+        omega (arith, M .onto, F .corner h l),
       )
 
   -- A side between old vertices lies across from the new corner.
@@ -69,19 +69,18 @@ module _ {v g p r : ℕ} {m n : Topology} (S : CutResult v g p r m n) (F : Manif
   across-new h i e o b =
       opposite h i e (λ q. omega (arith, b .0, ap (origin n) q)) (λ q. omega (arith, b .1, ap (origin n) q))
 
-  -- Of the triangles that are left, the base of one at most meets a triangle that is written anew.
-  only-one : (x y : ℕ) → x < m .triangles → y < m .triangles → generation n x ≡ generation m x
-      → generation n y ≡ generation m y → link n (3 * x) ≢ boundary → link n (3 * y) ≢ boundary
-      → link n (3 * x) / 3 ≡ link n (3 * y) / 3 → Written m n (link n (3 * y) / 3) → x ≡ y
-  only-one x y lx ly ex ey qx qy e w =
+  -- Of the triangles that are left, one side at most meets a triangle that is written anew.
+  only-one : (h k : ℕ) → h < sides m → k < sides m → generation n (h / 3) ≡ generation m (h / 3)
+      → generation n (k / 3) ≡ generation m (k / 3) → link n h ≢ boundary → link n k ≢ boundary
+      → link n h / 3 ≡ link n k / 3 → Written m n (link n k / 3) → h ≡ k
+  only-one h k lh lk eh ek qh qk e w =
       let s = S .triangles in
-      let X : Partnered n (3 * x) = partnered (S .manifold .linked (3 * x) (omega arith)) qx in
-      let Y : Partnered n (3 * y) = partnered (S .manifold .linked (3 * y) (omega arith)) qy in
-      let (i, j, o) = S .newCorner (link n (3 * y) / 3) (omega (arith, Y .inUse)) w in
-      let a = across-new (link n (3 * x)) i (j ∙ sym e) o (between-old x lx ex qx) in
-      let b = across-new (link n (3 * y)) i j o (between-old y ly ey qy) in
-      let d : 3 * x ≡ 3 * y = sym (X .back) ∙ ap (link n) (a ∙ sym b) ∙ Y .back in
-      omega arith
+      let H : Partnered n h = partnered (S .manifold .linked h (omega arith)) qh in
+      let K : Partnered n k = partnered (S .manifold .linked k (omega arith)) qk in
+      let (i, j, o) = S .newCorner (link n k / 3) (omega (arith, K .inUse)) w in
+      let a = across-new (link n h) i (j ∙ sym e) o (between-old h lh eh qh) in
+      let b = across-new (link n k) i j o (between-old k lk ek qk) in
+      sym (H .back) ∙ ap (link n) (a ∙ sym b) ∙ K .back
 
   -- From two odd triangles before v on, the chain then meets a triangle that is written anew.
   meets-written : BasesMeetIn nowhere m → v < m .triangles → (y : ℕ) → y < m .triangles → Path m y v 2
@@ -105,7 +104,7 @@ module _ {v g p r : ℕ} {m n : Topology} (S : CutResult v g p r m n) (F : Manif
 -- ---- all splits
 
 -- What the next split of the refinement of t makes.
-abbrev afterNext : ℕ → Work → Topology
+abbrev pub afterNext : ℕ → Work → Topology
 afterNext t w = reached (splitAt (chainEnd (reached w) t) w)
 
 -- A triangle that is left is none that is written anew.
@@ -118,9 +117,35 @@ next-alters : {k g t : ℕ} {w : Work} → Ahead (suc k) g t w → (x : ℕ) →
 next-alters A x l d =
     from-end (A .rising .1 .path) (split-alters (ahead-splitting A .result) (A .manifold) (ahead-end A .fit) x l d)
 
-still-in-use : {k g t : ℕ} {w : Work} {x : ℕ} → Ahead (suc k) g t w → x < reached w .triangles
+pub still-in-use : {k g t : ℕ} {w : Work} {x : ℕ} → Ahead (suc k) g t w → x < reached w .triangles
     → x < afterNext t w .triangles
 still-in-use A l = omega (arith, ahead-splitting A .result .triangles)
+
+module _ {k g t : ℕ} {w : Work} (A : Ahead (suc (suc k)) g t w) where
+  -- The last place of the chain that the next split leaves then meets a triangle that is written anew.
+  pub last-met :
+      let m = reached w in
+      let n = afterNext t w in
+      let y = chainAt k m t in
+      (y < m .triangles) × (generation n y ≡ generation m y) × (link n (3 * y) ≢ boundary)
+      × Written m n (link n (3 * y) / 3)
+  last-met =
+      let E = ahead-end A in
+      let l = path-within k 2 (A .manifold) (A .basesMeet) (A .inUse) (omega arith) (path-of-two A) in
+      let (e, q, o) =
+      meets-written (ahead-splitting A .result) (A .manifold) (E .fit) (A .basesMeet) (E .inUse)
+      (chainAt k (reached w) t) l (path-from k 2 (omega arith) (path-of-two A)) in
+      (l, e, q, o)
+
+  -- Of the triangles that are left, no other side meets this one, which is split next.
+  pub last-alone : (h : ℕ) → h < sides (reached w) → generation (afterNext t w) (h / 3) ≡ generation (reached w) (h / 3)
+      → link (afterNext t w) h ≢ boundary → link (afterNext t w) h / 3 ≡ chainEnd (afterNext t w) t
+      → h ≡ 3 * chainAt k (reached w) t
+  last-alone h l e q i =
+      let (u, f, r, o) = last-met in
+      let z : 3 * chainAt k (reached w) t / 3 ≡ chainAt k (reached w) t = omega arith in
+      only-one (ahead-splitting A .result) (A .manifold) (ahead-end A .fit) h (3 * chainAt k (reached w) t) l
+      (omega arith) e (rw z f) q r (i ∙ ahead-across A .next) o
 
 module _ {k g t : ℕ} {w : Work} (A : Ahead (suc (suc k)) g t w) (x : ℕ) (l : x < reached w .triangles) where
   -- What the splits after the next alter, of the triangles that this leaves, are places of the chain.
@@ -134,24 +159,12 @@ module _ {k g t : ℕ} {w : Work} (A : Ahead (suc (suc k)) g t w) (x : ℕ) (l :
       n : Topology
       n = afterNext t w
 
-      y : ℕ
-      y = chainAt k m t
-
-      in-use : y < m .triangles
-      in-use = path-within k 2 (A .manifold) (A .basesMeet) (A .inUse) (omega arith) (path-of-two A)
-
-      met : (generation n y ≡ generation m y) × (link n (3 * y) ≢ boundary) × Written m n (link n (3 * y) / 3)
-      met =
-          let E = ahead-end A in
-          meets-written (ahead-splitting A .result) (A .manifold) (E .fit) (A .basesMeet) (E .inUse) y in-use
-          (path-from k 2 (omega arith) (path-of-two A))
-
       go : AltersFrom n (chainEnd n t) (suc k) t x → Alters m t x
-      go (atEnd e) = absurd (left-not m n l left (met .2) (e ∙ ahead-across A .next))
+      go (atEnd e) = absurd (left-not m n l left (last-met A .3) (e ∙ ahead-across A .next))
       go (meetsEnd o q e) =
-          at-place k (omega arith) (path-of-two A)
-          (only-one (ahead-splitting A .result) (A .manifold) (ahead-end A .fit) x y l in-use left (met .0) q (met .1)
-          (e ∙ ahead-across A .next) (met .2))
+          let z : 3 * x / 3 ≡ x = omega arith in
+          let y : 3 * x ≡ 3 * chainAt k m t = last-alone A (3 * x) (omega arith) (rw z left) q e in
+          at-place k (omega arith) (path-of-two A) (omega arith)
       go (atPlace i b e) = at-place i (omega arith) (path-of-two A) (e ∙ ahead-stays (suc k) A i b)
 
   alters-on : {h : ℕ} → h ≢ generation (reached w) x
@@ -170,7 +183,7 @@ ends-alter (suc k) w A x l d =
     alters-on A x l d (ends-alter k _ (ahead-on A) x (still-in-use A l))
 
 -- No split lowers a generation.
-ends-mono : {g t : ℕ} (k : ℕ) (w : Work) → Ahead k g t w → (x : ℕ) → x < reached w .triangles
+pub ends-mono : {g t : ℕ} (k : ℕ) (w : Work) → Ahead k g t w → (x : ℕ) → x < reached w .triangles
     → generation (reached w) x ≤ generation (reached (splitEnds k t w)) x
 unfolding splitEnds
 ends-mono zero w A x l = omega arith
@@ -211,7 +224,7 @@ rises-on {k} {g} {t} {h} {w} A x l up later a = go (alters-from (L .path) a)
     go (meetsEnd o q e) = raises (meetsFirst (E .fit) o q e)
     go (atPlace i b e) = place i b e (ℕ-discrete (L .steps) (i + 1))
 
-ends-rise : {g t : ℕ} (k : ℕ) (w : Work) → Ahead (suc k) g t w → (x : ℕ) → x < reached w .triangles
+pub ends-rise : {g t : ℕ} (k : ℕ) (w : Work) → Ahead (suc k) g t w → (x : ℕ) → x < reached w .triangles
     → Alters (reached w) t x → generation (reached w) x < generation (reached (splitEnds (suc k) t w)) x
 unfolding splitEnds
 ends-rise zero w A x l = rises-on A x l (omega arith) (λ i b e. absurd (omega arith))
@@ -223,7 +236,7 @@ ends-rise (suc k) w A x l =
 -- ---- refine
 
 -- A refine that is carried out makes one split at least.
-refine-splits : {t : ℕ} {m : Mesh} → RefineFound t m
+pub refine-splits : {t : ℕ} {m : Mesh} → RefineFound t m
     → (k : ℕ) × Ahead (suc k) (generation (m .topology) t) t (atFirst m)
     × (refine t (atFirst m) ≡ splitEnds (suc k) t (atFirst m))
 refine-splits {t} {m} R = go (splitsOf (m .topology) t) refl (ahead R) (refine-is-split-ends R)

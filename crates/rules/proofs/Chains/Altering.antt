@@ -75,12 +75,11 @@ pub data AlteredAt (m : Topology) (t x : ℕ) : Type 0 where
   besideEnd : (i : ℕ) → i < 3 → x ≡ link m (3 * chainEnd m t + i) / 3 → AlteredAt m t x
 
 -- A triangle whose base meets v lies beside v.
-beside : {m : Topology} {v x : ℕ} → Partnered m (3 * x) → link m (3 * x) / 3 ≡ v
-    → x ≡ link m (3 * v + link m (3 * x) % 3) / 3
-beside {m} {v} {x} M e =
+pub beside : {m : Topology} {v : ℕ} (x : ℕ) → Partnered m (3 * x) → link m (3 * x) / 3 ≡ v
+    → link m (3 * v + link m (3 * x) % 3) ≡ 3 * x
+beside {m} {v} x M e =
     let h : 3 * v + link m (3 * x) % 3 ≡ link m (3 * x) = omega arith in
-    let b : link m (3 * v + link m (3 * x) % 3) ≡ 3 * x = ap (link m) h ∙ M .back in
-    omega arith
+    ap (link m) h ∙ M .back
 
 pub alters-known : {m : Mesh} {t x : ℕ} → Sound m → t < m .topology .triangles → x < m .topology .triangles
     → Alters (m .topology) t x → AlteredAt (m .topology) t x
@@ -91,9 +90,57 @@ alters-known {m} {t} {x} S b l a = go (alters-from (chain-path t m S b) a)
         → AlteredAt (m .topology) t x
     go (atEnd e) = isEnd e
     go (meetsEnd o q e) =
-        besideEnd (link (m .topology) (3 * x) % 3) (omega arith)
-        (beside (partnered (sound-manifold S .linked (3 * x) (omega arith)) q) e)
+        let y = beside x (partnered (sound-manifold S .linked (3 * x) (omega arith)) q) e in
+        besideEnd (link (m .topology) (3 * x) % 3) (omega arith) (omega arith)
     go (atPlace i j e) = onChain i (omega arith) e
+
+-- What is found there is altered, beside the end where a base meets this.
+module _ (t : ℕ) (m : Mesh) (S : Sound m) (b : t < m .topology .triangles) where
+  way : Path (m .topology) t (chainEnd (m .topology) t)
+      (chainOdd (m .topology) t - generation (m .topology) (chainEnd (m .topology) t) % 2)
+  way = chain-path t m S b
+
+  pub end-altered :
+      let v = chainEnd (m .topology) t in
+      (v < m .topology .triangles) × Alters (m .topology) t v
+  end-altered =
+      (path-use (sound-manifold S) (sound-bases S) b way, from-end way (splitFirst (path-fit way) refl))
+
+  pub place-altered : (i : ℕ) → i < chainOdd (m .topology) t →
+      let x = chainAt i (m .topology) t in
+      (x < m .topology .triangles) × Alters (m .topology) t x
+  place-altered i l = go (decLt i k)
+    where
+      k : ℕ
+      k = chainOdd (m .topology) t - generation (m .topology) (chainEnd (m .topology) t) % 2
+
+      go : Dec (i < k) → (chainAt i (m .topology) t < m .topology .triangles)
+          × Alters (m .topology) t (chainAt i (m .topology) t)
+      go (yes q) = (
+        path-within i (k - i) (sound-manifold S) (sound-bases S) b (omega arith) way,
+        at-place i q way refl,
+      )
+      go (no q) =
+          let z : i ≡ k = omega arith in
+          let y : chainEnd (m .topology) t ≡ chainAt i (m .topology) t =
+          path-last way ∙ ap (λ (j : ℕ). chainAt j (m .topology) t) (sym z) in
+          subst (λ (x : ℕ). (x < m .topology .triangles) × Alters (m .topology) t x) y end-altered
+
+  pub met-altered : (i : ℕ) → i < 3 → Base (m .topology) (link (m .topology) (3 * chainEnd (m .topology) t + i)) →
+      let x = link (m .topology) (3 * chainEnd (m .topology) t + i) / 3 in
+      (x < m .topology .triangles) × Alters (m .topology) t x
+  met-altered i l o =
+      let F = sound-manifold S in
+      let v : ℕ = chainEnd (m .topology) t in
+      let u = end-altered .0 in
+      let h : ℕ = link (m .topology) (3 * v + i) in
+      let M : Partnered (m .topology) (3 * v + i) = partnered-base F (omega arith) o in
+      let c : 3 * (h / 3) ≡ h = omega (arith, o .0) in
+      let q : link (m .topology) (3 * (h / 3)) ≡ 3 * v + i = ap (link (m .topology)) c ∙ M .back in (
+        omega (arith, M .inUse),
+        from-end way (meetsFirst {x = h / 3} (path-fit way) (o .1) (λ z. omega (arith, F .slots, F .generationRoom))
+            (omega arith)),
+      )
 
 -- ---- in a mesh that has the same triangles in use
 
@@ -142,54 +189,25 @@ module _ (t : ℕ) (m : Mesh) (S : Sound m) (b : t < m .topology .triangles) whe
   k : ℕ
   k = chainOdd tri t - generation tri e % 2
 
-  way : Path tri t e k
-  unfolding tri e k
-  way = chain-path t m S b
-
-  end-in-use : e < tri .triangles
-  unfolding tri
-  end-in-use = path-use (sound-manifold S) (sound-bases S) b way
-
   -- The triangles that the test looks at.
   Looked : Type 0
   Looked =
       (((i : ℕ) × (i < chainOdd tri t) × (lock m (chainAt i tri t) ≡ 1)) ⊎ (lock m e ≡ 1))
       ⊎ ((i : ℕ) × (i < 3) × (Base tri (link tri (3 * e + i)) × (lock m (link tri (3 * e + i) / 3) ≡ 1)))
 
-  end-altered : Alters tri t e
-  end-altered = from-end way (splitFirst (path-fit way) refl)
-
   altered-there : Looked → AltersLocked t m
-  unfolding Looked tri k
-  altered-there (inl (inl (i, l, d))) = go (decLt i k)
-    where
-      go : Dec (i < k) → AltersLocked t m
-      go (yes q) = (
-        chainAt i tri t,
-        (path-within i (k - i) (sound-manifold S) (sound-bases S) b (omega arith) way, d),
-        at-place i q way refl,
-      )
-      go (no q) =
-          let z : i ≡ k = omega arith in
-          let y : chainAt i tri t ≡ e = ap (λ (j : ℕ). chainAt j tri t) z ∙ sym (path-last way) in
-          (e, (end-in-use, ap (lock m) (sym y) ∙ d), end-altered)
-  altered-there (inl (inr d)) = (e, (end-in-use, d), end-altered)
+  unfolding Looked tri e
+  altered-there (inl (inl (i, l, d))) =
+      let (u, a) = place-altered t m S b i l in
+      (chainAt i tri t, (u, d), a)
+  altered-there (inl (inr d)) = let (u, a) = end-altered t m S b in (e, (u, d), a)
   altered-there (inr (i, l, (o, d))) =
-      let F = sound-manifold S in
-      let u = end-in-use in
-      let h : ℕ = link tri (3 * e + i) in
-      let M : Partnered tri (3 * e + i) = partnered-base F (omega arith) o in
-      let c : 3 * (h / 3) ≡ h = omega (arith, o .0) in
-      let q : link tri (3 * (h / 3)) ≡ 3 * e + i = ap (link tri) c ∙ M .back in (
-        h / 3,
-        (omega (arith, M .inUse), d),
-        from-end way (meetsFirst {x = h / 3} (path-fit way) (o .1) (λ z. omega (arith, F .slots, F .generationRoom))
-            (omega arith)),
-      )
+      let (u, a) = met-altered t m S b i l o in
+      (link tri (3 * e + i) / 3, (u, d), a)
 
   looked-at : AltersLocked t m → Looked
-  unfolding Looked tri k
-  looked-at (x, (l, d), a) = go (alters-from way a)
+  unfolding Looked tri e k
+  looked-at (x, (l, d), a) = go (alters-from (chain-path t m S b) a)
     where
       go : AltersFrom tri e k t x → Looked
       go (atEnd q) = inl (inr (ap (lock m) (sym q) ∙ d))
@@ -197,8 +215,7 @@ module _ (t : ℕ) (m : Mesh) (S : Sound m) (b : t < m .topology .triangles) whe
       go (meetsEnd o r q) =
           let M : Partnered tri (3 * x) = partnered (sound-manifold S .linked (3 * x) (omega arith)) r in
           let i : ℕ = link tri (3 * x) % 3 in
-          let h : 3 * e + i ≡ link tri (3 * x) = omega arith in
-          let y : link tri (3 * e + i) ≡ 3 * x = ap (link tri) h ∙ M .back in
+          let y : link tri (3 * e + i) ≡ 3 * x = beside x M q in
           let z : link tri (3 * e + i) / 3 ≡ x = omega arith in
           inr (i, omega arith, ((omega arith, ap (λ (j : ℕ). generation tri j % 2) z ∙ o), ap (lock m) z ∙ d))
 

@@ -15,7 +15,7 @@ use Rattle.rules.proofs.Lists.Holding.{Holding, holding-begins, holding
 use Rattle.rules.proofs.Lists.Entries.{stopped, Turn, fails, passes, refines, entry-turn, entry-fails-positive}
 use Rattle.rules.proofs.Chains.Going.{Going, going-on}
 use Rattle.rules.proofs.Spares.Adds.{refine-adds}
-use Rattle.rules.proofs.Spares.OverSpares.{over, over-refusal, over-refine, generation-same}
+use Rattle.rules.proofs.Spares.OverSpares.{over, over-refusal, over-refine, generation-same, same-holds}
 use Rattle.rules.specs.Calls.{Outcome, worked, noRoom, unless, refineRefusal}
 use Rattle.rules.specs.Lists.{Progress, goesOn, risen, entryRefusal, entryWork, handle}
 use Rattle.rules.specs.Lists.{handleAll, refineEach}
@@ -45,7 +45,7 @@ module _ (start : Mesh) (t : ℕ) where
   module _ {s : Spares} {m : Mesh} (L : SameSizes s m) (S : Sound m)
       (grown : start .topology .triangles ≤ m .topology .triangles) where
     risen-over : t < start .topology .triangles → risen start t (over s m) ≡ risen start t m
-    risen-over l = ap (ltb (generation (start .topology) t)) (generation-same L S t (omega arith))
+    risen-over l = ap (ltb (generation (start .topology) t)) (generation-same (same-holds L S) S t (omega arith))
 
     -- The entry fails with the same.
     refusal-over : entryRefusal start t (over s m) ≡ entryRefusal start t m

@@ -1,7 +1,7 @@
 -- Triangles with a corner in a box, refined in a mirrored mesh with the mirrored box.
 use Prim.Native.Nat.{ℕ, zero, suc, _+_, _*_}
 use native.Mathlib.Omega.{arith}
-use mathlib.Core.Bool.{Bool, true, false, _&&_}
+use mathlib.Core.Bool.{Bool, true, false}
 use mathlib.Core.Path.{_≡_, refl, ap, _∙_}
 use lib.Dec.{eqb, ltb}
 use lib.IntN.{ℤ, negℤ}
@@ -11,7 +11,7 @@ use Rattle.rules.proofs.Mirrors.MirrorLists.{mirrorProgress}
 use Rattle.rules.proofs.Mirrors.MirrorRefusals.{tables-mirror, sound-mirror, same-sizes-mirror, refine-refused}
 use Rattle.rules.proofs.Mirrors.MirrorTables.{coordinate-mirror}
 use Rattle.rules.proofs.Mirrors.MirrorWork.{mirrorWork, refine-mirror}
-use Rattle.rules.proofs.Mirrors.Opposites.{order-opposite}
+use Rattle.rules.proofs.Mirrors.Opposites.{and-swapped, order-opposite}
 use Rattle.rules.specs.Boxes.{Box, between, inBox, wanted, lowestWanted, refineWanted, boxFits, boxRefusal}
 use Rattle.rules.specs.Calls.{refineRefusal}
 use Rattle.rules.specs.Lists.{Progress, goesOn}
@@ -21,12 +21,6 @@ use Rattle.rules.specs.Split.{refine}
 use Rattle.rules.specs.Tables.{Mesh, origin}
 
 -- ---- one coordinate
-
-and-swapped : (a b : Bool) → (a && b) ≡ (b && a)
-and-swapped true true = refl
-and-swapped true false = refl
-and-swapped false true = refl
-and-swapped false false = refl
 
 -- An end of the box, and the other where the coordinate is negated.
 abbrev turnedEnd : Bool → ℤ → ℤ → ℤ

@@ -2,10 +2,12 @@
 use Prim.Native.Nat.{ℕ, zero, suc}
 use native.Mathlib.Omega.{arith}
 use mathlib.Core.List.{List, []}
-use mathlib.Core.Path.{_≡_, refl, ap, _∙_}
+use mathlib.Core.Path.{_≡_, refl, ap, ap₂, _∙_}
 use lib.IntN.{ℤ}
+use lib.ListN.{length, getD}
 use Rattle.rules.proofs.Mirrors.MirrorBoxes.{turns-mirror, box-refused}
 use Rattle.rules.proofs.Mirrors.MirrorLists.{mirrorProgress, handle-all-mirror, copied-mirror}
+use Rattle.rules.proofs.Mirrors.MirrorNotes.{note-mirror, noted-refused, restored-mirror, take-back-refused}
 use Rattle.rules.proofs.Mirrors.MirrorRefusals.{load-refused, refine-refused, step-refused, limit-refused}
 use Rattle.rules.proofs.Mirrors.MirrorRefusals.{lock-refused, ring-refused, position-refused, spares-refused}
 use Rattle.rules.proofs.Mirrors.MirrorRefusals.{view-refused, loaded-mirror}
@@ -14,13 +16,15 @@ use Rattle.rules.proofs.Mirrors.MirrorWork.{mirrorWork, refine-mirror, 
 use Rattle.rules.proofs.Mirrors.Opposites.{mirror-zero}
 use Rattle.rules.specs.Below.{fill}
 use Rattle.rules.specs.Boxes.{refineInBox, boxCall}
-use Rattle.rules.specs.Calls.{Room, Outcome, ringRoom, tableRoom, spareRoom, zeroPoint, worked, unless, loadCall}
+use Rattle.rules.specs.Calls.{Room, Outcome, outcomeOf, answerOf, bufferRoom, tableRoom, spareRoom, zeroPoint}
+use Rattle.rules.specs.Calls.{worked, unless, loadCall}
 use Rattle.rules.specs.Calls.{refineCall, wholeStepCall, lockCall, limitCall, ringCall, positionCall, viewCall}
 use Rattle.rules.specs.History.{Call, outcome, after}
 use Rattle.rules.specs.Lists.{Progress, begun, refineEach, allOrNothing, listCall, previewCall}
 use Rattle.rules.specs.Mirror.{mirrorPoint, mirrorTable, mirror, mirrorSpares, mirrorRoom, mirrorOutcome}
-use Rattle.rules.specs.Mirror.{Mirrors, Rounds, load, refine, step, list, box, lock, ring, position, limit}
-use Rattle.rules.specs.Mirror.{preview, point, triangles, MirrorsEach, none, next}
+use Rattle.rules.specs.Mirror.{Mirrors, Rounds, load, refine, step, list, box, lock, noted, takeBack, ring}
+use Rattle.rules.specs.Mirror.{position, limit, preview, point, triangles, MirrorsEach, none, next}
+use Rattle.rules.specs.Notes.{notedWork, notedCall, takeBackCall}
 use Rattle.rules.specs.Spares.{Spares}
 use Rattle.rules.specs.Split.{Work, atFirst}
 use Rattle.rules.specs.Tables.{Mesh, triangleSlots, withRule}
@@ -30,7 +34,7 @@ module _ (k : ℕ) (m : Mesh) where
   no-point = rw (mirror-zero k 0, mirror-zero k 1, mirror-zero k 2)
 
   -- A room without tables of points.
-  ring-room : (buffer : List ℕ) → mirrorRoom k (ringRoom buffer) ≡ ringRoom buffer
+  ring-room : (buffer : List ℕ) → mirrorRoom k (bufferRoom buffer) ≡ bufferRoom buffer
   unfolding mirrorTable fill
   ring-room buffer = refl
 
@@ -49,6 +53,16 @@ module _ (k : ℕ) (m : Mesh) where
 
   worked-mirror : (w : Work) {w′ : Work} → w′ ≡ mirrorWork k w → worked w′ ≡ mirrorOutcome k (worked w)
   worked-mirror w e = rw (e, no-point, ring-room [])
+
+  -- A refine with its note written.
+  noted-mirror : (t : ℕ) (note : List ℕ) → notedWork t note (mirror k m) ≡ mirrorOutcome k (notedWork t note m)
+  noted-mirror t note =
+      let done : List ℕ → Work → Outcome =
+      λ l w.
+      outcomeOf (answerOf 0 (w .splits) (w .flips) 0 zeroPoint (w .mesh)) (w .mesh)
+      (bufferRoom (fill (length l) (λ i. getD l i 0) note)) in
+      ap₂ done (note-mirror k t m) (refine-mirror k t (atFirst m))
+      ∙ rw (no-point, ring-room _) refl
 
   -- Spare tables alone.
   spare-room : (spares : Spares) → mirrorRoom k (spareRoom spares) ≡ spareRoom (mirrorSpares k spares)
@@ -84,7 +98,8 @@ module _ (k : ℕ) (m : Mesh) where
 
   pub call-mirror : {c c′ : Call} → Mirrors k c c′ → (Rounds c → m .rule ≡ 2)
       → outcome c′ (mirror k m) ≡ mirrorOutcome k (outcome c m)
-  unfolding loadCall refineCall wholeStepCall boxCall lockCall limitCall ringCall previewCall viewCall
+  unfolding loadCall refineCall wholeStepCall boxCall lockCall limitCall ringCall previewCall viewCall notedCall
+      takeBackCall
   call-mirror (load {rule} C) two =
       unless-mirror _ _ (load-refused k m C rule) (ring-room [])
       (worked-mirror _ (ap (λ n. atFirst (withRule rule n)) (loaded-mirror k m C)))
@@ -96,6 +111,11 @@ module _ (k : ℕ) (m : Mesh) where
   call-mirror (box {b} {spares}) two =
       in-spares (refineInBox b m) spares (box-refused k b m spares) (turns-mirror k b (triangleSlots m) (begun m))
   call-mirror (lock {on} {t}) two = unless-mirror _ _ (lock-refused k m t) (ring-room []) (worked-mirror _ refl)
+  call-mirror (noted {t} {note}) two =
+      unless-mirror _ _ (noted-refused k t note m) (ring-room note) (noted-mirror t note)
+  call-mirror (takeBack {note}) two =
+      unless-mirror _ _ (take-back-refused k note m) (ring-room [])
+      (worked-mirror _ (ap atFirst (restored-mirror k note m)))
   call-mirror (ring {v} {buffer}) two =
       unless-mirror _ _ (ring-refused k m v buffer) (ring-room buffer) (rw (no-point, ring-room))
   call-mirror (position {v}) two = position-mirror v

@@ -3,7 +3,7 @@
 use Prim.Native.Nat.{ℕ, zero, suc, _+_, _-_, _*_, _/_}
 use native.Mathlib.Nat.{div-eq-of-lt}
 use native.Mathlib.Omega.{arith}
-use mathlib.Core.Bool.{Bool, true, false}
+use mathlib.Core.Bool.{Bool, true, false, _&&_}
 use mathlib.Core.Path.{_≡_, refl, sym}
 use lib.Dec.{eqb}
 use lib.IntN.{ℤ, pos, negsuc, negℤ, negℤ-negℤ, negℤ-+ℤ, _+ℤ_, _*ℤ_}
@@ -14,8 +14,15 @@ use Rattle.rules.proofs.Numbers.Differences.{near-gives}
 use Rattle.rules.proofs.Numbers.Rounding.{nearest-third, nearest-third-only, mean, moved-is, limit-is}
 use Rattle.rules.proofs.Soundness.SoundTest.{le-is, in-range-is}
 use Rattle.rules.specs.Mirror.{mirrorAt}
+use Rattle.rules.specs.Notes.{sameNumber}
 use Rattle.rules.specs.Numbers.{InRange, inRange, maxCoordinate, floorDiv, nearestThird, halfUp, rounded, weight}
 use Rattle.rules.specs.Numbers.{moved, limit}
+
+pub and-swapped : (a b : Bool) → (a && b) ≡ (b && a)
+and-swapped true true = refl
+and-swapped true false = refl
+and-swapped false true = refl
+and-swapped false false = refl
 
 pub order-opposite : (x y : ℤ) → leZ (negℤ y) (negℤ x) ≡ leZ x y
 order-opposite x y =
@@ -81,6 +88,11 @@ module _ (k j : ℕ) where
 
   pub mirror-range : (z : ℤ) → inRange (mirrorAt k j z) ≡ inRange z
   mirror-range z = mirror-is (λ f. inRange (f z) ≡ inRange z) refl (range-opposite z)
+
+  pub mirror-same : (x y : ℤ) → sameNumber (mirrorAt k j x) (mirrorAt k j y) ≡ sameNumber x y
+  mirror-same x y =
+      mirror-is (λ f. sameNumber (f x) (f y) ≡ sameNumber x y) refl
+      (rw (order-opposite y x, order-opposite x y) (and-swapped (leZ y x) (leZ x y)))
 
   pub mirror-third : (s : ℤ) → nearestThird (mirrorAt k j s) ≡ mirrorAt k j (nearestThird s)
   mirror-third s = mirror-is (λ f. nearestThird (f s) ≡ f (nearestThird s)) refl (third-opposite s)

@@ -1,13 +1,19 @@
--- Different numbers that pass a test: no more than all that pass, and as many only where they are all of them.
+-- Different numbers that pass a test: no more than all that pass, and as many only where they are all of them; and no
+-- more than the entries of a list in which they stand.
 use mathlib.Core.Path.{_≡_, refl, sym, _∙_, subst}
 use mathlib.Core.Bool.{Bool, true, false}
-use Prim.Native.Nat.{ℕ, _≤_, _<_}
+use mathlib.Core.List.{List, [], _∷_, _++_}
+use mathlib.Core.Logic.{inl, inr}
+use Prim.Native.Nat.{ℕ, zero, suc, _+_, _≤_, _<_}
+use native.Mathlib.Decide.{decLt}
 use native.Mathlib.Omega.{arith}
 use lib.Dec.{T, eqb}
+use lib.ListN.{length, length-append}
 use Rattle.rules.proofs.Numbers.Decide.{Decides, is-eq, bit-yes, bit-no, is-any}
-use Rattle.rules.proofs.Numbers.Sums.{total-same, total-zero, total-swap, total-one, total-const, total-le}
-use Rattle.rules.proofs.Numbers.Sums.{total-tight}
-use Rattle.rules.specs.Below.{any, total, bit, count}
+use Rattle.rules.proofs.Numbers.Entries.{Some}
+use Rattle.rules.proofs.Numbers.Sums.{total-same, total-zero, total-add, total-swap, total-one, total-const}
+use Rattle.rules.proofs.Numbers.Sums.{total-le, total-tight}
+use Rattle.rules.specs.Below.{any, total, bit, count, those}
 
 bit-le : (a b : Bool) → (T a → T b) → bit a ≤ bit b
 bit-le true true f = omega arith
@@ -85,3 +91,57 @@ module _ (n c : ℕ) (f : ℕ → ℕ) (p : ℕ → Bool)
       let a = at-most h l in
       let b = bit-le (p h) (reached c f h) (λ t. reached-is c f h .passes (r h l t)) in
       omega arith)
+
+-- ---- numbers that all stand in a list
+
+-- How often h stands in it.
+occurs : List ℕ → ℕ → ℕ
+occurs [] h = 0
+occurs (c ∷ l) h = bit (eqb c h) + occurs l h
+
+occurs-some : (l : List ℕ) (h : ℕ) → Some (λ c. h ≡ c) l → 1 ≤ occurs l h
+unfolding occurs
+occurs-some [] h s = absurd s
+occurs-some (c ∷ l) h (inl e) = omega (arith, bit-yes (is-eq c h) (sym e))
+occurs-some (c ∷ l) h (inr s) = omega (arith, occurs-some l h s)
+
+-- One number passes once at most.
+total-single : (n c : ℕ) → total n (λ h. bit (eqb c h)) ≤ 1
+total-single n c = go (decLt c n)
+  where
+    go : Dec (c < n) → total n (λ h. bit (eqb c h)) ≤ 1
+    go (yes l) =
+        let a = total-one n c (λ h. bit (eqb c h)) l (λ h k o. bit-no (is-eq c h) (λ q. o (sym q))) in
+        let b = bit-yes (is-eq c c) refl in
+        omega arith
+    go (no l) =
+        let a = total-zero n (λ h. bit (eqb c h)) (λ h k. bit-no (is-eq c h) (λ q. omega arith)) in
+        omega arith
+
+occurs-total : (n : ℕ) (l : List ℕ) → total n (occurs l) ≤ length l
+unfolding occurs
+occurs-total n [] = let a = total-zero n (λ h. 0) (λ h k. refl) in omega arith
+occurs-total n (c ∷ l) =
+    omega (arith, total-add n (λ h. bit (eqb c h)) (occurs l), total-single n c, occurs-total n l)
+
+length-those : (n : ℕ) (p : ℕ → Bool) → length (those n p) ≡ count n p
+unfolding those total
+length-those zero p = refl
+length-those (suc n) p = go (length-those n p) (p n)
+  where
+    go : length (those n p) ≡ count n p → (b : Bool)
+        → length (those n p ++ elim b [ true ↦ n ∷ [] | false ↦ [] ]) ≡ count n p + bit b
+    go e true = omega (arith, length-append (those n p) (n ∷ []))
+    go e false = omega (arith, length-append (those n p) [])
+
+-- Those that pass are no more than the entries of a list in which they all stand.
+pub those-few : (n : ℕ) (p : ℕ → Bool) (l : List ℕ) → ((h : ℕ) → h < n → T (p h) → Some (λ c. h ≡ c) l)
+    → length (those n p) ≤ length l
+those-few n p l f =
+    let a = length-those n p in
+    let b = total-le n (λ h. bit (p h)) (occurs l) (λ h k. once-there h k (p h) refl) in
+    omega (arith, occurs-total n l)
+  where
+    once-there : (h : ℕ) → h < n → (b : Bool) → p h ≡ b → bit b ≤ occurs l h
+    once-there h k false e = omega arith
+    once-there h k true e = omega (arith, occurs-some l h (f h k (subst T (sym e) tt)))

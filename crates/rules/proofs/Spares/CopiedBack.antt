@@ -5,9 +5,9 @@ use native.Mathlib.Omega.{arith}
 use lib.IntN.{pos}
 use lib.ListN.{length, getD}
 use Rattle.rules.proofs.Numbers.Fill.{getD-fill, fill-same}
-use Rattle.rules.proofs.Spares.Copies.{copied-over}
+use Rattle.rules.proofs.Spares.Copies.{copied-over, copied-self}
 use Rattle.rules.proofs.Spares.OverSpares.{over}
-use Rattle.rules.specs.Promises.{SamePast}
+use Rattle.rules.specs.Promises.{SamePast, AgreeInUse}
 use Rattle.rules.specs.Sound.{Sound}
 use Rattle.rules.specs.Spares.{Spares, copied, SameSizes}
 use Rattle.rules.specs.Tables.{Mesh, sides, origin, link, generation, lock}
@@ -38,6 +38,29 @@ copied-back {m} {n} P S =
       copied-over 0 (n .topology .triangles) (m .locks) (n .locks) (omega (arith, A .locks, S .triangleRoom))
           (P .lockSlots) (P .locks),
     )
+
+-- Tables that hold the mesh already.
+pub copied-held : {s : Spares} {m : Mesh} → SameSizes s m → Sound m → AgreeInUse s m → copied m s ≡ s
+unfolding copied
+copied-held {s} {m} L S E =
+    let A = S .tables in
+    λ i. record {
+      positions =
+          copied-self (pos 0) (3 * m .topology .vertices) _ (s .positions)
+          (omega (arith, L .positions, A .positions, S .vertexRoom)) (E .positions) i;
+      corners =
+          copied-self 0 (sides (m .topology)) _ (s .corners)
+          (omega (arith, L .corners, A .corners, S .triangleRoom)) (E .corners) i;
+      links =
+          copied-self 0 (sides (m .topology)) _ (s .links)
+          (omega (arith, L .links, A .links, S .triangleRoom)) (E .links) i;
+      generations =
+          copied-self 0 (m .topology .triangles) _ (s .generations)
+          (omega (arith, L .generations, S .triangleRoom)) (E .generations) i;
+      locks =
+          copied-self 0 (m .topology .triangles) _ (s .locks)
+          (omega (arith, L .locks, A .locks, S .triangleRoom)) (E .locks) i;
+    }
 
 -- What is copied from a copy.
 pub copied-again : {s : Spares} {m : Mesh} (t : Spares) → SameSizes s m → Sound m → copied (over s m) t ≡ copied m t

@@ -3,7 +3,7 @@ use mathlib.Core.Path.{_≡_, refl, sym, ap, ap₂, _∙_}
 use mathlib.Core.Logic.{inl, inr}
 use mathlib.Core.Bool.{Bool, true, false, _&&_}
 use mathlib.Core.List.{List, [], _∷_}
-use Prim.Native.Nat.{ℕ, zero, suc, _+_, _*_, _/_, _%_, _<_, _≤_, max}
+use Prim.Native.Nat.{ℕ, zero, suc, _+_, _*_, _/_, _%_, _<_, _≤_, min, max}
 use native.Mathlib.Omega.{arith}
 use native.Mathlib.Decide.{decLt}
 use lib.Dec.{eqb}
@@ -14,27 +14,29 @@ use Rattle.rules.proofs.Links.Manifold.{Base}
 use Rattle.rules.proofs.Numbers.Decide.{is-eq, when-true, when-false}
 use Rattle.rules.proofs.Numbers.Entries.{Each}
 use Rattle.rules.proofs.Spares.Copies.{Copy, copy-set, copy-three}
-use Rattle.rules.proofs.Spares.CopiedCuts.{LinkIn, Copied, Counted, flip-copied, face-cut-copied}
-use Rattle.rules.proofs.Spares.CopiedCuts.{rim-cut-copied, flip-counted, face-cut-counted, rim-cut-counted}
+use Rattle.rules.proofs.Spares.CopiedCuts.{LinkIn, Copied, slotsOfBoth, flip-copied, face-cut-copied}
+use Rattle.rules.proofs.Spares.CopiedCuts.{rim-cut-copied}
+use Rattle.rules.proofs.Spares.Growing.{Counted, Grown, flip-counted, face-cut-counted, rim-cut-counted}
+use Rattle.rules.proofs.Spares.Growing.{face-split-counted, rim-split-counted, raise-grows}
 use Rattle.rules.proofs.Splits.Bases.{reached, base-is}
-use Rattle.rules.specs.Spares.{Spares}
 use Rattle.rules.specs.Split.{Work, withSplit, withFlip, flip, thirdOf, centre, firstThird, secondThird}
 use Rattle.rules.specs.Split.{newUnlocked, facePlaced, rimPlaced, settle, settleAll, faceSplit, rimSplit, splitAt}
 use Rattle.rules.specs.Split.{chainEndWithin, chainOddWithin, chainEnd, raise, refine}
-use Rattle.rules.specs.Tables.{Topology, withTopology, origin, link, boundary, generation, odd, isBase}
-use Rattle.rules.specs.Tables.{coordinate, putThree}
+use Rattle.rules.specs.Tables.{Topology, Mesh, TablesAgree, vertexSlots, withTopology, origin, link, boundary}
+use Rattle.rules.specs.Tables.{generation, odd, isBase, coordinate, putThree}
 
 -- k is s with the positions of the first v vertices of l copied into it.
-abbrev Placed : ℕ → List ℤ → List ℤ → List ℤ → Type 0
-Placed v s l k = Copy (λ _. Unit {0}) (pos 0) (3 * v) s l k
+abbrev Placed : ℕ → List ℤ → List ℤ → List ℤ → List ℤ → Type 0
+Placed v r s l k = Copy (λ _. Unit {0}) (pos 0) (3 * v) r s l k
 
--- The tables of x are s with what w has in use, V = v and F = f, copied into them; both counted the same.
-pub record Over (s : Spares) (v f : ℕ) (w x : Work) : Type 0 where
+-- The tables of x are those of s with what w has in use, V = v and F = f, copied into them; both counted the same. The
+-- tables of w are as long as those of r.
+pub record Over (r s : Mesh) (v f : ℕ) (w x : Work) : Type 0 where
   pub counts : Counted v f (reached w)
   pub copyCounts : Counted v f (reached x)
-  pub tables : Copied s v f f (reached w) (reached x)
-  pub positions : Placed v (s .positions) (w .mesh .positions) (x .mesh .positions)
-  pub locks : Copy (λ _. Unit {0}) 0 f (s .locks) (w .mesh .locks) (x .mesh .locks)
+  pub tables : Copied r s v f f (reached w) (reached x)
+  pub positions : Placed v (r .positions) (s .positions) (w .mesh .positions) (x .mesh .positions)
+  pub locks : Copy (λ _. Unit {0}) 0 f (r .locks) (s .locks) (w .mesh .locks) (x .mesh .locks)
   pub rule : x .mesh .rule ≡ w .mesh .rule
   pub splits : x .splits ≡ w .splits
   pub flips : x .flips ≡ w .flips
@@ -55,7 +57,7 @@ across-below : {f h : ℕ} → eqb h boundary ≡ false → LinkIn f h → h / 3
 across-below {h = h} e (inl q) = absurd (when-false (is-eq h boundary) e q)
 across-below e (inr l) = omega arith
 
-module _ {s : Spares} {v f : ℕ} {m n : Topology} (C : Copied s v f f m n) where
+module _ {r s : Mesh} {v f : ℕ} {m n : Topology} (C : Copied r s v f f m n) where
   -- It ends at the same triangle, in use.
   pub chain-end-same : (k t : ℕ) → t < f
       → (chainEndWithin k n t ≡ chainEndWithin k m t) × (chainEndWithin k m t < f)
@@ -84,23 +86,46 @@ module _ {s : Spares} {v f : ℕ} {m n : Topology} (C : Copied s v f f m n) wher
 -- ---- splits
 
 -- One vertex more.
-placed : {s l k : List ℤ} (v u : ℕ) {a b : ℕ} {p q : ℕ → ℤ} → a ≡ v → b ≡ v → u ≡ suc v
-    → ((c : ℕ) → c < 3 → q c ≡ p c) → Placed v s l k
-    → Placed u s (putThree a (p 0, p 1, p 2) l) (putThree b (q 0, q 1, q 2) k)
-placed v u i j e f C =
+placed : {r s l k : List ℤ} (v u : ℕ) {a b : ℕ} {p q : ℕ → ℤ} → a ≡ v → b ≡ v → u ≡ suc v
+    → 3 * u ≤ length r → 3 * u ≤ length s → ((c : ℕ) → c < 3 → q c ≡ p c) → Placed v r s l k
+    → Placed u r s (putThree a (p 0, p 1, p 2) l) (putThree b (q 0, q 1, q 2) k)
+placed v u i j e g h f C =
     let z : max v (suc v) ≡ u = omega arith in
     rw (i, j, f 0 (omega arith), f 1 (omega arith), f 2 (omega arith), ← z)
-    (copy-three C v _ (omega arith) (tt, tt, tt))
+    (copy-three C v _ (omega arith) (omega arith) (omega arith) (tt, tt, tt))
 
 -- Two triangles more, unlocked.
-unlocked-over : {s l k : List ℕ} {f a b : ℕ} → a ≡ f → b ≡ f → Copy (λ _. Unit {0}) 0 f s l k
-    → Copy (λ _. Unit {0}) 0 (f + 2) s (newUnlocked a l) (newUnlocked b k)
-unlocked-over {f = f} i j C =
+unlocked-over : {r s l k : List ℕ} {f a b : ℕ} → a ≡ f → b ≡ f → f + 2 ≤ length r → f + 2 ≤ length s
+    → Copy (λ _. Unit {0}) 0 f r s l k → Copy (λ _. Unit {0}) 0 (f + 2) r s (newUnlocked a l) (newUnlocked b k)
+unlocked-over {f = f} i j g h C =
     let e : max (max f (suc f)) (suc (f + 1)) ≡ f + 2 = omega arith in
-    rw (i, j, ← e) (copy-set (copy-set C f 0 (omega arith) tt) (f + 1) 0 (omega arith) tt)
+    rw (i, j, ← e)
+    (copy-set (copy-set C f 0 (omega arith) (omega arith) (omega arith) tt) (f + 1) 0 (omega arith) (omega arith)
+    (omega arith) tt)
 
-module _ {s : Spares} (few : length (s .links) ≤ boundary) (low : length (s .generations) ≤ boundary / 3) where
-  module _ {v f : ℕ} {m n : Topology} (C : Copied s v f f m n) (h : ℕ) where
+-- Both have slots for v vertices and f triangles.
+pub record SlotsFor (r s : Mesh) (v f : ℕ) : Type 0 where
+  pub vertices : v ≤ min (vertexSlots r) (vertexSlots s)
+  pub triangles : f ≤ slotsOfBoth r s
+
+-- For what n has in use.
+abbrev pub SlotsOf : Mesh → Mesh → Topology → Type 0
+SlotsOf r s n = SlotsFor r s (n .vertices) (n .triangles)
+
+slots-before : {r s : Mesh} {m n : Topology} → Grown m n → SlotsOf r s n → SlotsOf r s m
+slots-before G Z = record {
+  vertices = omega (arith, G .vertices, Z .vertices);
+  triangles = omega (arith, G .triangles, Z .triangles);
+}
+
+slots-counted : {r s : Mesh} {v f a b : ℕ} → (a ≡ v) × (b ≡ f) → SlotsFor r s a b → SlotsFor r s v f
+slots-counted M Z = record {
+  vertices = omega (arith, M .0, Z .vertices);
+  triangles = omega (arith, M .1, Z .triangles);
+}
+
+module _ {r s : Mesh} (A : TablesAgree r) (B : TablesAgree s) where
+  module _ {v f : ℕ} {m n : Topology} (C : Copied r s v f f m n) (h : ℕ) where
     -- The boundary reads as a side of a slot past the tables.
     met-same : LinkIn f h → generation n (h / 3) ≡ generation m (h / 3)
     met-same (inl e) =
@@ -114,9 +139,10 @@ module _ {s : Spares} (few : length (s .links) ≤ boundary) (low : length (s .g
         absurd (omega (arith, b .1))
     base-below (inr l) b = omega arith
 
-  settle-over : {v f : ℕ} {w x : Work} → Over s v f w x → (c : ℕ) → c < f → Over s v f (settle c w) (settle c x)
+  settle-over : {v f : ℕ} {w x : Work} → f ≤ slotsOfBoth r s → Over r s v f w x → (c : ℕ) → c < f
+      → Over r s v f (settle c w) (settle c x)
   unfolding settle
-  settle-over {v} {f} {w} {x} O c l =
+  settle-over {v} {f} {w} {x} z O c l =
       let k = O .tables .links .used (3 * c) (omega arith) in
       let e : settle c x ≡ settleAt x h (generation (reached w) (h / 3)) =
       ap (λ (h : ℕ). settleAt x h (generation (reached x) (h / 3))) (k .0)
@@ -134,12 +160,13 @@ module _ {s : Spares} (few : length (s .links) ≤ boundary) (low : length (s .g
 
       go : (b : Bool) → isBase (reached w) h ≡ b → LinkIn f h →
           let made : Work → Work = λ w. elim b [ true ↦ flipped w h | false ↦ w ] in
-          Over s v f (made w) (made x)
+          Over r s v f (made w) (made x)
       go true e i = record {
         counts = flip-counted c (reached w) (O .counts) (h / 3);
         copyCounts = flip-counted c (reached x) (O .copyCounts) (h / 3);
         tables =
-            flip-copied few (O .tables) c (h / 3) l (base-below (O .tables) h i (when-true (base-is (reached w) h) e));
+            flip-copied A B z (O .tables) c (h / 3) l
+            (base-below (O .tables) h i (when-true (base-is (reached w) h) e));
         positions = O .positions;
         locks = O .locks;
         rule = O .rule;
@@ -148,12 +175,12 @@ module _ {s : Spares} (few : length (s .links) ≤ boundary) (low : length (s .g
       }
       go false e i = O
 
-  settle-all-over : {v f : ℕ} {w x : Work} (cs : List ℕ) → Over s v f w x → Each (λ c. c < f) cs
-      → Over s v f (settleAll cs w) (settleAll cs x)
-  settle-all-over [] O l = O
-  settle-all-over (c ∷ cs) O l = settle-all-over cs (settle-over O c (l .0)) (l .1)
+  settle-all-over : {v f : ℕ} {w x : Work} (cs : List ℕ) → f ≤ slotsOfBoth r s → Over r s v f w x
+      → Each (λ c. c < f) cs → Over r s v f (settleAll cs w) (settleAll cs x)
+  settle-all-over [] z O l = O
+  settle-all-over (c ∷ cs) z O l = settle-all-over cs z (settle-over z O c (l .0)) (l .1)
 
-  module _ {v f : ℕ} {w x : Work} (O : Over s v f w x) (t : ℕ) (l : t < f) where
+  module _ {v f : ℕ} {w x : Work} (O : Over r s v f w x) (t : ℕ) (l : t < f) where
     corner-same : (c k : ℕ) → c < 3 → k < 3
         → coordinate (x .mesh) (origin (reached x) (3 * t + c)) k
         ≡ coordinate (w .mesh) (origin (reached w) (3 * t + c)) k
@@ -166,83 +193,105 @@ module _ {s : Spares} (few : length (s .links) ≤ boundary) (low : length (s .g
         → thirdOf h i j (x .mesh) t k ≡ thirdOf h i j (w .mesh) t k
     third-same h i j k a b c d = simp corner-same
 
-    face-placed-over : Over s (suc v) (f + 2) (withSplit (facePlaced t (w .mesh)) w)
-        (withSplit (facePlaced t (x .mesh)) x)
+    face-placed-over : SlotsFor r s (suc v) (f + 2)
+        → Over r s (suc v) (f + 2) (withSplit (facePlaced t (w .mesh)) w) (withSplit (facePlaced t (x .mesh)) x)
     unfolding facePlaced centre
-    face-placed-over = record {
+    face-placed-over Z = record {
       counts = face-cut-counted t (reached w) (O .counts);
       copyCounts = face-cut-counted t (reached x) (O .copyCounts);
-      tables = face-cut-copied few (O .counts) (O .copyCounts) (O .tables) t l;
-      positions = placed v (suc v) (O .counts .0) (O .copyCounts .0) refl
-          (λ c. third-same 0 1 2 c (omega arith) (omega arith) (omega arith)) (O .positions);
-      locks = unlocked-over (O .counts .1) (O .copyCounts .1) (O .locks);
+      tables = face-cut-copied A B (Z .triangles) (O .counts) (O .copyCounts) (O .tables) t l;
+      positions =
+          placed v (suc v) (O .counts .0) (O .copyCounts .0) refl (omega (arith, Z .vertices))
+          (omega (arith, Z .vertices)) (λ c. third-same 0 1 2 c (omega arith) (omega arith) (omega arith))
+          (O .positions);
+      locks =
+          unlocked-over (O .counts .1) (O .copyCounts .1) (omega (arith, Z .triangles)) (omega (arith, Z .triangles))
+          (O .locks);
       rule = O .rule;
       splits = ap suc (O .splits);
       flips = O .flips;
     }
 
-    rim-placed-over : Over s (v + 2) (f + 2) (withSplit (rimPlaced t (w .mesh)) w)
-        (withSplit (rimPlaced t (x .mesh)) x)
+    rim-placed-over : SlotsFor r s (v + 2) (f + 2)
+        → Over r s (v + 2) (f + 2) (withSplit (rimPlaced t (w .mesh)) w) (withSplit (rimPlaced t (x .mesh)) x)
     unfolding rimPlaced firstThird secondThird
-    rim-placed-over = record {
+    rim-placed-over Z = record {
       counts = rim-cut-counted t (reached w) (O .counts);
       copyCounts = rim-cut-counted t (reached x) (O .copyCounts);
-      tables = rim-cut-copied few (O .counts) (O .copyCounts) (O .tables) t l;
+      tables = rim-cut-copied A B (Z .triangles) (O .counts) (O .copyCounts) (O .tables) t l;
       positions =
           placed (v + 1) (v + 2) (omega (arith, O .counts .0)) (omega (arith, O .copyCounts .0)) (omega arith)
+          (omega (arith, Z .vertices)) (omega (arith, Z .vertices))
           (λ c. third-same 0 1 1 c (omega arith) (omega arith) (omega arith))
-          (placed v (v + 1) (O .counts .0) (O .copyCounts .0) (omega arith)
+          (placed v (v + 1) (O .counts .0) (O .copyCounts .0) (omega arith) (omega (arith, Z .vertices))
+          (omega (arith, Z .vertices))
           (λ c. third-same 0 0 1 c (omega arith) (omega arith) (omega arith)) (O .positions));
-      locks = unlocked-over (O .counts .1) (O .copyCounts .1) (O .locks);
+      locks =
+          unlocked-over (O .counts .1) (O .copyCounts .1) (omega (arith, Z .triangles)) (omega (arith, Z .triangles))
+          (O .locks);
       rule = O .rule;
       splits = ap suc (O .splits);
       flips = O .flips;
     }
 
     -- What a split makes, settled, in slots that F gives.
-    children-over : {u : ℕ} {y z : Work} (cs : ℕ → List ℕ) → Over s u (f + 2) y z → Each (λ c. c < f + 2) (cs f)
-        → Over s u (f + 2) (settleAll (cs (reached w .triangles)) y) (settleAll (cs (reached x .triangles)) z)
-    children-over cs P i = rw (O .counts .1, O .copyCounts .1) (settle-all-over (cs f) P i)
+    children-over : {u : ℕ} {y z : Work} (cs : ℕ → List ℕ) → f + 2 ≤ slotsOfBoth r s → Over r s u (f + 2) y z
+        → Each (λ c. c < f + 2) (cs f)
+        → Over r s u (f + 2) (settleAll (cs (reached w .triangles)) y) (settleAll (cs (reached x .triangles)) z)
+    children-over cs Z P i = rw (O .counts .1, O .copyCounts .1) (settle-all-over (cs f) Z P i)
 
-    split-over : (u : ℕ) × Over s u (f + 2) (splitAt t w) (splitAt t x)
+    split-over : SlotsOf r s (reached (splitAt t w)) → (u : ℕ) × Over r s u (f + 2) (splitAt t w) (splitAt t x)
     unfolding faceSplit rimSplit
     split-over = rw (O .tables .generations .used t l .0, splitAt) (go (odd (generation (reached w) t)))
       where
         go : (b : Bool) →
             let made : Work → Work = λ w. elim b [ false ↦ faceSplit t w | true ↦ rimSplit t w ] in
-            (u : ℕ) × Over s u (f + 2) (made w) (made x)
-        go false = (
-          suc v,
-          children-over (λ f. t ∷ f ∷ (f + 1) ∷ []) face-placed-over (omega arith, (omega arith, (omega arith, tt))),
-        )
-        go true = (v + 2, children-over (λ f. t ∷ (f + 1) ∷ []) rim-placed-over (omega arith, (omega arith, tt)))
+            SlotsOf r s (reached (made w)) → (u : ℕ) × Over r s u (f + 2) (made w) (made x)
+        go false Z =
+            let Y = slots-counted (face-split-counted t w (O .counts)) Z in (
+              suc v,
+              children-over (λ f. t ∷ f ∷ (f + 1) ∷ []) (Y .triangles) (face-placed-over Y)
+                  (omega arith, (omega arith, (omega arith, tt))),
+            )
+        go true Z =
+            let Y = slots-counted (rim-split-counted t w (O .counts)) Z in (
+              v + 2,
+              children-over (λ f. t ∷ (f + 1) ∷ []) (Y .triangles) (rim-placed-over Y)
+                  (omega arith, (omega arith, tt)),
+            )
 
   -- ---- refines
 
-  raise-over : {v f : ℕ} {w x : Work} (k g t : ℕ) → Over s v f w x → t < f
-      → (u : ℕ) × (e : ℕ) × Over s u e (raise k g t w) (raise k g t x)
+  raise-over : {v f : ℕ} {w x : Work} (k g t : ℕ) → Over r s v f w x → t < f → SlotsOf r s (reached (raise k g t w))
+      → (u : ℕ) × (e : ℕ) × Over r s u e (raise k g t w) (raise k g t x)
   unfolding raise
-  raise-over {v} {f} zero g t O l = (v, f, O)
-  raise-over {v} {f} {w} {x} (suc k) g t O l =
+  raise-over {v} {f} zero g t O l Z = (v, f, O)
+  raise-over {v} {f} {w} {x} (suc k) g t O l Z =
       let c = chain-end-same (O .tables) (generation (reached w) t) t l in
-      go (decLt g (generation (reached w) t)) (c .0) (raise-over k g t (split-over O end (c .1) .1) (omega arith))
+      go (decLt g (generation (reached w) t)) (c .0) (λ Y.
+      let G = raise-grows k g t (splitAt end w) in
+      raise-over k g t (split-over O end (c .1) (slots-before G Y) .1) (omega arith) Y) Z
     where
       end : ℕ
       end = chainEnd (reached w) t
 
       go : Dec (g < generation (reached w) t) → chainEndWithin (generation (reached w) t) (reached x) t ≡ end
-          → (u : ℕ) × (e : ℕ) × Over s u e (raise k g t (splitAt end w)) (raise k g t (splitAt end x))
-          → (u : ℕ) × (e : ℕ) × Over s u e (raise (suc k) g t w) (raise (suc k) g t x)
-      go (yes i) c ih =
+          → (SlotsOf r s (reached (raise k g t (splitAt end w)))
+          → (u : ℕ) × (e : ℕ) × Over r s u e (raise k g t (splitAt end w)) (raise k g t (splitAt end x)))
+          → SlotsOf r s (reached (raise (suc k) g t w))
+          → (u : ℕ) × (e : ℕ) × Over r s u e (raise (suc k) g t w) (raise (suc k) g t x)
+      go (yes i) c ih Z =
           let e = O .tables .generations .used t l .0 in
           rw (raise-stops (suc k) g t w i, raise-stops (suc k) g t x (omega arith)) (v, f, O)
-      go (no i) c ih =
+      go (no i) c ih Z =
           let e = O .tables .generations .used t l .0 in
-          rw (raise-splits k g t end w (omega arith) refl, raise-splits k g t end x (omega arith) (rw e c)) ih
+          let z = raise-splits k g t end w (omega arith) refl in
+          rw (z, raise-splits k g t end x (omega arith) (rw e c)) (ih (rw z at Z))
 
-  pub refine-over : {v f : ℕ} {w x : Work} → Over s v f w x → (t : ℕ) → t < f
-      → (u : ℕ) × (e : ℕ) × Over s u e (refine t w) (refine t x)
+  -- Where both have the slots that it takes.
+  pub refine-over : {v f : ℕ} {w x : Work} → Over r s v f w x → (t : ℕ) → t < f → SlotsOf r s (reached (refine t w))
+      → (u : ℕ) × (e : ℕ) × Over r s u e (refine t w) (refine t x)
   unfolding refine
-  refine-over {w = w} O t l =
+  refine-over {w = w} O t l Z =
       rw (O .tables .generations .used t l .0)
-      (raise-over (suc (generation (reached w) t)) (generation (reached w) t) t O l)
+      (raise-over (suc (generation (reached w) t)) (generation (reached w) t) t O l Z)

@@ -20,6 +20,7 @@ use Rattle.rules.proofs.Splits.Settled.{settled-spread, settled-flips, 
 use Rattle.rules.proofs.Splits.Settled.{unchanged-not, NewCorner, settled-new-corner}
 use Rattle.rules.proofs.Splits.Settled.{still-on, settled-still}
 use Rattle.rules.proofs.Splits.Settling.{Same, Follow}
+use Rattle.rules.proofs.Splits.Told.{Told, told-on, settled-told, still-rise, left-between}
 use Rattle.rules.specs.Promises.{Follows, Still, Written}
 use Rattle.rules.specs.Tables.{Topology, sides, origin, boundary, link, generation}
 
@@ -56,6 +57,7 @@ pub record Cut (v g : ℕ) (cs : List ℕ) (p r : ℕ) (m n : Topology) : Type 0
   pub into : (h : ℕ) → h < sides m → h / 3 ≢ v → link m h / 3 ≡ v → Onto cs (link n h)
   pub bases : (h : ℕ) → h < sides n → Base n h → ((h < sides m) × (h / 3 ≢ v)) ⊎ Among cs (h / 3)
   pub follows : Follows m n
+  pub told : (h : ℕ) → h < sides m → h / 3 ≢ v → Told (λ x. x ≡ v) m n h
   pub newCorner : (x : ℕ) → x < n .triangles → Written m n x → NewCorner (m .vertices) n x
   pub past : (b : ℕ) → n .triangles ≤ b → Past b m n
 
@@ -99,6 +101,8 @@ pub record CutResult (v g p r : ℕ) (m n : Topology) : Type 0 where
   pub moved : (x : ℕ) → x < m .triangles → x ≢ v → generation n x ≢ generation m x
       → (link m (3 * x) ≢ boundary) × (link m (3 * x) / 3 ≡ v) × (generation m x ≡ g) × (generation n x ≡ suc g)
   pub still : Still m n
+  -- A triangle that is left is told where the sides 1 and 2 of v, and 1 of each other triangle that is written anew, are.
+  pub told : (h : ℕ) → h < sides m → generation n (h / 3) ≡ generation m (h / 3) → Told (λ x. x ≡ v) m n h
   pub newCorner : (x : ℕ) → x < n .triangles → Written m n x → NewCorner (m .vertices) n x
   pub past : (b : ℕ) → n .triangles ≤ b → Past b m n
 
@@ -287,6 +291,14 @@ module _ (v g : ℕ) (cs : List ℕ) (p r : ℕ) (m one n : Topology) (F : Manif
       away h (inl e) = omega (arith, F .slots, F .generationRoom)
       away h (inr e) = not-v (link m h / 3) (e .1)
 
+  told : (h : ℕ) → h < sides m → generation n (h / 3) ≡ generation m (h / 3) → Told (λ x. x ≡ v) m n h
+  told h l e =
+      let up = still-rise cut-still (settled-still S (C .manifold)) in
+      let x = left-between up (omega arith) e in
+      told-on up h (F .linked h l)
+      (C .told h l (unchanged-not m one (λ z. omega (arith, C .own)) (x .0)))
+      (settled-told h S (C .manifold) (omega (arith, C .triangles)) (x .1))
+
   -- Every triangle that is written anew has a new corner.
   new-corner : (x : ℕ) → x < n .triangles → Written m n x → NewCorner (m .vertices) n x
   new-corner x l w =
@@ -319,6 +331,7 @@ module _ (v g : ℕ) (cs : List ℕ) (p r : ℕ) (m one n : Topology) (F : Manif
         spread = spread;
         moved = moved;
         still = still-on m one n cut-still T;
+        told = told;
         newCorner = new-corner;
         past = λ b i.
             past-on (C .past b (omega (arith, E .triangles))) (settled-past b S (omega (arith, E .triangles)));

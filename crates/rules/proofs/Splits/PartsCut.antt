@@ -4,8 +4,8 @@ use mathlib.Core.Logic.{_≢_, _⊎_, inl, inr}
 use mathlib.Core.List.{List, [], _∷_}
 use Prim.Native.Nat.{ℕ, suc, _+_, _*_, _/_, _%_, _≤_, _<_}
 use native.Mathlib.Omega.{arith}
-use Rattle.rules.proofs.Links.Manifold.{Partnered, Manifold, Base, partnered, no-self}
-use Rattle.rules.proofs.Links.Sides.{rename-a, rename-b, rename-else, by-triangle, by-slot}
+use Rattle.rules.proofs.Links.Manifold.{Partnered, Manifold, Joined, Base, partnered, no-self}
+use Rattle.rules.proofs.Links.Sides.{rename-a, rename-b, rename-else, by-rename, by-triangle, by-slot}
 use Rattle.rules.proofs.Numbers.Entries.{Each}
 use Rattle.rules.proofs.Splits.Bases.{Child, boundary-not-base}
 use Rattle.rules.proofs.Splits.Cut.{Cut, Onto, Spread}
@@ -13,6 +13,7 @@ use Rattle.rules.proofs.Splits.Edges.{boundarySides}
 use Rattle.rules.proofs.Splits.Following.{follows-one}
 use Rattle.rules.proofs.Splits.Parts.{Parts, Parted}
 use Rattle.rules.proofs.Splits.Settled.{Among, Children, Distinct, NewCorner, unchanged-not}
+use Rattle.rules.proofs.Splits.Told.{Moves, side₁, side₂, Told, asBefore, anew}
 use Rattle.rules.specs.Actions.{Action, MayAct, acted, placeAfter, renameTwo}
 use Rattle.rules.specs.Promises.{Written}
 use Rattle.rules.specs.Tables.{Topology, sides, origin, boundary, link, generation}
@@ -39,6 +40,12 @@ pub record Leaves (v g r : ℕ) (rest : List ℕ) (p : Parts) (m n : Topology) :
   pub boundaryCount : boundarySides n ≡ boundarySides m + r
   pub newCorner₁ : NewCorner (m .vertices) n (m .triangles)
   pub newCorner₂ : NewCorner (m .vertices) n (m .triangles + 1)
+
+-- A base is side 0.
+onto-first : (cs : List ℕ) (k : ℕ) → Onto cs k → k % 3 ≡ 0
+onto-first [] k e = absurd e
+onto-first (c ∷ cs) k (inl e) = omega arith
+onto-first (c ∷ cs) k (inr e) = onto-first cs k e
 
 -- A new triangle is no old one.
 not-later : (x f : ℕ) (cs : List ℕ) → x < f → Each (λ c. f ≤ c) cs → Among cs x → ⊥
@@ -68,6 +75,31 @@ module _ (v : ℕ) (p : Parts) (m n : Topology) (F : Manifold m) (b : v < m .tri
       → h < sides m → h / 3 ≡ v → link n (3 * c) ≡ link m h → Child (m .vertices) g c n
   child {c = c} h u e o a l i q =
       record { inUse = u; generations = e; odd = o; fresh = a; other = other h (3 * c) l i q }
+
+  -- The sides 1 and 2 of v become bases, and no other side moves.
+  told : (g r : ℕ) (rest : List ℕ) → Leaves v g r rest p m n → (h : ℕ) → h < sides m → h / 3 ≢ v
+      → Told (λ x. x ≡ v) m n h
+  told g r rest L h l i =
+      by-rename (3 * v + 1) (p .place₁) (3 * v + 2) (p .place₂) (λ y. link n h ≡ y → Told (λ x. x ≡ v) m n h)
+      (omega arith) (link m h)
+      (λ o q. anew (omega (arith, onto-first (v ∷ rest) (p .place₁) (L .onto₁)))
+      (side₁ (omega arith) (risen (omega arith))))
+      (λ o q. anew (omega (arith, onto-first (v ∷ rest) (p .place₂) (L .onto₂)))
+      (side₂ (omega arith) (omega arith)))
+      (λ j k q. asBefore q (elsewhere j k (F .linked h l)))
+      (S .links h l i)
+    where
+      risen : {x : ℕ} → x ≡ v → generation n x ≢ generation m x
+      risen e z =
+          let q : generation n v ≡ generation m v = subst (λ (y : ℕ). generation n y ≡ generation m y) e z in
+          omega (arith, L .high, L .children .0 .generations)
+
+      elsewhere : link m h ≢ 3 * v + 1 → link m h ≢ 3 * v + 2 → Joined m h
+          → ¬ Moves (λ x. x ≡ v) m n (link m h)
+      elsewhere j k J (side₂ o e) = k (omega arith)
+      elsewhere j k (inl b) (side₁ o d) = omega arith
+      elsewhere j k (inr M) (side₁ o d) =
+          d (S .generations (link m h / 3) (omega (arith, M .inUse)) (omega arith))
 
   pub cut-of : (g q r : ℕ) (rest : List ℕ) → p .vertices ≡ m .vertices + q → Leaves v g r rest p m n
       → Cut v g (v ∷ rest) q r m n
@@ -101,6 +133,7 @@ module _ (v : ℕ) (p : Parts) (m n : Topology) (F : Manifold m) (b : v < m .tri
             (omega arith) refl;
         follows = follows-one (L .action) (L .mayAct) (L .makes) (λ h l e.
             S .links h l (unchanged-not m n (λ z. omega (arith, L .high)) e) ∙ sym (L .place (link m h)));
+        told = told g r rest L;
         newCorner = by-slot v (m .triangles) (n .triangles) (λ x. Written m n x → NewCorner (m .vertices) n x)
             (S .triangles) (λ w. (3 * v + 2, omega arith, L .children .0 .fresh)) (λ w. L .newCorner₁)
             (λ w. L .newCorner₂) old;

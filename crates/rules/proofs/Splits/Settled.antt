@@ -293,7 +293,7 @@ still-on m k n A B = record {
         ))
         ∙ a
 
-settling-still : (c : ℕ) (m n : Topology) → Manifold m → Settling c m n → Still m n
+pub settling-still : (c : ℕ) (m n : Topology) → Manifold m → Settling c m n → Still m n
 settling-still c m n F (kept x) = still-all m
 settling-still c m n F (flipped u B S) = record {
   grows = omega (arith, S .triangles);

@@ -1,10 +1,6 @@
 -- `viewer::point` meets its contract.
 use borrow.Author.Needs.{needs}
-use mathlib.Core.Path.{_≡_, ap, _∙_}
-use Rattle.rules.specs.Calls.{Outcome}
-use Rattle.rules.specs.Tables.{Mesh}
-use Rattle.mesh.specs.Answers.{positionOutcome}
-use Rattle.tables.specs.Lent.{meshNow}
+use mathlib.Core.Path.{ap, _∙_}
 use Rattle.viewer.proofs.Viewing.{refused-seen, read-seen, read-near}
 use Rattle.viewer.specs.declared.Seen.the-variants as Seen·
 use Rattle.viewer.proofs.point.Statement.{statement}

@@ -1,0 +1,6 @@
+-- Laws that the proofs of a refine with a note use.
+pub mod Rising
+pub mod Passing
+pub mod Listing
+pub mod Writing
+pub mod Noted

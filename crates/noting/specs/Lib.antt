@@ -1,0 +1,3 @@
+-- What the contracts of a refine with a note cite beside the rules.
+pub mod Changed
+pub mod Noting

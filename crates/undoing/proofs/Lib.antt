@@ -1,0 +1,9 @@
+-- What the proofs of taking back share.
+pub mod SlotsBack
+pub mod NoteTests
+pub mod SameMeshes
+pub mod CutTables
+pub mod Shorter
+pub mod AcceptedCut
+pub mod Trials
+pub mod TakingBack

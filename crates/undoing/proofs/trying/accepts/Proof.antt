@@ -1,0 +1,72 @@
+-- `undoing::trying::accepts` meets its contract.
+use borrow.Author.Needs.{needs}
+use Rattle.undoing.proofs.Trials.{within-holds}
+use Rattle.undoing.proofs.trying.accepts.Statement.{statement}
+use Rattle.undoing.proofs.trying.accepts.Tie as tie
+
+-- From the first test, and from the second, to what is before them.
+abbrev start-of : tie.Else1 → tie.Start
+start-of c = c .before .before .before .before .before .before .before
+
+abbrev begin : tie.Else2 → tie.Start
+begin c = start-of (c .before .before)
+
+accepts-beyond-4096-requires : tie.Need-accepts-beyond-4096-requires
+accepts-beyond-4096-requires c κs = search needs
+
+returns : tie.Need-returns
+returns c = c .accepts-beyond-4096 .ensures
+
+accepts-beyond-4096-requires-2 : tie.Need-accepts-beyond-4096-requires-2
+accepts-beyond-4096-requires-2 c κs = search needs
+
+returns-2 : tie.Need-returns-2
+returns-2 c = c .accepts-beyond-40962 .ensures
+
+within-requires : tie.Need-within-requires
+within-requires c κs = search needs
+
+accepts-within-16-requires : tie.Need-accepts-within-16-requires
+accepts-within-16-requires c κs =
+    let pre = begin (c .before .before) .pre in
+    (pre .0, (pre .1, within-holds 16 _ (c .before .within .ensures) (c .if3 .taken)))
+
+returns-3 : tie.Need-returns-3
+returns-3 c = c .accepts-within-16 .ensures
+
+within-requires-2 : tie.Need-within-requires-2
+within-requires-2 c κs = search needs
+
+accepts-within-256-requires : tie.Need-accepts-within-256-requires
+accepts-within-256-requires c κs =
+    let pre = begin (c .before .before .before .before) .pre in
+    (pre .0, (pre .1, within-holds 256 _ (c .before .within2 .ensures) (c .if4 .taken)))
+
+returns-4 : tie.Need-returns-4
+returns-4 c = c .accepts-within-256 .ensures
+
+accepts-within-4096-requires : tie.Need-accepts-within-4096-requires
+accepts-within-4096-requires c κs =
+    let at-if2 = c .before .before .before .before in
+    let pre = begin at-if2 .pre in
+    (pre .0, (pre .1, record { vertices = at-if2 .before .before .if1 .left; triangles = at-if2 .if2 .left }))
+
+returns-5 : tie.Need-returns-5
+returns-5 c = c .accepts-within-4096 .ensures
+
+pub accepts-spec : {M : Type 1} → statement M
+accepts-spec =
+    tie.close
+    (tie.spec
+    accepts-beyond-4096-requires
+    returns
+    accepts-beyond-4096-requires-2
+    returns-2
+    within-requires
+    accepts-within-16-requires
+    returns-3
+    within-requires-2
+    accepts-within-256-requires
+    returns-4
+    accepts-within-4096-requires
+    returns-5)
