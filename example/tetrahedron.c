@@ -1,5 +1,5 @@
-/* Loads a tetrahedron, refines a triangle, reads a ring, a position and all triangles in millimetres, and locks a
-   triangle. */
+/* Loads a tetrahedron, refines a triangle, reads a ring, a position and all triangles in millimetres, locks a
+   triangle, and takes a refine back. */
 #include "rawplinth.h"
 
 #include <stdio.h>
@@ -78,5 +78,19 @@ int main(void)
     rawplinth_unlock(TABLES, counts, 1);
     done = rawplinth_refine(TABLES, counts, 0);
     printf("with it unlocked: %u split, %u flip\n", done.splits, done.flips);
+    counts = done.counts;
+
+    /* A refine with a note, taken back by it. */
+    uint32_t note[RAWPLINTH_NOTE_ENTRIES];
+    done = rawplinth_refine_noted(TABLES, counts, 0, note, RAWPLINTH_NOTE_ENTRIES);
+    if (done.refusal != RAWPLINTH_OK)
+        return 1;
+    counts = done.counts;
+    printf("a note of %u slots: %u vertices, %u triangles\n", note[3], counts.vertices, counts.triangles);
+    done = rawplinth_take_back(TABLES, counts, note, RAWPLINTH_NOTE_ENTRIES);
+    counts = done.counts;
+    printf("taken back: %u vertices, %u triangles\n", counts.vertices, counts.triangles);
+    done = rawplinth_take_back(TABLES, counts, note, RAWPLINTH_NOTE_ENTRIES);
+    printf("taken back again: refused with %u\n", done.refusal);
     return 0;
 }

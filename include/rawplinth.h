@@ -14,7 +14,7 @@ extern "C" {
 
 /* Raised by every new call and every change of a signature, a struct or an answer; docs/changes/README.md has a line
    for each. */
-#define RAWPLINTH_VERSION 10
+#define RAWPLINTH_VERSION 11
 
 /* What a side without a partner links to. */
 #define RAWPLINTH_BOUNDARY UINT32_C(4294967295)
@@ -22,6 +22,9 @@ extern "C" {
 /* The most slots that tables may have. */
 #define RAWPLINTH_MAX_VERTEX_SLOTS 32768
 #define RAWPLINTH_MAX_TRIANGLE_SLOTS 65536
+
+/* Entries that do for the note of every refine: it changes 25 of the slots in use at most. */
+#define RAWPLINTH_NOTE_ENTRIES 229
 
 /* The rules by which whole step and limit round what lies half-way between two whole numbers. Rule 2 keeps mirror
    images: with one coordinate negated everywhere, in the tables, in other lent tables, in the cage of a load and in the
@@ -74,10 +77,13 @@ enum {
     RAWPLINTH_BOX = 18,            /* a box whose low corner is above its high one in a coordinate, or a generation
                                       above 20 */
     RAWPLINTH_LOCKED = 19,         /* a locked triangle that would be split or flipped; in a whole step any */
-    RAWPLINTH_VIEW_SHORT = 20      /* a table for all triangles with fewer than nine entries for each in use */
+    RAWPLINTH_VIEW_SHORT = 20,     /* a table for all triangles with fewer than nine entries for each in use */
+    RAWPLINTH_NOTE = 21,           /* a note that take_back does not accept */
+    RAWPLINTH_NOTE_SHORT = 22      /* a note with fewer entries than the refine has to write */
 };
 
-/* The answer of load, refine, whole step, lock and unlock, the last two without splits and flips. */
+/* The answer of load, refine, refine_noted, take_back, whole step, lock and unlock. Splits and flips are 0 but for a
+   refine, with a note or without, or a whole step. */
 typedef struct {
     uint32_t refusal;
     uint32_t splits; /* splits made, at the boundary or not */
@@ -154,8 +160,8 @@ typedef struct {
                    split makes. A mesh that was saved before version 9 goes on with zeros
 
    A locked triangle stays as it is until it is unlocked or a cage is loaded: its corners, their positions, its
-   generation, and the sides that its links name. Where a split or a flip beside it moves such a side to another place,
-   the link follows.
+   generation, and the sides that its links name. Where a split or a flip beside it, or one that is taken back, moves
+   such a side to another place, the link follows.
 
    Whatever they hold, a call does what it says or is refused, with the first number of its list that applies. Slots
    past the counts are written only where a call takes them into use.
@@ -186,7 +192,7 @@ rawplinth_worked rawplinth_load(
    ones whose base meets that: if one of these is locked, the call is refused with 19. Of other triangles at most links
    follow, be they locked or not.
    Refuses with 1, 7, 8, 9, 19, 11, in this order. Writes slots in use and those that it takes. Needs 0.14 MB of
-   stack, as do lock, unlock, ring, position, view_point and view_triangles. */
+   stack, as do refine_noted, lock, unlock, ring, position, view_point and view_triangles. */
 rawplinth_worked rawplinth_refine(
     int32_t *positions, size_t positions_length,
     uint32_t *corners, size_t corners_length,
@@ -195,6 +201,41 @@ rawplinth_worked rawplinth_refine(
     uint8_t *locks, size_t locks_length,
     rawplinth_counts counts,
     uint32_t triangle);
+
+/* Refines one triangle as refine does, and writes a note by which take_back undoes it: the triangle, the numbers of
+   vertices and triangles in use before, the number k of old slots whose content changes, be it a link alone, and for
+   each of these, in rising order, nine numbers: the slot and what it held, its three corners, its three links, its
+   generation and its lock. These are 4+9k entries. k is at most 25: RAWPLINTH_NOTE_ENTRIES (229) always do. Later
+   entries keep their content. A note of no entries is too short; refine takes none.
+   Refuses with 1, 7, 8, 9, 19, 11, 22, in this order. Writes what refine does, and the front of the note. */
+rawplinth_worked rawplinth_refine_noted(
+    int32_t *positions, size_t positions_length,
+    uint32_t *corners, size_t corners_length,
+    uint32_t *links, size_t links_length,
+    uint8_t *generations, size_t generations_length,
+    uint8_t *locks, size_t locks_length,
+    rawplinth_counts counts,
+    uint32_t triangle,
+    uint32_t *note, size_t note_length);
+
+/* Takes a refine back (undo) by its note: the slots of the note get what they held, and the vertices and triangles in
+   use are those of before. Slots that are given up keep their content, and later splits may take them. Splits and flips
+   are answered as 0.
+   Whatever a note holds, it is accepted exactly if it has 4+9k entries at least, its slots rise and are below the
+   number of triangles in use before, the mesh that it restores is sound, and refining its triangle there is carried
+   out and gives the mesh as it is, in every entry in use, with positions, locks and counts. So every note that
+   refine_noted wrote is accepted until the mesh is next changed, and none that was altered, or is of another mesh, can
+   do harm: it is refused with 21, or it takes a refine back all the same.
+   Refuses with 1, 7, 21, in this order. Writes corners, links, generations and locks of the slots in the note, and
+   nothing else. Needs 0.3 MB of stack up to 4096 vertices and triangles, 2.4 MB above: at most 3 MB. */
+rawplinth_worked rawplinth_take_back(
+    const int32_t *positions, size_t positions_length,
+    uint32_t *corners, size_t corners_length,
+    uint32_t *links, size_t links_length,
+    uint8_t *generations, size_t generations_length,
+    uint8_t *locks, size_t locks_length,
+    rawplinth_counts counts,
+    const uint32_t *note, size_t note_length);
 
 /* Refines the triangles of a list in its order, all of them or none. Each has to be in use when the call starts: one
    that an earlier entry makes is refused with 8. A triangle whose generation is above what it was at the start, by its

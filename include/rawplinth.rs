@@ -3,11 +3,14 @@
 
 /// Raised with that of the header. A program may go without it.
 #[allow(dead_code)]
-pub const RAWPLINTH_VERSION: u32 = 10;
+pub const RAWPLINTH_VERSION: u32 = 11;
 
 /// The rules by which a mesh rounds halves: up, or away from zero.
 pub const RAWPLINTH_HALF_UP: u32 = 1;
 pub const RAWPLINTH_HALF_AWAY: u32 = 2;
+
+/// Entries that do for the note of every refine.
+pub const RAWPLINTH_NOTE_ENTRIES: usize = 229;
 
 /// The vertices and triangles in use, and the mesh's rule. A mesh saved before version 4 goes on with rule 1.
 #[repr(C)]
@@ -27,7 +30,8 @@ pub struct Point {
     pub z: i32,
 }
 
-/// The answer of load, refine, whole step, lock and unlock. Refine splits at the boundary, too, and no call returns 10.
+/// The answer of load, refine, with a note or without, take back (undo), whole step, lock and unlock. Splits and flips
+/// are 0 but for a refine or a whole step. Refine splits at the boundary, too, and no call returns 10.
 #[repr(C)]
 #[derive(Clone, Copy, Debug, Default, PartialEq, Eq)]
 pub struct Worked {
@@ -142,6 +146,39 @@ unsafe extern "C" {
         locks_length: usize,
         counts: Counts,
         triangle: u32,
+    ) -> Worked;
+
+    pub fn rawplinth_refine_noted(
+        positions: *mut i32,
+        positions_length: usize,
+        corners: *mut u32,
+        corners_length: usize,
+        links: *mut u32,
+        links_length: usize,
+        generations: *mut u8,
+        generations_length: usize,
+        locks: *mut u8,
+        locks_length: usize,
+        counts: Counts,
+        triangle: u32,
+        note: *mut u32,
+        note_length: usize,
+    ) -> Worked;
+
+    pub fn rawplinth_take_back(
+        positions: *const i32,
+        positions_length: usize,
+        corners: *mut u32,
+        corners_length: usize,
+        links: *mut u32,
+        links_length: usize,
+        generations: *mut u8,
+        generations_length: usize,
+        locks: *mut u8,
+        locks_length: usize,
+        counts: Counts,
+        note: *const u32,
+        note_length: usize,
     ) -> Worked;
 
     pub fn rawplinth_whole_step(

@@ -2,7 +2,7 @@
 
 use crate::cages::{self, Cage, RADIUS};
 use crate::fast;
-use crate::tables::{Answer, BOUNDARY, Call, HALF_AWAY, HALF_UP, Lent, Panel, Point, Tables};
+use crate::tables::{Answer, BOUNDARY, Call, HALF_AWAY, HALF_UP, Lent, NOTE_ENTRIES, Panel, Point, Tables};
 
 /// The refine that makes the most splits.
 pub const LONGEST: &str = "refine, chain of 10";
@@ -16,6 +16,9 @@ pub const LIMITS: [&str; 2] = ["limit", "limit, rule 2"];
 /// triangle is.
 pub const LONGEST_BESIDE_LOCKS: &str = "refine, chain of 10, beside locks";
 pub const LOCKED_STEP: &str = "whole step, locked";
+/// Refines with a note, of an even triangle, of an odd one and of the longest chain, and two of them taken back.
+pub const NOTED: [&str; 3] = ["refine noted, even", "refine noted, odd", "refine noted, chain of 10"];
+pub const BACKS: [&str; 2] = ["take back, even", "take back, chain of 10"];
 /// All triangles for the viewer.
 pub const VIEW: &str = "view triangles";
 /// Lists: of triangles in a row, each refined by one split, and of one triangle again and again, which is passed over
@@ -27,7 +30,7 @@ pub const PREVIEWS: [&str; 4] = ["preview of 1", "preview of 100", "preview of 1
 /// all, which is refused with 11 when no slots are left.
 pub const BOXES: [&str; 3] = ["box of nothing", "box of a twentieth", "box of all, refused"];
 
-const NAMES: [&str; 30] = [
+const NAMES: [&str; 35] = [
     "load",
     "soundness",
     "refine even",
@@ -36,6 +39,11 @@ const NAMES: [&str; 30] = [
     AT_BOUNDARY,
     LONGEST_AT_BOUNDARY,
     LONGEST_BESIDE_LOCKS,
+    NOTED[0],
+    NOTED[1],
+    NOTED[2],
+    BACKS[0],
+    BACKS[1],
     STEPS[0],
     STEPS[1],
     LOCKED_STEP,
@@ -90,8 +98,8 @@ impl Case {
     }
 }
 
-/// All cases. The whole step needs three slots for each triangle, so it has a smaller cage than the other calls, and the
-/// longest lists need two for each entry.
+/// All cases. The whole step needs three slots for each triangle, so it has a smaller cage than the other calls, and
+/// the longest lists need two for each entry.
 pub fn all() -> Vec<Case> {
     let small = [cages::tetrahedron(), cages::sphere(10)];
     let [list_sphere, step_sphere, sphere] = [32, 33, 57].map(cages::sphere);
@@ -133,17 +141,24 @@ fn case(name: &'static str, cage: &Cage, shuffled: bool) -> Case {
     }
     let mut triangle = lent.counts.triangles / 2;
     let vertex = lent.counts.vertices / 2;
-    if name == "refine odd" || name == LONGEST || name == LONGEST_BESIDE_LOCKS {
+    let longest = [LONGEST, LONGEST_BESIDE_LOCKS, NOTED[2], BACKS[1]].contains(&name);
+    if name == "refine odd" || name == NOTED[1] || longest {
         set_up(&mut lent, Call::Refine(triangle));
     }
     if name == AT_BOUNDARY || name == LONGEST_AT_BOUNDARY {
         triangle = odd_at_boundary(&mut lent);
     }
-    if name == LONGEST || name == LONGEST_AT_BOUNDARY || name == LONGEST_BESIDE_LOCKS {
+    if longest || name == LONGEST_AT_BOUNDARY {
         triangle = end_of_long_chain(&mut lent, triangle);
     }
     if name == LONGEST_BESIDE_LOCKS {
         lock_unaltered(&mut lent, triangle);
+    }
+    if NOTED.contains(&name) || BACKS.contains(&name) {
+        lent.note = vec![u32::MAX; NOTE_ENTRIES];
+    }
+    if BACKS.contains(&name) {
+        set_up(&mut lent, Call::RefineNoted(triangle));
     }
     if name == "unlock" {
         set_up(&mut lent, Call::Lock(triangle));
@@ -167,6 +182,8 @@ fn case(name: &'static str, cage: &Cage, shuffled: bool) -> Case {
         "lock" => Call::Lock(triangle),
         "unlock" => Call::Unlock(triangle),
         name if STEPS.contains(&name) || name == LOCKED_STEP => Call::WholeStep,
+        name if NOTED.contains(&name) => Call::RefineNoted(triangle),
+        name if BACKS.contains(&name) => Call::TakeBack,
         name if LIMITS.contains(&name) => Call::Limit,
         name if LISTS.contains(&name) => Call::RefineList,
         name if PREVIEWS.contains(&name) => Call::Preview,

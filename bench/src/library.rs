@@ -44,6 +44,10 @@ pub fn answer(lent: &mut Lent, call: Call) -> Answer {
     match call {
         Call::Load(rule) => Answer::Worked(call!(rawplinth_load, lent, rule, lent.cage.as_ptr(), lent.cage.len())),
         Call::Refine(triangle) => Answer::Worked(call!(rawplinth_refine, lent, triangle)),
+        Call::RefineNoted(triangle) => {
+            Answer::Worked(call!(rawplinth_refine_noted, lent, triangle, lent.note.as_mut_ptr(), lent.note.len()))
+        }
+        Call::TakeBack => Answer::Worked(call!(rawplinth_take_back, lent, lent.note.as_ptr(), lent.note.len())),
         Call::WholeStep => Answer::Worked(call!(rawplinth_whole_step, lent)),
         Call::Lock(triangle) => Answer::Worked(call!(rawplinth_lock, lent, triangle)),
         Call::Unlock(triangle) => Answer::Worked(call!(rawplinth_unlock, lent, triangle)),

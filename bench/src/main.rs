@@ -12,7 +12,7 @@ mod tables;
 
 use std::thread;
 
-/// A call of the library needs at most 2.7 MB of stack.
+/// 16 MB of stack; a call of the library needs at most 3 MB of it.
 const STACK: usize = 16 << 20;
 
 fn main() {

@@ -8,7 +8,7 @@ use std::process::Command;
 use std::time::Instant;
 
 use crate::cases::{
-    AT_BOUNDARY, BOXES, Case, LOCKED_STEP, LONGEST, LONGEST_AT_BOUNDARY, LONGEST_BESIDE_LOCKS, STEPS, is_listed,
+    AT_BOUNDARY, BOXES, Case, LOCKED_STEP, LONGEST, LONGEST_AT_BOUNDARY, LONGEST_BESIDE_LOCKS, NOTED, STEPS, is_listed,
 };
 use crate::tables::{Answer, Lent, scan_tables};
 use crate::{fast, library};
@@ -66,6 +66,7 @@ pub fn compare(case: &Case) {
         LONGEST | LONGEST_BESIDE_LOCKS => (0, 10),
         LOCKED_STEP => (19, 0),
         LONGEST_AT_BOUNDARY => (0, 9),
+        name if NOTED.contains(&name) => (0, if name == NOTED[2] { 10 } else { 1 }),
         name if STEPS.contains(&name) => (0, case.triangles),
         name if is_listed(name) => (0, case.listed_once()),
         name if name == BOXES[1] => (0, case.splits_in_spares()),

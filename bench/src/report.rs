@@ -1,6 +1,6 @@
 //! The table.
 
-use crate::cases::{BOXES, Case, LIMITS, LISTS, PREVIEWS, VIEW, is_listed};
+use crate::cases::{BACKS, BOXES, Case, LIMITS, LISTS, NOTED, PREVIEWS, VIEW, is_listed};
 use crate::measure::{Counted, Timed};
 
 /// Instructions of a C program without proofs, written by an expert, for closed meshes in order.
@@ -15,6 +15,9 @@ const MOST_TIMES: f64 = 1.5;
 /// How many instructions beyond those of soundness a refine, a lock, a ring or a position, in millimetres or not, may
 /// take, and limit positions and a view of all triangles for each triangle.
 const MOST_BEYOND: u64 = 3_000;
+/// The same for a refine with a note, and how many times soundness a take-back may take.
+const MOST_WITH_NOTE: u64 = 4_500;
+const MOST_TO_TAKE_BACK: u64 = 3;
 const MOST_FOR_EACH: u64 = 150;
 const MOST_TO_SHOW: u64 = 90;
 /// How many instructions the limit positions of a tetrahedron may take, with soundness.
@@ -139,6 +142,8 @@ fn most_beyond(case: &Case, soundness: u64) -> Option<u64> {
             Some((MOST_TO_COPY + MOST_TO_LOOK) * case.triangles as u64 + MOST_TO_SPLIT_IN_BOX * splits)
         }
         VIEW => Some(MOST_TO_SHOW * case.triangles as u64),
+        name if NOTED.contains(&name) => Some(MOST_WITH_NOTE),
+        name if BACKS.contains(&name) => Some((MOST_TO_TAKE_BACK - 1) * soundness),
         "lock" | "unlock" | "ring" | "position" | "view point" => Some(MOST_BEYOND),
         name => name.starts_with("refine").then_some(MOST_BEYOND),
     }

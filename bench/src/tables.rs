@@ -1,5 +1,6 @@
 //! What a call is lent and what it answers.
 
+pub use crate::rawplinth::RAWPLINTH_NOTE_ENTRIES as NOTE_ENTRIES;
 pub use crate::rawplinth::{BatchForeseen, BatchWorked, Counts, LimitRead, Point, PointSeen, PositionRead};
 pub use crate::rawplinth::{RAWPLINTH_HALF_AWAY as HALF_AWAY, RAWPLINTH_HALF_UP as HALF_UP};
 pub use crate::rawplinth::{RingRead, Shown, Worked};
@@ -33,6 +34,8 @@ pub struct Lent {
     pub table: Vec<i32>,
     /// The table that all triangles are shown in.
     pub view: Vec<f32>,
+    /// The note that a refine writes, and that it is taken back by.
+    pub note: Vec<u32>,
     /// A list of triangles, and the tables that it or a box is worked off in.
     pub list: Vec<u32>,
     pub spares: Tables,
@@ -43,6 +46,8 @@ pub struct Lent {
 pub enum Call {
     Load(u32),
     Refine(u32),
+    RefineNoted(u32),
+    TakeBack,
     WholeStep,
     Lock(u32),
     Unlock(u32),
@@ -101,6 +106,7 @@ impl Lent {
             buffer: vec![0; 16],
             table: Vec::new(),
             view: Vec::new(),
+            note: Vec::new(),
             list: Vec::new(),
             spares: Tables::with_slots(0, 0),
         }

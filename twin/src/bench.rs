@@ -10,6 +10,7 @@ use crate::claims::{violated_by_box, violated_by_list, violated_by_preview, viol
 use crate::coverage::Coverage;
 use crate::locked::violated_by_lock;
 use crate::mirror;
+use crate::noted::{violated_beside_plain, violated_by_note, violated_by_repeat, violated_by_return};
 use crate::tables::{Answer, Call, Counts, HALF_AWAY, HALF_UP, Service, Store, Tables};
 use crate::viewed::violated_by_view;
 
@@ -39,10 +40,13 @@ impl<'a> Bench<'a> {
         Bench { twin, other, watch: None, coverage: Coverage::default(), comparisons: 0, mirrored: 0 }
     }
 
-    /// Runs one call on both services and leaves the store as the call leaves it. A list is previewed first.
+    /// Runs one call on both services and leaves the store as the call leaves it. A list is previewed first, a refine
+    /// with a note is taken back in a copy, and what is taken back is made again there.
     pub fn compare(&mut self, store: &mut Store, call: &Call) -> Outcome<Answer> {
         match call {
             Call::RefineList { list } => self.compare_previewed(store, list),
+            Call::RefineNoted { triangle } => self.compare_noted(store, *triangle),
+            Call::TakeBack => self.compare_taken_back(store),
             _ => self.compare_once(store, call),
         }
     }
@@ -69,6 +73,43 @@ impl<'a> Bench<'a> {
             Some(what) => Err(difference(what, before, &call)),
             None => Ok(answer),
         }
+    }
+
+    /// Refines with a note, and without one, which has to make the same. In a copy what was made is taken back, which
+    /// has to give the mesh of before, and taken back again, which is refused.
+    fn compare_noted(&mut self, store: &mut Store, triangle: u32) -> Outcome<Answer> {
+        let (before, call) = (store.clone(), Call::RefineNoted { triangle });
+        let answer = self.compare_once(store, &call)?;
+        let mut plain = before.clone();
+        let without_note = self.compare_once(&mut plain, &Call::Refine { triangle })?;
+        if let Some(what) = violated_beside_plain((&without_note, &plain), (&answer, store)) {
+            return Err(difference(what, before, &call));
+        }
+        if answer.refusal == 0 {
+            let mut returned = store.clone();
+            let taken_back = self.compare_taken_back(&mut returned)?;
+            if let Some(what) = violated_by_return(&before, store, (&taken_back, &returned)) {
+                return Err(difference(what, store.clone(), &Call::TakeBack));
+            }
+            if self.compare_once(&mut returned.clone(), &Call::TakeBack)?.refusal != 21 {
+                return Err(difference("a note is accepted twice".to_string(), returned, &Call::TakeBack));
+            }
+        }
+        Ok(answer)
+    }
+
+    /// Takes a refine back, and if that is accepted makes it again in a copy, which has to give the mesh of before.
+    fn compare_taken_back(&mut self, store: &mut Store) -> Outcome<Answer> {
+        let before = store.clone();
+        let answer = self.compare_once(store, &Call::TakeBack)?;
+        if answer.refusal == 0 {
+            let mut repeated = store.clone();
+            let again = self.compare_once(&mut repeated, &Call::Refine { triangle: store.room.note[0] })?;
+            if let Some(what) = violated_by_repeat(&before, (&again, &repeated)) {
+                return Err(difference(what, before, &Call::TakeBack));
+            }
+        }
+        Ok(answer)
     }
 
     /// Runs one call on both services and leaves the store as the call leaves it.
@@ -150,6 +191,7 @@ impl Apart {
             .or_else(|| Apart::entry("", "ring buffers", &room.ring, &other_room.ring))
             .or_else(|| Apart::entry("", "limit tables", &room.table, &other_room.table))
             .or_else(|| Apart::entry("", "view tables", &room.view, &other_room.view))
+            .or_else(|| Apart::entry("", "notes", &room.note, &other_room.note))
     }
 
     fn tables(which: &str, one: &Tables, other: &Tables) -> Option<Apart> {
@@ -181,10 +223,13 @@ pub fn difference(what: String, store: Store, call: &Call) -> Box<Difference> {
 }
 
 /// The fourth claim of demand 3, for every refine that is carried out; what every list and every box that is carried
-/// out adds; that a box leaves none; that locked triangles stay as they are; and that what is seen is exact.
+/// out adds; that a box leaves none; that locked triangles stay as they are; that what is seen is exact; and what is
+/// noted and taken back.
 fn claim_violated(before: &Store, call: &Call, answer: &Answer, after: &Store) -> Option<String> {
     let violated = match (call, answer.refusal) {
-        (&Call::Refine { triangle }, 0) => violated_by_refine(before, triangle as usize, answer, after),
+        (&Call::Refine { triangle } | &Call::RefineNoted { triangle }, 0) => {
+            violated_by_refine(before, triangle as usize, answer, after)
+        }
         (Call::RefineList { .. }, 0) => violated_by_list(before, answer, after),
         (Call::RefineBox { bounds, below }, 0) => {
             violated_by_list(before, answer, after).or_else(|| violated_by_box(bounds, *below, after))
@@ -192,5 +237,6 @@ fn claim_violated(before: &Store, call: &Call, answer: &Answer, after: &Store) -
         _ => None,
     };
     let violated = violated.or_else(|| violated_by_lock(before, call, answer, after));
-    violated.or_else(|| violated_by_view(before, call, answer, after))
+    let violated = violated.or_else(|| violated_by_view(before, call, answer, after));
+    violated.or_else(|| violated_by_note(before, call, answer, after))
 }

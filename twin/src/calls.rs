@@ -5,7 +5,10 @@ use crate::claims::read_chain;
 use crate::coverage::LONGEST_LIST;
 use crate::locked::locked_triangles;
 use crate::rng::Rng;
-use crate::tables::{BOUNDARY, Bounds, Call, FARTHEST, HALF_AWAY, HALF_UP, LAST_GENERATION, NO_RULES, Store, Tables};
+use crate::tables::{
+    BOUNDARY, Bounds, Call, Counts, FARTHEST, HALF_AWAY, HALF_UP, LAST_GENERATION, NO_RULES, NOTE_ENTRIES, Store,
+    Tables,
+};
 
 /// Three times this number is 2 in 32 bits.
 pub const WRAPPING: u32 = 0x5555_5556;
@@ -13,8 +16,10 @@ pub const WRAPPING: u32 = 0x5555_5556;
 /// One call of any kind but load, for which the store gets room.
 pub fn random_call(store: &mut Store, rng: &mut Rng) -> Call {
     match rng.below(100) {
-        0..40 => Call::Refine { triangle: some_triangle(store, rng) },
-        40..48 => {
+        0..30 => Call::Refine { triangle: some_triangle(store, rng) },
+        30..36 => noted(store, rng),
+        36..41 => take_back(store, rng),
+        41..48 => {
             store.room.spares = some_spares(store, rng);
             let list = some_list(store, rng);
             if rng.percent(80) { Call::RefineList { list } } else { Call::Preview { list } }
@@ -33,9 +38,13 @@ pub fn random_call(store: &mut Store, rng: &mut Rng) -> Call {
     }
 }
 
-/// One call of each kind but load, for which the store gets room, its spare tables of fitting sizes.
-pub fn one_of_each(store: &mut Store, rng: &mut Rng) -> [Call; 10] {
+/// One call of each kind but load, for which the store gets room, its spare tables of fitting sizes. It keeps its note,
+/// if it has one.
+pub fn one_of_each(store: &mut Store, rng: &mut Rng) -> [Call; 12] {
     store.room.spares = fitting_spares(store, rng);
+    if store.room.note.is_empty() {
+        store.room.note = some_note(store, rng);
+    }
     [
         Call::Refine { triangle: some_triangle(store, rng) },
         Call::WholeStep,
@@ -45,6 +54,8 @@ pub fn one_of_each(store: &mut Store, rng: &mut Rng) -> [Call; 10] {
         Call::SetLock { triangle: some_triangle(store, rng), on: rng.percent(50) },
         Call::ViewPoint { vertex: some_number(store.counts.vertices, rng) },
         view(store, rng),
+        Call::RefineNoted { triangle: some_triangle(store, rng) },
+        Call::TakeBack,
         Call::RefineList { list: some_list(store, rng) },
         Call::RefineBox { bounds: some_bounds(store, rng), below: some_generation(store, rng) },
     ]
@@ -115,6 +126,68 @@ pub fn some_numbers(length: usize, rng: &mut Rng) -> Vec<u32> {
         sign | rng.pick(&[any, exact, 0, any >> 9, 0x7F80_0000, 0x7FC0_0000 | any >> 10, 0x7F80_0001 | any >> 10])
     };
     (0..length).map(|_| some(rng)).collect()
+}
+
+/// So many entries of any content.
+pub fn some_entries(length: usize, rng: &mut Rng) -> Vec<u32> {
+    (0..length).map(|_| rng.word() >> rng.below(32)).collect()
+}
+
+/// A refine with a note, mostly of as many entries as always do: the last note, or any content.
+fn noted(store: &mut Store, rng: &mut Rng) -> Call {
+    if rng.percent(30) {
+        let length = rng.pick(&[0, 1, 3, 4, 12, 13, 22, 31, 40, 58, 85, NOTE_ENTRIES - 1, NOTE_ENTRIES + 3]);
+        store.room.note = some_entries(length, rng);
+    } else if store.room.note.len() < NOTE_ENTRIES || rng.percent(20) {
+        store.room.note = some_entries(NOTE_ENTRIES, rng);
+    }
+    Call::RefineNoted { triangle: some_triangle(store, rng) }
+}
+
+/// A take-back by the note that there is, which may be late or used, sometimes altered, or by one that never was.
+fn take_back(store: &mut Store, rng: &mut Rng) -> Call {
+    match rng.below(10) {
+        0 => store.room.note = some_note(store, rng),
+        1..3 => alter(&mut store.room.note, rng),
+        _ => {}
+    }
+    Call::TakeBack
+}
+
+/// A note that no refine wrote: of no slots, or of slots as they stand, with counts as they are or some splits ago.
+pub fn some_note(store: &Store, rng: &mut Rng) -> Vec<u32> {
+    let splits = rng.below(3) as u32;
+    let Counts { vertices, triangles, .. } = store.counts;
+    let old = [vertices.saturating_sub(splits), triangles.saturating_sub(2 * splits)];
+    let slots = rng.below(3).min(store.triangles());
+    let mut note = vec![some_triangle(store, rng), old[0], old[1], slots as u32];
+    for slot in 0..slots {
+        let three = |table: &[u32]| [0, 1, 2].map(|i| table.get(3 * slot + i).copied().unwrap_or(0));
+        let byte = |table: &[u8]| table.get(slot).map_or(0, |&byte| u32::from(byte));
+        note.push(slot as u32);
+        note.extend(three(&store.tables.corners).into_iter().chain(three(&store.tables.links)));
+        note.extend([byte(&store.tables.generations), byte(&store.tables.locks)]);
+    }
+    note
+}
+
+/// Changes a note in one way: it is cut, goes on, or has another number in one of its entries.
+pub fn alter(note: &mut Vec<u32>, rng: &mut Rng) {
+    let in_use = note.get(3).map_or(0, |&k| 4 + 9 * k as usize).min(note.len());
+    match rng.below(8) {
+        0 => note.truncate(rng.below(in_use + 1)),
+        1 => note.push(rng.word()),
+        _ if in_use == 0 => {}
+        _ => {
+            let entry = &mut note[rng.below(in_use)];
+            *entry = rng.pick(&other_numbers(*entry));
+        }
+    }
+}
+
+/// The numbers that an entry of a note is tried with: beside it, far off, and with its low bits.
+pub fn other_numbers(entry: u32) -> [u32; 8] {
+    [entry.wrapping_add(1), entry.wrapping_sub(1), 0, 1, entry ^ 256, entry ^ 1 << 16, 1 << 31, u32::MAX]
 }
 
 /// Spare tables of the mesh's sizes, with any content.
@@ -245,7 +318,7 @@ pub fn all_numbers(count: u32, slots: usize) -> impl Iterator<Item = u32> {
 }
 
 /// A triangle: anywhere, or the deepest that a few tries find.
-fn some_triangle(store: &Store, rng: &mut Rng) -> u32 {
+pub fn some_triangle(store: &Store, rng: &mut Rng) -> u32 {
     let in_use = store.triangles();
     if in_use == 0 || rng.percent(50) {
         return some_number(store.counts.triangles, rng);

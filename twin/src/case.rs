@@ -21,10 +21,13 @@ impl Display for Case {
         writeln!(out, "ring-buffer{}", numbers(&room.ring))?;
         writeln!(out, "limit-table{}", numbers(&room.table))?;
         writeln!(out, "view-table{}", numbers(&room.view))?;
+        writeln!(out, "note{}", numbers(&room.note))?;
         write_tables(out, "spare-", &room.spares)?;
         match &self.call {
             Call::Load { rule, cage } => writeln!(out, "load {rule}{}", numbers(cage)),
             Call::Refine { triangle } => writeln!(out, "refine {triangle}"),
+            Call::RefineNoted { triangle } => writeln!(out, "refine-noted {triangle}"),
+            Call::TakeBack => writeln!(out, "take-back"),
             Call::WholeStep => writeln!(out, "whole-step"),
             Call::SetLock { triangle, on: true } => writeln!(out, "lock {triangle}"),
             Call::SetLock { triangle, on: false } => writeln!(out, "unlock {triangle}"),
@@ -89,6 +92,7 @@ impl FromStr for Case {
             ring: parsed(words_of(&lines, "ring-buffer")?)?,
             table: parsed(words_of(&lines, "limit-table")?)?,
             view: parsed(words_of(&lines, "view-table")?)?,
+            note: parsed(words_of(&lines, "note")?)?,
             spares: parsed_tables(&lines, "spare-")?,
         };
         let call = parsed_call(lines.last().expect("there are lines"))?;
@@ -121,6 +125,8 @@ fn parsed_call(words: &[&str]) -> Result<Call, String> {
     match words[0] {
         "load" => Ok(Call::Load { rule: number()?, cage: parsed(&words[2..])? }),
         "refine" => Ok(Call::Refine { triangle: number()? }),
+        "refine-noted" => Ok(Call::RefineNoted { triangle: number()? }),
+        "take-back" => Ok(Call::TakeBack),
         "whole-step" => Ok(Call::WholeStep),
         "lock" => Ok(Call::SetLock { triangle: number()?, on: true }),
         "unlock" => Ok(Call::SetLock { triangle: number()?, on: false }),

@@ -68,8 +68,8 @@ pub fn violated(store: &Store, euler_number: i64) -> Option<String> {
     (found != euler_number).then(|| format!("V - E + F is {found}, for the cage it is {euler_number}"))
 }
 
-/// A boundary side that no history from a load on gives. There it is a side of a generation that is a multiple of 4, the
-/// base of one more or a non-base side of three more; so no base of generation 19 is at the boundary.
+/// A boundary side that no history from a load on gives. There it is a side of a generation that is a multiple of 4,
+/// the base of one more or a non-base side of three more; so no base of generation 19 is at the boundary.
 pub fn unreached_boundary(store: &Store) -> Option<String> {
     let sides = 0..3 * store.counts.triangles as usize;
     let mut at_boundary = sides.filter(|&side| store.tables.links[side] == BOUNDARY);
@@ -131,8 +131,8 @@ pub fn violated_by_preview(previewed: (&Answer, &Store), made: (&Answer, &Store)
     (*after != expected).then(|| "a preview and its list leave different meshes".to_string())
 }
 
-/// With s splits, q of them rim splits: V + s + q, F + 2s and E + 3s + q, and flips by the odd triangles, of which a face
-/// split makes three, a rim split one and a flip takes two away.
+/// With s splits, q of them rim splits: V + s + q, F + 2s and E + 3s + q, and flips by the odd triangles, of which a
+/// face split makes three, a rim split one and a flip takes two away.
 fn wrongly_added(before: &Store, answer: &Answer, after: &Store, rim_splits: i64) -> Option<String> {
     let splits = i64::from(answer.splits);
     let grown = |count: fn(&Store) -> i64| count(after) - count(before);

@@ -1,6 +1,6 @@
 //! What a run has met: each refusal of each call, each rule, each kind of linked pair, each chain length over an even
 //! triangle and over the boundary, each ring length of a whole step and of a limit query, halves in these, sides linked
-//! to themselves, what becomes of the entries of lists, foils, boxes, locks, and views.
+//! to themselves, what becomes of the entries of lists, foils, boxes, locks, views, and notes.
 
 use std::collections::{BTreeMap, BTreeSet};
 use std::fmt::{self, Display};
@@ -11,6 +11,7 @@ use crate::fault::Seeded;
 use crate::load::linked_mesh;
 use crate::lock_coverage::LockCoverage;
 use crate::mesh::Mesh;
+use crate::note_coverage::NoteCoverage;
 use crate::refine::handle;
 use crate::smooth::{Fraction, fractions};
 use crate::sound::{has_one_fan_each, kind};
@@ -32,6 +33,8 @@ const CALLS: &[(&str, &[u32])] = &[
     ("unlock", &[0, 1, 7, 8]),
     ("view point", &[0, 1, 7, 8]),
     ("view all", &[0, 1, 7, 20]),
+    ("with note", &[0, 1, 7, 8, 9, 11, 19, 22]),
+    ("take back", &[0, 1, 7, 21]),
 ];
 
 /// The longest of the lists that have to be met in every length.
@@ -80,6 +83,7 @@ pub struct Coverage {
     boxes: BoxCoverage,
     locks: LockCoverage,
     views: ViewCoverage,
+    notes: NoteCoverage,
 }
 
 /// What a load is refused with 6 for.
@@ -123,6 +127,8 @@ fn row(call: &Call) -> usize {
         Call::SetLock { on: false, .. } => 10,
         Call::ViewPoint { .. } => 11,
         Call::ViewTriangles => 12,
+        Call::RefineNoted { .. } => 13,
+        Call::TakeBack => 14,
     }
 }
 
@@ -169,6 +175,7 @@ impl Coverage {
         }
         self.locks.note(before, call, answer);
         self.views.note(before, call, answer);
+        self.notes.note(before, call, answer);
         match (call, answer.refusal) {
             (&Call::Refine { triangle }, 0) => self.note_refine(before, triangle as usize, answer),
             (&Call::Refine { triangle }, 9) => {
@@ -305,6 +312,7 @@ impl Coverage {
         expect("call by rule", &self.rules, 1);
         expect("side linked to itself, number", &self.self_linked, 0);
         expect("box carried out, generation", &self.boxes.generations, 0);
+        expect("note written, slots", &self.notes.slots, 1);
         expect("list carried out, length", &first_of(&self.list_lengths, LONGEST_LIST + 1), 0);
         expect("entry of a list that fails, place", &first_of(&self.failing_places, LONGEST_LIST), 0);
         for (title, names, met) in self.named() {
@@ -327,6 +335,7 @@ impl Coverage {
         named.extend(self.boxes.named());
         named.extend(self.locks.named());
         named.extend(self.views.named());
+        named.extend(self.notes.named());
         named
     }
 }
@@ -363,6 +372,7 @@ impl Display for Coverage {
         list("calls carried out by rule", &self.rules, 1)?;
         list("sides linked to themselves in tables refused with 7", &self.self_linked, 0)?;
         list("boxes carried out by generation", &self.boxes.generations, 0)?;
+        list("slots of notes written", &self.notes.slots, 1)?;
         for (title, names, met) in self.named() {
             let shown: Vec<String> = names.iter().zip(met).map(|(name, met)| format!("{name}: {met}")).collect();
             writeln!(out, "{title}  {}", shown.join("  "))?;

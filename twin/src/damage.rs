@@ -5,16 +5,20 @@ use crate::cages;
 use crate::calls;
 use crate::handmade;
 use crate::rng::Rng;
-use crate::tables::{BOUNDARY, Call, Counts, FARTHEST, HALF_AWAY, HALF_UP, LAST_GENERATION, NO_RULES, Service, Store};
+use crate::tables::{
+    BOUNDARY, Call, Counts, FARTHEST, HALF_AWAY, HALF_UP, LAST_GENERATION, NO_RULES, NOTE_ENTRIES, Service, Store,
+};
 use crate::twin::Twin;
 
-/// The store with a cage in it, by either rule, after a list of refines, with some slots to spare that hold anything.
+/// The store with a cage in it, by either rule, after a list of refines, with some slots to spare that hold anything,
+/// and with the note of the last refine.
 pub fn refined(cage: &cages::Cage, requests: &[u32], spare: usize, rng: &mut Rng) -> Store {
     let most = requests.len() * 4 + spare;
     let mut store = Store::junk(cage.points.len() + most, cage.triangles.len() + 2 * most, rng);
     assert!(handmade::store_cage(&mut store, calls::either_rule(rng), &cage.bytes()), "the cage has its fans");
+    store.room.note = calls::some_entries(NOTE_ENTRIES, rng);
     for &triangle in requests {
-        Twin::UNBROKEN.answer(&mut store, &Call::Refine { triangle }).expect("the twin stays inside");
+        Twin::UNBROKEN.answer(&mut store, &Call::RefineNoted { triangle }).expect("the twin stays inside");
     }
     store.tables.cut_to([store.vertices() + spare, store.triangles() + 2 * spare]);
     store
@@ -173,7 +177,7 @@ fn compare_lengths(bench: &mut Bench, store: &Store, lengths: [usize; 5], rng: &
     }
     // Spare tables that agree, or do not, with each other, but not with the mesh's: for the list and the box.
     changed.room.spares = store.tables.clone();
-    for call in &of_each[8..] {
+    for call in &of_each[10..] {
         bench.compare_only(&changed, call)?;
     }
     Ok(())

@@ -185,6 +185,18 @@ impl Service for Library {
                 worked.into()
             }
             Call::Refine { triangle } => call!(rawplinth_refine, lent, *counts, *triangle).into(),
+            Call::RefineNoted { triangle } => {
+                let mut note = Lent::new("note", &room.note, 0x6060_6060);
+                let worked = call!(rawplinth_refine_noted, lent, *counts, *triangle, note.pointer(), note.length);
+                note.give_back(&mut room.note)?;
+                worked.into()
+            }
+            Call::TakeBack => {
+                let mut note = Lent::new("note", &room.note, 0x6161_6161);
+                let worked = call!(rawplinth_take_back, lent, *counts, note.pointer(), note.length);
+                note.unwritten(&room.note)?;
+                worked.into()
+            }
             Call::WholeStep => call!(rawplinth_whole_step, lent, *counts).into(),
             Call::SetLock { triangle, on: true } => call!(rawplinth_lock, lent, *counts, *triangle).into(),
             Call::SetLock { triangle, on: false } => call!(rawplinth_unlock, lent, *counts, *triangle).into(),

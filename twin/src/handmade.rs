@@ -119,6 +119,33 @@ pub fn chain(odd: usize, even_end: bool, lowest: u8, more: &[u8], rng: &mut Rng)
     gluing
 }
 
+/// A base chain of so many odd triangles over an even one, with an odd triangle at each other side of that, and with so
+/// many even ones at the sides 1 of all these odd ones: slots that a refine of the chain's first triangle changes by a
+/// link alone.
+pub fn crowded(odd: usize, beside: usize) -> Gluing {
+    let odds = (1..=odd).map(|i| 2 * i as u8 - 1).chain([1, 1]);
+    let mut generations: Vec<u8> = std::iter::once(0).chain(odds).collect();
+    generations.extend_from_within(1..=beside);
+    generations[odd + 3..].iter_mut().for_each(|generation| *generation += 1);
+    let mut gluing = Gluing::new(generations);
+    let along = (2..=odd).map(|slot| (3 * slot, 3 * (slot - 1) + 2));
+    let at_even = [(3, 0), (3 * (odd + 1), 1), (3 * (odd + 2), 2)];
+    let beside = (1..=beside).map(|slot| (3 * (odd + 2 + slot), 3 * slot + 1));
+    for (one, other) in at_even.into_iter().chain(along).chain(beside) {
+        assert!(gluing.glue(one, other), "a tree can always be glued");
+    }
+    gluing
+}
+
+/// An even triangle with odd ones at its sides, and another even one at the sides 1 of these, on three vertices.
+pub fn wrapped() -> Gluing {
+    let mut gluing = Gluing::new(vec![0, 1, 1, 1, 2]);
+    for i in 0..3 {
+        assert!(gluing.glue(i, 3 + 3 * i) && gluing.glue(12 + i, 4 + 3 * i), "all kinds fit");
+    }
+    gluing
+}
+
 /// Two triangles back to back, both of this generation.
 pub fn foil(generation: u8) -> Gluing {
     let mut gluing = Gluing::new(vec![generation; 2]);

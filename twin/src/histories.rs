@@ -9,7 +9,7 @@ use crate::handmade;
 use crate::malformed;
 use crate::random_cages::random_cage;
 use crate::rng::Rng;
-use crate::tables::{BOUNDARY, Bounds, Call, Counts, LAST_GENERATION, Store};
+use crate::tables::{BOUNDARY, Bounds, Call, Counts, LAST_GENERATION, NOTE_ENTRIES, Store};
 use crate::views;
 
 /// A mesh in the course of a history, with V − E + F of the cage of the last accepted load.
@@ -57,8 +57,8 @@ impl History {
         Ok(bench.compare(&mut self.store, &Call::Refine { triangle })?.refusal)
     }
 
-    /// The claims of demand 3, once a load was accepted or a cage stored: three on the tables, and the fourth, which every
-    /// comparison of a refine tests, on some triangles.
+    /// The claims of demand 3, once a load was accepted or a cage stored: three on the tables, and the fourth, which
+    /// every comparison of a refine tests, on some triangles.
     fn check(&self, bench: &mut Bench, rng: &mut Rng) -> Outcome {
         let Some(euler_number) = self.euler_number else {
             return Ok(());
@@ -102,7 +102,8 @@ pub fn shapes(bench: &mut Bench, rng: &mut Rng) -> Outcome {
     Ok(())
 }
 
-/// A vertex's position, also in millimetres, and its ring in a buffer that is long, just long enough, and one entry too short.
+/// A vertex's position, also in millimetres, and its ring in a buffer that is long, just long enough, and one entry too
+/// short.
 fn read_vertex(bench: &mut Bench, store: &mut Store, vertex: u32, rng: &mut Rng) -> Outcome {
     bench.compare_only(store, &Call::Position { vertex })?;
     bench.compare_only(store, &Call::ViewPoint { vertex })?;
@@ -274,7 +275,7 @@ fn all_lists_from(bench: &mut Bench, store: &Store, length: usize) -> Outcome {
 }
 
 /// Cages that fill the largest tables, a whole step that nearly does, and rings, lists, boxes and views of tens of
-/// thousands.
+/// thousands, with a refine taken back.
 pub fn largest(bench: &mut Bench, rng: &mut Rng) -> Outcome {
     let fans = [cages::double_pyramid(32_700), cages::open_fan(32_766)];
     for cage in [cages::torus(128, 256), cages::torus(106, 103)].into_iter().chain(fans) {
@@ -299,6 +300,11 @@ pub fn largest(bench: &mut Bench, rng: &mut Rng) -> Outcome {
         bench.compare(&mut history.store, &Call::ViewTriangles)?;
         history.store.room.view.truncate(9 * history.store.triangles() - 1);
         bench.compare(&mut history.store, &Call::ViewTriangles)?;
+        history.store.room.note = calls::some_entries(NOTE_ENTRIES, rng);
+        for triangle in [0, history.store.counts.triangles - 1] {
+            bench.compare(&mut history.store, &Call::RefineNoted { triangle })?;
+        }
+        bench.compare(&mut history.store, &Call::TakeBack)?;
         history.store.room.ring = vec![7; 32_768];
         bench.compare(&mut history.store, &Call::Ring { vertex: rng.below(cage.points.len()) as u32 })?;
         history.check(bench, rng)?;

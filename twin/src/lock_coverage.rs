@@ -44,7 +44,9 @@ impl LockCoverage {
         }
         let mesh = || Mesh::read(&before.tables, before.counts, Seeded(None));
         match (call, answer.refusal) {
-            (Call::Refine { triangle }, 0) => self.note_following(&mesh(), *triangle as usize),
+            (Call::Refine { triangle } | Call::RefineNoted { triangle }, 0) => {
+                self.note_following(&mesh(), *triangle as usize)
+            }
             (Call::Refine { triangle }, 19) => self.note_refused(before, &mesh(), *triangle as usize),
             (Call::Refine { triangle }, 9) => self.beside[1] += u64::from(mesh().alters_locked(*triangle as usize)),
             (Call::WholeStep, 19) => {

@@ -10,6 +10,11 @@ use crate::tables::{Answer, BOUNDARY, Call, Store, Tables};
 /// has worked in.
 pub fn violated_by_lock(before: &Store, call: &Call, answer: &Answer, after: &Store) -> Option<String> {
     let carried_out = answer.refusal == 0;
+    if let (Call::TakeBack, true) = (call, carried_out) {
+        // What is taken back is a refine from the mesh after it to that before it.
+        let refine = Call::Refine { triangle: before.room.note[0] };
+        return violated_by_lock(after, &refine, answer, before);
+    }
     let in_spares = matches!(call, Call::RefineList { .. } | Call::Preview { .. } | Call::RefineBox { .. })
         && matches!(answer.refusal, 0 | 8 | 9 | 11 | 19);
     if !carried_out && !in_spares {
@@ -48,7 +53,7 @@ fn operations(before: &Store, call: &Call) -> Vec<Operation> {
     let mut start = Mesh::read(&before.tables, before.counts, Seeded(None));
     let slots = before.tables.slots();
     match call {
-        Call::Refine { triangle } => {
+        Call::Refine { triangle } | Call::RefineNoted { triangle } => {
             start.refine(*triangle as usize);
             start.operations
         }

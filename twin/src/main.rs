@@ -28,6 +28,11 @@ mod locks;
 mod malformed;
 mod mesh;
 mod mirror;
+mod note;
+mod note_coverage;
+mod note_examples;
+mod noted;
+mod notes;
 mod options;
 mod parts;
 mod program;
@@ -66,7 +71,7 @@ use rng::Rng;
 use tables::Service;
 use twin::Twin;
 
-/// A call of the library needs at most 3 MB of stack.
+/// 16 MB of stack; a call of the library needs at most 3 MB of it.
 const STACK: usize = 16 << 20;
 
 fn main() -> ExitCode {

@@ -23,7 +23,7 @@ impl Side {
         (link != BOUNDARY).then(|| Side::new(link as usize / 3, link as usize % 3))
     }
 
-    fn to_link(side: Option<Side>) -> u32 {
+    pub fn to_link(side: Option<Side>) -> u32 {
         side.map_or(BOUNDARY, |side| (3 * side.triangle + side.number) as u32)
     }
 }

@@ -5,7 +5,8 @@ use std::time::Instant;
 use crate::bench::{Bench, Outcome};
 use crate::rng::Rng;
 use crate::{
-    boxes, damage, examples, halves, handmade, histories, limits, lists, locks, malformed, surgery, unsound, views,
+    boxes, damage, examples, halves, handmade, histories, limits, lists, locks, malformed, note_examples, notes,
+    surgery, unsound, views,
 };
 
 type Part = fn(&mut Bench, &mut Rng) -> Outcome;
@@ -21,6 +22,14 @@ const PARTS: &[(&str, Part)] = &[
     ("views with all refusals", views::orders),
     ("coordinates in views", views::coordinates),
     ("views of hand-made tables", |bench, rng| views::random(bench, 2_000, rng)),
+    ("notes as they are told", note_examples::as_told),
+    ("notes of all lengths", notes::lengths),
+    ("notes with all refusals", notes::orders),
+    ("notes altered", notes::altered),
+    ("notes rearranged", notes::rearranged),
+    ("notes of changed meshes", notes::stale),
+    ("notes of other meshes", notes::of_others),
+    ("notes of all sizes", notes::crowds),
     ("halves by both rules", halves::run),
     ("cages with sets of faults", malformed::sets_of_faults),
     ("cages of all lengths", malformed::lengths_and_slots),
@@ -53,6 +62,9 @@ const PARTS: &[(&str, Part)] = &[
     ("boxes without room", boxes::without_room),
     ("boxes of last generations", boxes::ripe),
     ("all small boxes", boxes::all_small),
+    ("notes of chains", notes::chains),
+    ("notes used late and twice", |bench, rng| notes::late(bench, 400, rng)),
+    ("back to the load", |bench, rng| notes::back_to_load(bench, 60, rng)),
     ("whole steps", histories::whole_steps),
     ("shells with boundary", |bench, rng| histories::shells(bench, 150, rng)),
     ("deep histories", |bench, rng| histories::deep(bench, 120, rng)),
@@ -82,6 +94,8 @@ pub fn soak_round(bench: &mut Bench, rng: &mut Rng) -> Outcome {
     surgery::random_damage(bench, 30, rng)?;
     locks::several(bench, 20, rng)?;
     views::random(bench, 20, rng)?;
+    notes::late(bench, 4, rng)?;
+    notes::back_to_load(bench, 1, rng)?;
     histories::shells(bench, 1, rng)?;
     histories::deep(bench, 1, rng)?;
     histories::random(bench, 20, rng)

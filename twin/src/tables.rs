@@ -1,5 +1,6 @@
 //! What a call is lent, the calls and their answers.
 
+pub use crate::rawplinth::RAWPLINTH_NOTE_ENTRIES as NOTE_ENTRIES;
 pub use crate::rawplinth::{Counts, RAWPLINTH_HALF_AWAY as HALF_AWAY, RAWPLINTH_HALF_UP as HALF_UP};
 use crate::rng::Rng;
 
@@ -83,6 +84,8 @@ pub struct Room {
     pub table: Vec<i32>,
     /// The table that all triangles are shown in, each f32 by its bits: so numbers that are equal, or none, differ.
     pub view: Vec<u32>,
+    /// The note that a refine writes, and that it is taken back by.
+    pub note: Vec<u32>,
     /// The tables that a list or a box is worked off in.
     pub spares: Tables,
 }
@@ -180,6 +183,12 @@ pub enum Call {
     Refine {
         triangle: u32,
     },
+    /// A refine with a note.
+    RefineNoted {
+        triangle: u32,
+    },
+    /// The refine of the note taken back.
+    TakeBack,
     WholeStep,
     /// Sets or clears the lock of a triangle.
     SetLock {

@@ -24,6 +24,8 @@ impl Service for Twin {
         let answered = match call {
             Call::Load { rule, cage } => self.load(tables, *counts, *rule, cage),
             Call::Refine { triangle } => self.refine(tables, *counts, *triangle as usize),
+            Call::RefineNoted { triangle } => self.refine_noted(tables, *counts, *triangle, &mut room.note),
+            Call::TakeBack => self.take_back(tables, *counts, &room.note),
             Call::WholeStep => self.whole_step(tables, *counts),
             Call::SetLock { triangle, on } => self.set_lock(tables, *counts, *triangle as usize, *on),
             Call::Ring { vertex } => self.ring(tables, *counts, *vertex as usize, &mut room.ring),

@@ -4,6 +4,7 @@
 mod boxes;
 mod list;
 mod load;
+mod note;
 mod sound;
 mod split;
 mod step;
@@ -16,10 +17,12 @@ use crate::tables::{
 const LAST_GENERATION: u8 = 20;
 
 pub fn answer(lent: &mut Lent, call: Call) -> Answer {
-    let Lent { tables, counts, cage, buffer, table, view, list, spares } = lent;
+    let Lent { tables, counts, cage, buffer, table, view, note, list, spares } = lent;
     match call {
         Call::Load(rule) => Answer::Worked(fast_load(tables, *counts, rule, cage)),
         Call::Refine(triangle) => Answer::Worked(fast_refine(tables, *counts, triangle)),
+        Call::RefineNoted(triangle) => Answer::Worked(fast_refine_noted(tables, *counts, triangle, note)),
+        Call::TakeBack => Answer::Worked(fast_take_back(tables, *counts, note)),
         Call::WholeStep => Answer::Worked(fast_whole_step(tables, *counts)),
         Call::Lock(triangle) => Answer::Worked(fast_set_lock(tables, *counts, triangle, 1)),
         Call::Unlock(triangle) => Answer::Worked(fast_set_lock(tables, *counts, triangle, 0)),
@@ -53,6 +56,24 @@ fn fast_load(tables: &mut Tables, counts: Counts, rule: u32, cage: &[u8]) -> Wor
 fn fast_refine(tables: &mut Tables, counts: Counts, triangle: u32) -> Worked {
     match starts(tables, counts).and_then(|_| split::refine(tables, counts, triangle, &mut |_| ())) {
         Ok(worked) => worked,
+        Err(refusal) => Worked { refusal, counts, ..Worked::default() },
+    }
+}
+
+#[unsafe(no_mangle)]
+#[inline(never)]
+fn fast_refine_noted(tables: &mut Tables, counts: Counts, triangle: u32, note: &mut [u32]) -> Worked {
+    match starts(tables, counts).and_then(|_| note::refine_noted(tables, counts, triangle, note)) {
+        Ok(worked) => worked,
+        Err(refusal) => Worked { refusal, counts, ..Worked::default() },
+    }
+}
+
+#[unsafe(no_mangle)]
+#[inline(never)]
+fn fast_take_back(tables: &mut Tables, counts: Counts, note: &[u32]) -> Worked {
+    match starts(tables, counts).and_then(|_| note::take_back(tables, counts, note).ok_or(21)) {
+        Ok(counts) => Worked { counts, ..Worked::default() },
         Err(refusal) => Worked { refusal, counts, ..Worked::default() },
     }
 }

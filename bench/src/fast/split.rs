@@ -3,9 +3,22 @@
 use super::{LAST_GENERATION, triple};
 use crate::tables::{BOUNDARY, Counts, Tables, Worked};
 
+/// What a refine will do: the triangle that is split first, whether that is a rim split, and the splits.
+pub struct Plan {
+    pub end: usize,
+    rim_splits: usize,
+    splits: usize,
+}
+
 /// Refines a triangle of sound tables, or refuses with 8, 9, 19 or 11. Each slot whose corners or generation change is
 /// touched.
 pub fn refine(tables: &mut Tables, counts: Counts, t: u32, touch: &mut impl FnMut(usize)) -> Result<Worked, u32> {
+    let plan = planned(tables, counts, t)?;
+    Ok(carry_out(tables, counts, t, &plan, touch))
+}
+
+/// The plan of a refine, or its refusal.
+pub fn planned(tables: &Tables, counts: Counts, t: u32) -> Result<Plan, u32> {
     if counts.triangles <= t {
         return Err(8);
     }
@@ -23,6 +36,17 @@ pub fn refine(tables: &mut Tables, counts: Counts, t: u32, touch: &mut impl FnMu
     if room.0 < counts.vertices as usize + splits + rim_splits || room.1 < counts.triangles as usize + 2 * splits {
         return Err(11);
     }
+    Ok(Plan { end, rim_splits, splits })
+}
+
+/// Carries a refine out as it is planned.
+pub fn carry_out(
+    tables: &mut Tables,
+    counts: Counts,
+    t: u32,
+    &Plan { end, rim_splits, splits }: &Plan,
+    touch: &mut impl FnMut(usize),
+) -> Worked {
     let mut worked = Worked { counts, ..Worked::default() };
     if rim_splits == 0 {
         face_split(tables, &mut worked, end, touch);
@@ -33,7 +57,7 @@ pub fn refine(tables: &mut Tables, counts: Counts, t: u32, touch: &mut impl FnMu
         let (_, end) = base_chain(tables, t as usize);
         face_split(tables, &mut worked, end, touch);
     }
-    Ok(worked)
+    worked
 }
 
 /// The odd triangles of the base chain, and its last triangle, which is odd where the chain ends at the boundary.

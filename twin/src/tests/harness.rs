@@ -1,5 +1,7 @@
 //! The harness against itself: what it makes is what it says, and what is broken is caught.
 
+use std::thread;
+
 use crate::bench::Bench;
 use crate::calls::{fitting_spares, some_numbers};
 use crate::case::Case;
@@ -75,11 +77,14 @@ fn cases_are_read_back_as_they_were_written() {
     store.room.ring = vec![9, 9, 4];
     store.room.table = vec![-1, -1, i32::MAX];
     store.room.view = vec![0, 1 << 31, 0x7FA0_0001, u32::MAX];
+    store.room.note = vec![0, 4, 4, u32::MAX, 7, 7];
     store.room.spares = fitting_spares(&store, rng);
     let calls = [
         Call::Load { rule: 1, cage: vec![1, 1, 1, 255, 0] },
         Call::Load { rule: u32::MAX, cage: vec![] },
         Call::Refine { triangle: 7 },
+        Call::RefineNoted { triangle: u32::MAX },
+        Call::TakeBack,
         Call::WholeStep,
         Call::SetLock { triangle: 0, on: true },
         Call::SetLock { triangle: u32::MAX, on: false },
@@ -145,10 +150,16 @@ fn mirror_images_tell_what_spoils_them() {
 
 #[test]
 fn every_seeded_fault_is_caught() {
-    let unbroken = Twin::UNBROKEN;
-    for &(fault, meaning) in Fault::ALL {
-        let twin = Twin { fault: Seeded(Some(fault)) };
-        let outcome = parts::run_all(&mut Bench::new(&twin, &unbroken), 1, false);
-        assert!(outcome.is_err(), "{meaning}");
-    }
+    let catch = |faults: &[(Fault, &str)]| {
+        for &(fault, meaning) in faults {
+            let twin = Twin { fault: Seeded(Some(fault)) };
+            let outcome = parts::run_all(&mut Bench::new(&twin, &Twin::UNBROKEN), 1, false);
+            assert!(outcome.is_err(), "{meaning}");
+        }
+    };
+    let (first, second) = Fault::ALL.split_at(Fault::ALL.len() / 2);
+    thread::scope(|scope| {
+        scope.spawn(|| catch(first));
+        catch(second);
+    });
 }

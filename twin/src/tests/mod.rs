@@ -5,6 +5,7 @@ mod harness;
 mod lists;
 mod locks;
 mod modules;
+mod notes;
 mod plain_sound;
 mod rules;
 mod runs;
