@@ -203,10 +203,10 @@ rawplinth_worked rawplinth_refine(
     uint32_t triangle);
 
 /* Refines one triangle as refine does, and writes a note by which take_back undoes it: the triangle, the numbers of
-   vertices and triangles in use before, the number k of old slots whose content changes, be it a link alone, and for
-   each of these, in rising order, nine numbers: the slot and what it held, its three corners, its three links, its
-   generation and its lock. These are 4+9k entries. k is at most 25: RAWPLINTH_NOTE_ENTRIES (229) always do. Later
-   entries keep their content. A note of no entries is too short; refine takes none.
+   vertices and triangles in use before, the number k of old triangle slots whose content changes, be it a link alone,
+   and for each of these, in rising order, nine numbers: the slot and what it held, its three corners, its three links,
+   its generation and its lock. These are 4+9k entries. k is at most 25: RAWPLINTH_NOTE_ENTRIES (229) always do. Later
+   entries keep their content. A note of no entries is too short: to refine without a note, call refine.
    Refuses with 1, 7, 8, 9, 19, 11, 22, in this order. Writes what refine does, and the front of the note. */
 rawplinth_worked rawplinth_refine_noted(
     int32_t *positions, size_t positions_length,
@@ -221,11 +221,12 @@ rawplinth_worked rawplinth_refine_noted(
 /* Takes a refine back (undo) by its note: the slots of the note get what they held, and the vertices and triangles in
    use are those of before. Slots that are given up keep their content, and later splits may take them. Splits and flips
    are answered as 0.
-   Whatever a note holds, it is accepted exactly if it has 4+9k entries at least, its slots rise and are below the
-   number of triangles in use before, the mesh that it restores is sound, and refining its triangle there is carried
+   Whatever a note holds, it is accepted exactly if it has 4+9k entries at least, k being its fourth, its slots rise
+   and are below its number of triangles, the mesh that it restores is sound, and refining its triangle there is carried
    out and gives the mesh as it is, in every entry in use, with positions, locks and counts. So every note that
-   refine_noted wrote is accepted until the mesh is next changed, and none that was altered, or is of another mesh, can
-   do harm: it is refused with 21, or it takes a refine back all the same.
+   refine_noted wrote is accepted until the mesh is next changed, and later too wherever this holds: then it may take
+   back several refines. None that was altered, or is of another mesh, can do harm: it is refused with 21, or it takes a
+   refine back all the same.
    Refuses with 1, 7, 21, in this order. Writes corners, links, generations and locks of the slots in the note, and
    nothing else. Needs 0.3 MB of stack up to 4096 vertices and triangles, 2.4 MB above: at most 3 MB. */
 rawplinth_worked rawplinth_take_back(

@@ -318,7 +318,7 @@ pub fn all_numbers(count: u32, slots: usize) -> impl Iterator<Item = u32> {
 }
 
 /// A triangle: anywhere, or the deepest that a few tries find.
-pub fn some_triangle(store: &Store, rng: &mut Rng) -> u32 {
+fn some_triangle(store: &Store, rng: &mut Rng) -> u32 {
     let in_use = store.triangles();
     if in_use == 0 || rng.percent(50) {
         return some_number(store.counts.triangles, rng);

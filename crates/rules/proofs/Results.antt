@@ -33,7 +33,7 @@ use Rattle.rules.proofs.Locks.LeftAlone.{altered-exactly}
 use Rattle.rules.proofs.Locks.LockedFaces.{step-locked, call-stands, call-follows, history-stands}
 use Rattle.rules.proofs.Locks.LockedFaces.{history-follows, goes-back}
 use Rattle.rules.proofs.Mirrors.MirrorCalls.{call-mirror, history-mirror}
-use Rattle.rules.proofs.Notes.Accepting.{kept-taken-back}
+use Rattle.rules.proofs.Notes.Accepting.{kept-taken-back, noted-back}
 use Rattle.rules.proofs.Notes.Reading.{changed-are}
 use Rattle.rules.proofs.Rings.RingTheory.{ring-makes}
 use Rattle.rules.proofs.Numbers.Rounding.{nearest-third, nearest-third-only, rounded-nearest, nearest-only}
@@ -282,7 +282,8 @@ changed-exactly = changed-are
 
 -- The note of a refine, kept as it was written or with more after it, is accepted wherever the mesh is again, or still,
 -- what the refine made, in every entry in use. What is left is sound and has all that was in use before the refine,
--- counts included; refined again, it gives the refine's answer and the mesh before the take-back, in every slot.
+-- counts included; refined again, it gives the refine's answer and the mesh before the take-back, in every slot. The
+-- tables s are any of the same lengths; none are lent.
 pub noted-taken-back : (t : ℕ) (m : Mesh) → refineCall t m .answer .refusal ≡ 0
     → let o = refineCall t m in
     (note : List ℕ) (s : Spares) → HasNote t m (o .mesh) note → SameSizes s (o .mesh) → AgreeInUse s (o .mesh)
@@ -292,6 +293,13 @@ pub noted-taken-back : (t : ℕ) (m : Mesh) → refineCall t m .answer .refusal 
     Accepted note n × (back .answer .refusal ≡ 0) × Sound (back .mesh) × SameInUse m (back .mesh)
     × (again .answer ≡ o .answer) × (again .mesh ≡ n)
 noted-taken-back = kept-taken-back
+
+-- Above all it is right after the refine that wrote it.
+pub noted-then-back : (t : ℕ) (note : List ℕ) (m : Mesh) → notedCall t note m .answer .refusal ≡ 0
+    → let o = notedCall t note m in
+    let back = takeBackCall (o .room .buffer) (o .mesh) in
+    (back .answer .refusal ≡ 0) × SameInUse m (back .mesh) × (refineCall t (back .mesh) .mesh ≡ o .mesh)
+noted-then-back = noted-back
 
 -- A take-back that is carried out answers no splits and no flips, and leaves the mesh that its note restores; there the
 -- refine of the noted triangle makes the mesh before the take-back, in every slot.
@@ -493,7 +501,7 @@ pub locked-stands-after : (x : ℕ) (cs : List Call) (m : Mesh) → Locked m x �
     → Stands x m (after cs m) × Locked (after cs m) x
 locked-stands-after = history-stands
 
--- Where a refine is taken back, its links have followed from the mesh that is left to the one before.
+-- Where a refine is taken back, the links of a locked triangle have followed from the mesh that is left to the one before.
 pub locked-goes-back : (x : ℕ) (note : List ℕ) (m : Mesh) → Locked m x → takeBackCall note m .answer .refusal ≡ 0
     → LinksFollow x (takeBackCall note m .mesh .topology) (m .topology)
 locked-goes-back = goes-back

@@ -104,7 +104,8 @@ unfoldable pub putBackAll : List ℕ → ℕ → Mesh → Mesh
 putBackAll note zero m = m
 putBackAll note (suc n) m = putBack note n (putBackAll note n m)
 
--- The mesh with all slots of the note put back, and its counts. An accepted note writes no slot past these.
+-- The mesh with all slots of the note put back, and its counts. An accepted note writes no slot past the old
+-- counts.
 unfoldable pub restored : List ℕ → Mesh → Mesh
 restored note m =
     let back = putBackAll note (noteSlots note) m in

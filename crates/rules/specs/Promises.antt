@@ -340,8 +340,8 @@ pub record LinksFollow (x : ℕ) (m n : Topology) : Type 0 where
   pub links : (i : ℕ) → i < 3 → link n (3 * x + i) ≡ newPlace leads (link m (3 * x + i))
 
 -- The links of triangle x name in n the sides that they named in m: they followed these from m to n; or from n to m,
--- and have gone back with them; or they went one such way and then another, through a mesh whose links are mutual, so
--- that no two name one side. (Requests i, l)
+-- and have gone back with them; or they went one such way and then another, through a sound mesh, in which no two links
+-- name one side. (Requests i, l)
 pub data LinksKept (x : ℕ) : Topology → Topology → Type 0 where
   onward : {m n : Topology} → LinksFollow x m n → LinksKept x m n
   back : {m n : Topology} → LinksFollow x n m → LinksKept x m n

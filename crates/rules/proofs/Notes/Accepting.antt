@@ -9,6 +9,7 @@ use lib.ListN.{length, getD}
 use Rattle.rules.proofs.Calls.CallRefusals.{refine-judged}
 use Rattle.rules.proofs.Calls.Carried.{refine-found}
 use Rattle.rules.proofs.Calls.FirstThatHolds.{judged-carried}
+use Rattle.rules.proofs.Calls.Outcomes.{noted-makes, noted-as-refine}
 use Rattle.rules.proofs.Chains.Going.{Going, going-begins, going-on}
 use Rattle.rules.proofs.Notes.BeforeTheRefine.{restored-over}
 use Rattle.rules.proofs.Notes.Reading.{Says, has-says}
@@ -16,13 +17,13 @@ use Rattle.rules.proofs.Notes.Tests.{accepted-is}
 use Rattle.rules.proofs.Numbers.Decide.{is-same, is-true}
 use Rattle.rules.proofs.Numbers.Those.{Those, those-are, those-same}
 use Rattle.rules.proofs.Soundness.SoundTest.{tables-agree-is, sound-is}
-use Rattle.rules.proofs.Spares.CopiedBack.{copied-held}
+use Rattle.rules.proofs.Spares.CopiedBack.{tablesOf, copied-held}
 use Rattle.rules.proofs.Spares.OverSpares.{over, over-sound, over-refusal, over-refine, corner-same, link-same}
 use Rattle.rules.proofs.Spares.OverSpares.{generation-same, lock-same, position-same, same-holds}
-use Rattle.rules.specs.Calls.{worked, refineRefusal, refineCall}
+use Rattle.rules.specs.Calls.{Answer, worked, refineRefusal, refineCall}
 use Rattle.rules.specs.Below.{all}
 use Rattle.rules.specs.Notes.{nineOf, differs, changedSlots, refined, restored, SameInUse, Accepted}
-use Rattle.rules.specs.Notes.{takeBackRefusal, takeBackCall}
+use Rattle.rules.specs.Notes.{notedCall, takeBackRefusal, takeBackCall}
 use Rattle.rules.specs.Promises.{HasNote, AgreeInUse}
 use Rattle.rules.specs.Sound.{Sound}
 use Rattle.rules.specs.Spares.{Spares, SameSizes, meshIn}
@@ -203,3 +204,24 @@ kept-taken-back t m r note s =
       rw (refused-again z B L E, refined-again z B L E) refl,
       rw (refused-again z B L E, refined-again z B L E) refl,
     ))
+
+-- So is the refine of a note just written.
+pub noted-back : (t : ℕ) (note : List ℕ) (m : Mesh) → notedCall t note m .answer .refusal ≡ 0
+    → let o = notedCall t note m in
+    let back = takeBackCall (o .room .buffer) (o .mesh) in
+    (back .answer .refusal ≡ 0) × SameInUse m (back .mesh) × (refineCall t (back .mesh) .mesh ≡ o .mesh)
+noted-back t note m z =
+    let (a, e) = noted-as-refine t note m (λ q. omega arith) in
+    let r : refineCall t m .answer .refusal ≡ 0 = ap (λ (b : Answer). b .refusal) (sym a) ∙ z in
+    let H = subst (λ (n : Mesh). HasNote t m n (notedCall t note m .room .buffer)) e (noted-makes t note m z .1 .has) in
+    let L : SameSizes (tablesOf (refineCall t m .mesh)) (refineCall t m .mesh) =
+    record { positions = refl; corners = refl; links = refl; generations = refl; locks = refl } in
+    let A : AgreeInUse (tablesOf (refineCall t m .mesh)) (refineCall t m .mesh) = record {
+      positions = λ i l. refl;
+      corners = λ h l. refl;
+      links = λ h l. refl;
+      generations = λ x l. refl;
+      locks = λ x l. refl;
+    } in
+    let K = kept-taken-back t m r (notedCall t note m .room .buffer) (tablesOf (refineCall t m .mesh)) H L A in
+    rw e (K .1, K .3, K .5)
