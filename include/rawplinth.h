@@ -228,7 +228,8 @@ rawplinth_worked rawplinth_refine_noted(
    back several refines. None that was altered, or is of another mesh, can do harm: it is refused with 21, or it takes a
    refine back all the same.
    Refuses with 1, 7, 21, in this order. Writes corners, links, generations and locks of the slots in the note, and
-   nothing else. Needs 0.3 MB of stack up to 4096 vertices and triangles, 2.4 MB above: at most 3 MB. */
+   nothing else. Needs 0.25 MB of stack with at most 3000 vertices and triangles in use, else 2.4 MB, never above
+   3 MB. */
 rawplinth_worked rawplinth_take_back(
     const int32_t *positions, size_t positions_length,
     uint32_t *corners, size_t corners_length,

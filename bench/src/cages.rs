@@ -80,6 +80,19 @@ impl Cage {
         self.triangles.len()
     }
 
+    /// The same figure with so many triangles, an even number more: as many as that takes are split, from the first on.
+    pub fn filled(mut self, triangles: usize) -> Cage {
+        for slot in 0..(triangles - self.triangles.len()) / 2 {
+            let [a, b, c] = self.triangles[slot];
+            let centre = self.points.len() as u32;
+            let [p, q, r] = [a, b, c].map(|corner| self.points[corner as usize]);
+            self.points.push(std::array::from_fn(|i| (p[i] + q[i] + r[i]) / 3));
+            self.triangles[slot] = [a, b, centre];
+            self.triangles.extend([[b, c, centre], [c, a, centre]]);
+        }
+        self
+    }
+
     /// The same figure without its middle triangle, so that it has a boundary.
     pub fn opened(mut self) -> Cage {
         self.triangles.remove(self.triangles.len() / 2);

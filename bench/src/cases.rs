@@ -16,9 +16,11 @@ pub const LIMITS: [&str; 2] = ["limit", "limit, rule 2"];
 /// triangle is.
 pub const LONGEST_BESIDE_LOCKS: &str = "refine, chain of 10, beside locks";
 pub const LOCKED_STEP: &str = "whole step, locked";
-/// Refines with a note, of an even triangle, of an odd one and of the longest chain, and two of them taken back.
+/// Refines with a note, of an even triangle, of an odd one and of the longest chain, and two of them taken back. The
+/// first is taken back too where it has brought the mesh above the triangles that a size of the library's local arrays
+/// has room for, so that those of the next are cleared.
 pub const NOTED: [&str; 3] = ["refine noted, even", "refine noted, odd", "refine noted, chain of 10"];
-pub const BACKS: [&str; 2] = ["take back, even", "take back, chain of 10"];
+pub const BACKS: [&str; 3] = ["take back, even", "take back, chain of 10", "take back, just above a room"];
 /// All triangles for the viewer.
 pub const VIEW: &str = "view triangles";
 /// Lists: of triangles in a row, each refined by one split, and of one triangle again and again, which is passed over
@@ -30,7 +32,7 @@ pub const PREVIEWS: [&str; 4] = ["preview of 1", "preview of 100", "preview of 1
 /// all, which is refused with 11 when no slots are left.
 pub const BOXES: [&str; 3] = ["box of nothing", "box of a twentieth", "box of all, refused"];
 
-const NAMES: [&str; 35] = [
+const NAMES: [&str; 36] = [
     "load",
     "soundness",
     "refine even",
@@ -44,6 +46,7 @@ const NAMES: [&str; 35] = [
     NOTED[2],
     BACKS[0],
     BACKS[1],
+    BACKS[2],
     STEPS[0],
     STEPS[1],
     LOCKED_STEP,
@@ -103,9 +106,12 @@ impl Case {
 pub fn all() -> Vec<Case> {
     let small = [cages::tetrahedron(), cages::sphere(10)];
     let [list_sphere, step_sphere, sphere] = [32, 33, 57].map(cages::sphere);
+    let rooms = [(2, 160), (4, 400), (7, 1_200), (12, 3_000), (20, 8_000), (33, 22_000)];
+    let rooms = rooms.map(|(parts, triangles)| cages::sphere(parts).filled(triangles));
     let mut list = Vec::new();
     for name in NAMES {
         let (small, large) = match name {
+            name if name == BACKS[2] => (&rooms[..5], &rooms[5]),
             name if is_listed(name) || BOXES.contains(&name) => (&[] as &[Cage], &list_sphere),
             name if STEPS.contains(&name) || name == LOCKED_STEP => (&small[..], &step_sphere),
             _ => (&small[..], &sphere),

@@ -181,8 +181,8 @@ fn accepts_in(
     )
 }
 
-// The same in tables for up to 16 vertices and triangles.
-fn accepts_within_16(
+// The same in tables for up to 160 vertices and triangles.
+fn accepts_within_160(
     positions: &[i32],
     corners: &[u32],
     links: &[u32],
@@ -193,15 +193,15 @@ fn accepts_within_16(
 ) -> bool
     requires { ⌜ NoteFits (now note) ⌝ }
     requires { ⌜ Sound (meshNow counts (now positions) (now corners) (now links) (now generations) (now locks)) ⌝ }
-    requires { ⌜ Within 16 counts ⌝ }
+    requires { ⌜ Within 160 counts ⌝ }
     ensures { λ r. ⌜ r ≡ acceptedCut (now (note .entry)) (meshNow counts (now (positions .entry))
         (now (corners .entry)) (now (links .entry)) (now (generations .entry)) (now (locks .entry))) ⌝ }
 {
-    let mut room_positions = [0i32; 48];
-    let mut room_corners = [0u32; 48];
-    let mut room_links = [0u32; 48];
-    let mut room_generations = [0u8; 16];
-    let mut room_locks = [0u8; 16];
+    let mut room_positions = [0i32; 480];
+    let mut room_corners = [0u32; 480];
+    let mut room_links = [0u32; 480];
+    let mut room_generations = [0u8; 160];
+    let mut room_locks = [0u8; 160];
     accepts_in(
         positions,
         corners,
@@ -218,8 +218,8 @@ fn accepts_within_16(
     )
 }
 
-// The same in tables for up to 256 vertices and triangles.
-fn accepts_within_256(
+// The same in tables for up to 400 vertices and triangles.
+fn accepts_within_400(
     positions: &[i32],
     corners: &[u32],
     links: &[u32],
@@ -230,15 +230,15 @@ fn accepts_within_256(
 ) -> bool
     requires { ⌜ NoteFits (now note) ⌝ }
     requires { ⌜ Sound (meshNow counts (now positions) (now corners) (now links) (now generations) (now locks)) ⌝ }
-    requires { ⌜ Within 256 counts ⌝ }
+    requires { ⌜ Within 400 counts ⌝ }
     ensures { λ r. ⌜ r ≡ acceptedCut (now (note .entry)) (meshNow counts (now (positions .entry))
         (now (corners .entry)) (now (links .entry)) (now (generations .entry)) (now (locks .entry))) ⌝ }
 {
-    let mut room_positions = [0i32; 768];
-    let mut room_corners = [0u32; 768];
-    let mut room_links = [0u32; 768];
-    let mut room_generations = [0u8; 256];
-    let mut room_locks = [0u8; 256];
+    let mut room_positions = [0i32; 1200];
+    let mut room_corners = [0u32; 1200];
+    let mut room_links = [0u32; 1200];
+    let mut room_generations = [0u8; 400];
+    let mut room_locks = [0u8; 400];
     accepts_in(
         positions,
         corners,
@@ -255,8 +255,8 @@ fn accepts_within_256(
     )
 }
 
-// The same in tables for up to 4096 vertices and triangles.
-fn accepts_within_4096(
+// The same in tables for up to 1200 vertices and triangles.
+fn accepts_within_1200(
     positions: &[i32],
     corners: &[u32],
     links: &[u32],
@@ -267,15 +267,15 @@ fn accepts_within_4096(
 ) -> bool
     requires { ⌜ NoteFits (now note) ⌝ }
     requires { ⌜ Sound (meshNow counts (now positions) (now corners) (now links) (now generations) (now locks)) ⌝ }
-    requires { ⌜ Within 4096 counts ⌝ }
+    requires { ⌜ Within 1200 counts ⌝ }
     ensures { λ r. ⌜ r ≡ acceptedCut (now (note .entry)) (meshNow counts (now (positions .entry))
         (now (corners .entry)) (now (links .entry)) (now (generations .entry)) (now (locks .entry))) ⌝ }
 {
-    let mut room_positions = [0i32; 12288];
-    let mut room_corners = [0u32; 12288];
-    let mut room_links = [0u32; 12288];
-    let mut room_generations = [0u8; 4096];
-    let mut room_locks = [0u8; 4096];
+    let mut room_positions = [0i32; 3600];
+    let mut room_corners = [0u32; 3600];
+    let mut room_links = [0u32; 3600];
+    let mut room_generations = [0u8; 1200];
+    let mut room_locks = [0u8; 1200];
     accepts_in(
         positions,
         corners,
@@ -292,8 +292,8 @@ fn accepts_within_4096(
     )
 }
 
-// The same in tables for up to 16384 vertices and triangles.
-fn accepts_within_16384(
+// The same in tables for up to 3000 vertices and triangles.
+fn accepts_within_3000(
     positions: &[i32],
     corners: &[u32],
     links: &[u32],
@@ -304,15 +304,89 @@ fn accepts_within_16384(
 ) -> bool
     requires { ⌜ NoteFits (now note) ⌝ }
     requires { ⌜ Sound (meshNow counts (now positions) (now corners) (now links) (now generations) (now locks)) ⌝ }
-    requires { ⌜ Within 16384 counts ⌝ }
+    requires { ⌜ Within 3000 counts ⌝ }
     ensures { λ r. ⌜ r ≡ acceptedCut (now (note .entry)) (meshNow counts (now (positions .entry))
         (now (corners .entry)) (now (links .entry)) (now (generations .entry)) (now (locks .entry))) ⌝ }
 {
-    let mut room_positions = [0i32; 49152];
-    let mut room_corners = [0u32; 49152];
-    let mut room_links = [0u32; 49152];
-    let mut room_generations = [0u8; 16384];
-    let mut room_locks = [0u8; 16384];
+    let mut room_positions = [0i32; 9000];
+    let mut room_corners = [0u32; 9000];
+    let mut room_links = [0u32; 9000];
+    let mut room_generations = [0u8; 3000];
+    let mut room_locks = [0u8; 3000];
+    accepts_in(
+        positions,
+        corners,
+        links,
+        generations,
+        locks,
+        counts,
+        note,
+        &mut room_positions,
+        &mut room_corners,
+        &mut room_links,
+        &mut room_generations,
+        &mut room_locks,
+    )
+}
+
+// The same in tables for up to 8000 vertices and triangles.
+fn accepts_within_8000(
+    positions: &[i32],
+    corners: &[u32],
+    links: &[u32],
+    generations: &[u8],
+    locks: &[u8],
+    counts: Counts,
+    note: &[u32],
+) -> bool
+    requires { ⌜ NoteFits (now note) ⌝ }
+    requires { ⌜ Sound (meshNow counts (now positions) (now corners) (now links) (now generations) (now locks)) ⌝ }
+    requires { ⌜ Within 8000 counts ⌝ }
+    ensures { λ r. ⌜ r ≡ acceptedCut (now (note .entry)) (meshNow counts (now (positions .entry))
+        (now (corners .entry)) (now (links .entry)) (now (generations .entry)) (now (locks .entry))) ⌝ }
+{
+    let mut room_positions = [0i32; 24000];
+    let mut room_corners = [0u32; 24000];
+    let mut room_links = [0u32; 24000];
+    let mut room_generations = [0u8; 8000];
+    let mut room_locks = [0u8; 8000];
+    accepts_in(
+        positions,
+        corners,
+        links,
+        generations,
+        locks,
+        counts,
+        note,
+        &mut room_positions,
+        &mut room_corners,
+        &mut room_links,
+        &mut room_generations,
+        &mut room_locks,
+    )
+}
+
+// The same in tables for up to 22000 vertices and triangles.
+fn accepts_within_22000(
+    positions: &[i32],
+    corners: &[u32],
+    links: &[u32],
+    generations: &[u8],
+    locks: &[u8],
+    counts: Counts,
+    note: &[u32],
+) -> bool
+    requires { ⌜ NoteFits (now note) ⌝ }
+    requires { ⌜ Sound (meshNow counts (now positions) (now corners) (now links) (now generations) (now locks)) ⌝ }
+    requires { ⌜ Within 22000 counts ⌝ }
+    ensures { λ r. ⌜ r ≡ acceptedCut (now (note .entry)) (meshNow counts (now (positions .entry))
+        (now (corners .entry)) (now (links .entry)) (now (generations .entry)) (now (locks .entry))) ⌝ }
+{
+    let mut room_positions = [0i32; 66000];
+    let mut room_corners = [0u32; 66000];
+    let mut room_links = [0u32; 66000];
+    let mut room_generations = [0u8; 22000];
+    let mut room_locks = [0u8; 22000];
     accepts_in(
         positions,
         corners,
@@ -388,8 +462,8 @@ fn within(size: u32, counts: Counts) -> bool
     counts.triangles <= size
 }
 
-// The same for more than 4096 vertices or triangles.
-fn accepts_beyond_4096(
+// The same for more than 3000 vertices or triangles.
+fn accepts_beyond_3000(
     positions: &[i32],
     corners: &[u32],
     links: &[u32],
@@ -403,14 +477,18 @@ fn accepts_beyond_4096(
     ensures { λ r. ⌜ r ≡ acceptedCut (now (note .entry)) (meshNow counts (now (positions .entry))
         (now (corners .entry)) (now (links .entry)) (now (generations .entry)) (now (locks .entry))) ⌝ }
 {
-    if within(16384, counts) {
-        return accepts_within_16384(positions, corners, links, generations, locks, counts, note);
+    if within(8000, counts) {
+        return accepts_within_8000(positions, corners, links, generations, locks, counts, note);
+    }
+    if within(22000, counts) {
+        return accepts_within_22000(positions, corners, links, generations, locks, counts, note);
     }
     accepts_within_65536(positions, corners, links, generations, locks, counts, note)
 }
 
-// The same for all. A small mesh has little room to clear; and as the great rooms are called for at two places, they
-// keep a frame of their own, whose pages a small mesh does not touch.
+// The same for all. A room is at most three times the one below, so that clearing it takes less than a test of
+// soundness; and as the great rooms are called for at two places, they keep a frame of their own, whose pages a small
+// mesh does not touch.
 pub fn accepts(
     positions: &[i32],
     corners: &[u32],
@@ -425,17 +503,20 @@ pub fn accepts(
     ensures { λ r. ⌜ r ≡ acceptedCut (now (note .entry)) (meshNow counts (now (positions .entry))
         (now (corners .entry)) (now (links .entry)) (now (generations .entry)) (now (locks .entry))) ⌝ }
 {
-    if 4096 < counts.vertices {
-        return accepts_beyond_4096(positions, corners, links, generations, locks, counts, note);
+    if 3000 < counts.vertices {
+        return accepts_beyond_3000(positions, corners, links, generations, locks, counts, note);
     }
-    if 4096 < counts.triangles {
-        return accepts_beyond_4096(positions, corners, links, generations, locks, counts, note);
+    if 3000 < counts.triangles {
+        return accepts_beyond_3000(positions, corners, links, generations, locks, counts, note);
     }
-    if within(16, counts) {
-        return accepts_within_16(positions, corners, links, generations, locks, counts, note);
+    if within(160, counts) {
+        return accepts_within_160(positions, corners, links, generations, locks, counts, note);
     }
-    if within(256, counts) {
-        return accepts_within_256(positions, corners, links, generations, locks, counts, note);
+    if within(400, counts) {
+        return accepts_within_400(positions, corners, links, generations, locks, counts, note);
     }
-    accepts_within_4096(positions, corners, links, generations, locks, counts, note)
+    if within(1200, counts) {
+        return accepts_within_1200(positions, corners, links, generations, locks, counts, note);
+    }
+    accepts_within_3000(positions, corners, links, generations, locks, counts, note)
 }

@@ -1,8 +1,8 @@
--- `undoing::trying::accepts_within_4096` meets its contract.
+-- `undoing::trying::accepts_within_400` meets its contract.
 use borrow.Author.Needs.{needs}
 use Rattle.undoing.proofs.CutTables.{slots-within}
-use Rattle.undoing.proofs.trying.accepts_within_4096.Statement.{statement}
-use Rattle.undoing.proofs.trying.accepts_within_4096.Tie as tie
+use Rattle.undoing.proofs.trying.accepts_within_400.Statement.{statement}
+use Rattle.undoing.proofs.trying.accepts_within_400.Tie as tie
 
 slice-aggregate-accepts-in : tie.Need-slice-aggregate-accepts-in
 slice-aggregate-accepts-in c = search needs
@@ -23,13 +23,13 @@ accepts-in-requires : tie.Need-accepts-in-requires
 accepts-in-requires c κs =
     let start = c .before .before .before .before .before .before .before .before .before .before in
     let W = start .pre .1 .1 in
-    (start .pre .0, (start .pre .1 .0, slots-within (start .args .counts) 4096 _ (W .vertices) (W .triangles)))
+    (start .pre .0, (start .pre .1 .0, slots-within (start .args .counts) 400 _ (W .vertices) (W .triangles)))
 
 returns : tie.Need-returns
 returns c = search needs
 
-pub accepts-within-4096-spec : {M : Type 1} → statement M
-accepts-within-4096-spec =
+pub accepts-within-400-spec : {M : Type 1} → statement M
+accepts-within-400-spec =
     tie.close
     (tie.spec
     slice-aggregate-accepts-in

@@ -1,8 +1,8 @@
--- `undoing::trying::accepts_within_16` meets its contract.
+-- `undoing::trying::accepts_within_3000` meets its contract.
 use borrow.Author.Needs.{needs}
 use Rattle.undoing.proofs.CutTables.{slots-within}
-use Rattle.undoing.proofs.trying.accepts_within_16.Statement.{statement}
-use Rattle.undoing.proofs.trying.accepts_within_16.Tie as tie
+use Rattle.undoing.proofs.trying.accepts_within_3000.Statement.{statement}
+use Rattle.undoing.proofs.trying.accepts_within_3000.Tie as tie
 
 slice-aggregate-accepts-in : tie.Need-slice-aggregate-accepts-in
 slice-aggregate-accepts-in c = search needs
@@ -23,13 +23,13 @@ accepts-in-requires : tie.Need-accepts-in-requires
 accepts-in-requires c κs =
     let start = c .before .before .before .before .before .before .before .before .before .before in
     let W = start .pre .1 .1 in
-    (start .pre .0, (start .pre .1 .0, slots-within (start .args .counts) 16 _ (W .vertices) (W .triangles)))
+    (start .pre .0, (start .pre .1 .0, slots-within (start .args .counts) 3000 _ (W .vertices) (W .triangles)))
 
 returns : tie.Need-returns
 returns c = search needs
 
-pub accepts-within-16-spec : {M : Type 1} → statement M
-accepts-within-16-spec =
+pub accepts-within-3000-spec : {M : Type 1} → statement M
+accepts-within-3000-spec =
     tie.close
     (tie.spec
     slice-aggregate-accepts-in

@@ -1,8 +1,8 @@
--- `undoing::trying::accepts_within_256` meets its contract.
+-- `undoing::trying::accepts_within_1200` meets its contract.
 use borrow.Author.Needs.{needs}
 use Rattle.undoing.proofs.CutTables.{slots-within}
-use Rattle.undoing.proofs.trying.accepts_within_256.Statement.{statement}
-use Rattle.undoing.proofs.trying.accepts_within_256.Tie as tie
+use Rattle.undoing.proofs.trying.accepts_within_1200.Statement.{statement}
+use Rattle.undoing.proofs.trying.accepts_within_1200.Tie as tie
 
 slice-aggregate-accepts-in : tie.Need-slice-aggregate-accepts-in
 slice-aggregate-accepts-in c = search needs
@@ -23,13 +23,13 @@ accepts-in-requires : tie.Need-accepts-in-requires
 accepts-in-requires c κs =
     let start = c .before .before .before .before .before .before .before .before .before .before in
     let W = start .pre .1 .1 in
-    (start .pre .0, (start .pre .1 .0, slots-within (start .args .counts) 256 _ (W .vertices) (W .triangles)))
+    (start .pre .0, (start .pre .1 .0, slots-within (start .args .counts) 1200 _ (W .vertices) (W .triangles)))
 
 returns : tie.Need-returns
 returns c = search needs
 
-pub accepts-within-256-spec : {M : Type 1} → statement M
-accepts-within-256-spec =
+pub accepts-within-1200-spec : {M : Type 1} → statement M
+accepts-within-1200-spec =
     tie.close
     (tie.spec
     slice-aggregate-accepts-in
