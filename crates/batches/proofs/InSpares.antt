@@ -51,7 +51,7 @@ module _ (s : Spares) (m : Mesh) (fits : Bool) where
 
 module _ (s : Spares) (m : Mesh) where
   module _ (b : Box) {fits : Bool} (f : fits ≡ boxFits b) (r : ℕ) (e : r ≡ workRefusal fits s m) where
-    box-first : r ≡ boxRefusal b s m
+    pub box-first : r ≡ boxRefusal b s m
     unfolding boxRefusal
     box-first = e ∙ rw f refl
 
@@ -71,7 +71,7 @@ module _ (s : Spares) (m : Mesh) where
   -- ---- of a list
 
   module _ (r : ℕ) (e : r ≡ workRefusal true s m) where
-    list-first : r ≡ sparesRefusal s m
+    pub list-first : r ≡ sparesRefusal s m
     unfolding sparesRefusal
     list-first = e
 

@@ -1,4 +1,4 @@
 // The public calls that work in spare tables: none asks anything of its caller, and a refusal leaves the mesh.
 pub mod boxes;
 pub mod lists;
-mod spares;
+pub mod spares;

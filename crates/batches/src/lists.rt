@@ -103,19 +103,7 @@ pub fn preview(
         spare_locks,
     );
     if refusal != 0 {
-        return BatchForeseen {
-            refusal,
-            splits: 0,
-            flips: 0,
-            foreseen_vertices: counts.vertices,
-            foreseen_triangles: counts.triangles,
-            handled: 0,
-            spares: Counts {
-                vertices: 0,
-                triangles: 0,
-                rule: 0,
-            },
-        };
+        return BatchForeseen::refused(refusal, counts);
     }
     refining::lists::preview(
         positions,

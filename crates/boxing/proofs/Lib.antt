@@ -2,3 +2,4 @@
 pub mod Marking
 pub mod Turn
 pub mod Begins
+pub mod Told

@@ -2,6 +2,7 @@
 // each refine the marks are put right for the slots that it wrote.
 use points::Point;
 use refining::spares::Batch;
+use refining::spares::BatchReported;
 use refining::spares::BatchWorked;
 use tables::Counts;
 use tables::Worked;
@@ -12,15 +13,17 @@ ghost use Prim.Native.Nat.{ℕ, _+_, _*_, _/_, _≤_, _<_};
 ghost use lib.ListN.{length, getD};
 ghost use Rattle.marks.specs.Marks.{marked};
 ghost use Rattle.points.specs.Axes.{inBox, boxOf};
-ghost use Rattle.rules.specs.Boxes.{Box, wanted};
-ghost use Rattle.rules.specs.Calls.{refineCall};
+ghost use Rattle.rules.specs.Boxes.{Box, wanted, refineInBox};
+ghost use Rattle.rules.specs.Calls.{refineCall, withReport};
 ghost use Rattle.rules.specs.Sound.{Sound};
 ghost use Rattle.rules.specs.Spares.{Spares};
+ghost use Rattle.rules.specs.Split.{atFirst, refine};
 ghost use Rattle.rules.specs.Tables.{Mesh};
 ghost use Rattle.tables.specs.Answers.{workedOutcome};
 ghost use Rattle.tables.specs.declared.Counts.{Counts};
 ghost use Rattle.tables.specs.Lent.{topologyNow, meshNow, sparesNow, pointIn};
-ghost use Rattle.refining.specs.Batches.{Begins, MayWork, batchOutcome};
+ghost use Rattle.reporting.specs.Told.{Told, toldUnless};
+ghost use Rattle.refining.specs.Batches.{Begins, MayWork, batchOutcome, Holds, fitted, reportLeft, reportedDone};
 ghost use Rattle.boxing.specs.Boxing.{Looks, SeenFrom, MarksFit, Marking, Stale, nearby, MarkedFrom};
 ghost use Rattle.boxing.specs.Boxing.{Mended, Marked, Unmarked, Unseen, Boxes, boxDone};
 
@@ -217,7 +220,7 @@ fn mend_after(
     );
 }
 
-// Refines triangle t of a sound mesh, and puts the marks right.
+// Refines triangle t of a sound mesh, told from place `at` of the report on, and puts the marks right.
 fn refine_marked(
     positions: &mut [i32],
     corners: &mut [u32],
@@ -232,6 +235,8 @@ fn refine_marked(
     inside: &mut [u64],
     bits: &mut [u64],
     words: &mut [u64],
+    report: &mut [u32],
+    at: usize,
 ) -> Worked
     requires { ⌜ Marked (boxOf low high below)
         (meshNow counts (now positions) (now corners) (now links) (now generations) (now locks))
@@ -246,11 +251,26 @@ fn refine_marked(
     ensures { λ r. ⌜ (r .refusal ≡ 0 → Marked (boxOf low high below)
         (meshNow (r .counts) (now (positions .exit)) (now (corners .exit)) (now (links .exit))
         (now (generations .exit)) (now (locks .exit))) (now (inside .exit)) (now (bits .exit)) (now (words .exit))) ⌝ }
+    ensures { λ r. ⌜
+        Told (toldUnless (r .refusal) (refine t (atFirst (meshNow counts (now (positions .entry))
+        (now (corners .entry)) (now (links .entry)) (now (generations .entry)) (now (locks .entry)))) .report))
+        (now (report .entry)) (now (report .exit)) at ⌝ }
 {
     let chain = split::base_chain(links, generations, t);
     let slots = chain.slots;
     let near = with_neighbours(links, chain.end);
-    let done = refining::refine(positions, corners, links, generations, locks, counts, t, 0);
+    let done = refining::refine(
+        positions,
+        corners,
+        links,
+        generations,
+        locks,
+        counts,
+        t,
+        0,
+        report,
+        at,
+    );
     if done.refusal == 0 {
         let reached = done.counts;
         mark_inside(
@@ -278,7 +298,8 @@ fn refine_marked(
     done
 }
 
-// Refines the lowest wanted triangle until none is left, in tables that hold the mesh. Nothing is marked at first.
+// Refines the lowest wanted triangle until none is left, in tables that hold the mesh. Nothing is marked at first. The
+// turns are told where the report has room.
 fn refine_wanted(
     positions: &mut [i32],
     corners: &mut [u32],
@@ -292,6 +313,7 @@ fn refine_wanted(
     inside: &mut [u64],
     bits: &mut [u64],
     words: &mut [u64],
+    report: &mut [u32],
 ) -> Batch
     requires { ⌜ ((m : Mesh) × (s : Spares) ×
         Begins m s (m .topology .generations)
@@ -302,7 +324,8 @@ fn refine_wanted(
         Begins m s (m .topology .generations) (meshNow counts (now (positions .entry)) (now (corners .entry))
         (now (links .entry)) (now (generations .entry)) (now (locks .entry)))
         → Boxes (boxOf low high below) m s r (meshNow (r .counts) (now (positions .exit)) (now (corners .exit))
-        (now (links .exit)) (now (generations .exit)) (now (locks .exit)))) ⌝ }
+        (now (links .exit)) (now (generations .exit)) (now (locks .exit)))
+        × Told (refineInBox (boxOf low high below) m .work .report) (now (report .entry)) (now (report .exit)) 0) ⌝ }
 {
     mark_inside(positions, 0, counts.vertices, low, high, inside);
     mark_from(
@@ -335,6 +358,8 @@ fn refine_wanted(
             inside,
             bits,
             words,
+            report,
+            3 * (splits as usize) + 2 * (flips as usize),
         );
         reached = done.counts;
         if done.refusal != 0 {
@@ -371,6 +396,7 @@ fn refine_within_2048(
     low: Point,
     high: Point,
     below: u32,
+    report: &mut [u32],
 ) -> Batch
     requires { ⌜ ((m : Mesh) × (s : Spares) ×
         Begins m s (m .topology .generations)
@@ -380,7 +406,8 @@ fn refine_within_2048(
         Begins m s (m .topology .generations) (meshNow counts (now (positions .entry)) (now (corners .entry))
         (now (links .entry)) (now (generations .entry)) (now (locks .entry)))
         → Boxes (boxOf low high below) m s r (meshNow (r .counts) (now (positions .exit)) (now (corners .exit))
-        (now (links .exit)) (now (generations .exit)) (now (locks .exit)))) ⌝ }
+        (now (links .exit)) (now (generations .exit)) (now (locks .exit)))
+        × Told (refineInBox (boxOf low high below) m .work .report) (now (report .entry)) (now (report .exit)) 0) ⌝ }
 {
     let mut inside = [0u64; 32];
     let mut bits = [0u64; 32];
@@ -398,6 +425,7 @@ fn refine_within_2048(
         &mut inside,
         &mut bits,
         &mut words,
+        report,
     )
 }
 
@@ -412,6 +440,7 @@ fn refine_within_65536(
     low: Point,
     high: Point,
     below: u32,
+    report: &mut [u32],
 ) -> Batch
     requires { ⌜ ((m : Mesh) × (s : Spares) ×
         Begins m s (m .topology .generations)
@@ -420,7 +449,8 @@ fn refine_within_65536(
         Begins m s (m .topology .generations) (meshNow counts (now (positions .entry)) (now (corners .entry))
         (now (links .entry)) (now (generations .entry)) (now (locks .entry)))
         → Boxes (boxOf low high below) m s r (meshNow (r .counts) (now (positions .exit)) (now (corners .exit))
-        (now (links .exit)) (now (generations .exit)) (now (locks .exit)))) ⌝ }
+        (now (links .exit)) (now (generations .exit)) (now (locks .exit)))
+        × Told (refineInBox (boxOf low high below) m .work .report) (now (report .entry)) (now (report .exit)) 0) ⌝ }
 {
     let mut inside = [0u64; 512];
     let mut bits = [0u64; 1024];
@@ -438,10 +468,12 @@ fn refine_within_65536(
         &mut inside,
         &mut bits,
         &mut words,
+        report,
     )
 }
 
-// What the box makes of a mesh, worked out in the spare tables. Small tables have few marks to clear.
+// What the box makes of a mesh, worked out in the spare tables and told where the report has room. Small tables have
+// few marks to clear.
 fn work_in_spares(
     positions: &[i32],
     corners: &[u32],
@@ -452,6 +484,7 @@ fn work_in_spares(
     low: Point,
     high: Point,
     below: u32,
+    report: &mut [u32],
     spare_positions: &mut [i32],
     spare_corners: &mut [u32],
     spare_links: &mut [u32],
@@ -462,12 +495,14 @@ fn work_in_spares(
         (sparesNow (now «spare_positions») (now «spare_corners») (now «spare_links») (now «spare_generations»)
         (now «spare_locks»)) ⌝ }
     ensures { λ r. ⌜
-        Boxes (boxOf low high below) (meshNow counts (now (positions .entry)) (now (corners .entry))
-        (now (links .entry)) (now (generations .entry)) (now (locks .entry)))
+        (let m = meshNow counts (now (positions .entry)) (now (corners .entry)) (now (links .entry))
+        (now (generations .entry)) (now (locks .entry)) in
+        Boxes (boxOf low high below) m
         (sparesNow (now («spare_positions» .entry)) (now («spare_corners» .entry)) (now («spare_links» .entry))
         (now («spare_generations» .entry)) (now («spare_locks» .entry)))
         r (meshNow (r .counts) (now («spare_positions» .exit)) (now («spare_corners» .exit))
-        (now («spare_links» .exit)) (now («spare_generations» .exit)) (now («spare_locks» .exit))) ⌝ }
+        (now («spare_links» .exit)) (now («spare_generations» .exit)) (now («spare_locks» .exit)))
+        × Told (refineInBox (boxOf low high below) m .work .report) (now (report .entry)) (now (report .exit)) 0) ⌝ }
 {
     tables::copies::copy_mesh(
         positions,
@@ -493,6 +528,7 @@ fn work_in_spares(
             low,
             high,
             below,
+            report,
         );
     }
     refine_within_65536(
@@ -505,6 +541,81 @@ fn work_in_spares(
         low,
         high,
         below,
+        report,
+    )
+}
+
+// The same, refused with 23 where the report is too short. As its length is known only then, the work is done twice: a
+// refused call leaves the report.
+fn work_reported(
+    positions: &[i32],
+    corners: &[u32],
+    links: &[u32],
+    generations: &[u8],
+    locks: &[u8],
+    counts: Counts,
+    low: Point,
+    high: Point,
+    below: u32,
+    report: &mut [u32],
+    spare_positions: &mut [i32],
+    spare_corners: &mut [u32],
+    spare_links: &mut [u32],
+    spare_generations: &mut [u8],
+    spare_locks: &mut [u8],
+) -> Batch
+    requires { ⌜ MayWork (meshNow counts (now positions) (now corners) (now links) (now generations) (now locks))
+        (sparesNow (now «spare_positions») (now «spare_corners») (now «spare_links») (now «spare_generations»)
+        (now «spare_locks»)) ⌝ }
+    ensures { λ r. ⌜
+        (let m = meshNow counts (now (positions .entry)) (now (corners .entry)) (now (links .entry))
+        (now (generations .entry)) (now (locks .entry)) in
+        let p = refineInBox (boxOf low high below) m in
+        Holds (fitted p (now (report .entry)))
+        (sparesNow (now («spare_positions» .entry)) (now («spare_corners» .entry)) (now («spare_links» .entry))
+        (now («spare_generations» .entry)) (now («spare_locks» .entry)))
+        r (meshNow (r .counts) (now («spare_positions» .exit)) (now («spare_corners» .exit))
+        (now («spare_links» .exit)) (now («spare_generations» .exit)) (now («spare_locks» .exit)))
+        × (now (report .exit) ≡ reportLeft p (now (report .entry)))) ⌝ }
+{
+    let mut none = [0u32; 1];
+    let first = work_in_spares(
+        positions,
+        corners,
+        links,
+        generations,
+        locks,
+        counts,
+        low,
+        high,
+        below,
+        &mut none,
+        spare_positions,
+        spare_corners,
+        spare_links,
+        spare_generations,
+        spare_locks,
+    );
+    let fitted = refining::spares::fit(first, report.len());
+    if fitted.refusal != 0 {
+        return fitted;
+    }
+    work_in_spares(
+        positions,
+        corners,
+        links,
+        generations,
+        locks,
+        counts,
+        low,
+        high,
+        below,
+        report,
+        spare_positions,
+        spare_corners,
+        spare_links,
+        spare_generations,
+        spare_locks,
     )
 }
 
@@ -539,6 +650,7 @@ pub fn refine_box(
         (sparesNow (now («spare_positions» .entry)) (now («spare_corners» .entry)) (now («spare_links» .entry))
         (now («spare_generations» .entry)) (now («spare_locks» .entry))) ⌝ }
 {
+    let mut none = [0u32; 1];
     let made = work_in_spares(
         positions,
         corners,
@@ -549,6 +661,7 @@ pub fn refine_box(
         low,
         high,
         below,
+        &mut none,
         spare_positions,
         spare_corners,
         spare_links,
@@ -569,4 +682,74 @@ pub fn refine_box(
         spare_generations,
         spare_locks,
     )
+}
+
+// The same with a report of the slots that are written.
+pub fn refine_box_reported(
+    positions: &mut [i32],
+    corners: &mut [u32],
+    links: &mut [u32],
+    generations: &mut [u8],
+    locks: &mut [u8],
+    counts: Counts,
+    low: Point,
+    high: Point,
+    below: u32,
+    report: &mut [u32],
+    spare_positions: &mut [i32],
+    spare_corners: &mut [u32],
+    spare_links: &mut [u32],
+    spare_generations: &mut [u8],
+    spare_locks: &mut [u8],
+) -> BatchReported
+    requires { ⌜ MayWork (meshNow counts (now positions) (now corners) (now links) (now generations) (now locks))
+        (sparesNow (now «spare_positions») (now «spare_corners») (now «spare_links») (now «spare_generations»)
+        (now «spare_locks»)) ⌝ }
+    ensures { λ r. ⌜
+        withReport (now (report .exit)) (r .reported) (batchOutcome (r .worked) (now (positions .exit))
+        (now (corners .exit)) (now (links .exit)) (now (generations .exit)) (now (locks .exit))
+        (sparesNow (now («spare_positions» .exit)) (now («spare_corners» .exit)) (now («spare_links» .exit))
+        (now («spare_generations» .exit)) (now («spare_locks» .exit))))
+        ≡ reportedDone (refineInBox (boxOf low high below) (meshNow counts (now (positions .entry))
+        (now (corners .entry)) (now (links .entry)) (now (generations .entry)) (now (locks .entry))))
+        (now (report .entry)) (meshNow counts (now (positions .entry)) (now (corners .entry))
+        (now (links .entry)) (now (generations .entry)) (now (locks .entry)))
+        (sparesNow (now («spare_positions» .entry)) (now («spare_corners» .entry)) (now («spare_links» .entry))
+        (now («spare_generations» .entry)) (now («spare_locks» .entry))) ⌝ }
+{
+    let made = work_reported(
+        positions,
+        corners,
+        links,
+        generations,
+        locks,
+        counts,
+        low,
+        high,
+        below,
+        report,
+        spare_positions,
+        spare_corners,
+        spare_links,
+        spare_generations,
+        spare_locks,
+    );
+    let done = refining::spares::carry_back(
+        positions,
+        corners,
+        links,
+        generations,
+        locks,
+        counts,
+        made,
+        spare_positions,
+        spare_corners,
+        spare_links,
+        spare_generations,
+        spare_locks,
+    );
+    BatchReported {
+        worked: done,
+        reported: 3 * done.splits + 2 * done.flips,
+    }
 }

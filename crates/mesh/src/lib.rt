@@ -127,6 +127,7 @@ pub fn refine(
         (now (generations .entry)) (now (locks .entry))) ⌝ }
 {
     let bad = first_refusal(positions, corners, links, generations, locks, counts);
+    let mut none = [0u32; 1];
     refining::refine(
         positions,
         corners,
@@ -136,6 +137,8 @@ pub fn refine(
         counts,
         t,
         bad,
+        &mut none,
+        1,
     )
 }
 

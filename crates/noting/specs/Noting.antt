@@ -1,13 +1,15 @@
 -- The note of a refine, and the outcome with it.
 use Prim.Native.Nat.{ℕ, zero, suc, _+_}
+use mathlib.Core.Bool.{Bool, not}
 use mathlib.Core.List.{List, [], _∷_}
 use mathlib.Core.Logic.{_≢_}
 use mathlib.Core.Path.{_≡_}
+use lib.Dec.{ltb}
 use lib.IntN.{ℤ}
 use lib.ListN.{length, getD, set}
 use Rattle.rules.specs.Below.{fill}
-use Rattle.rules.specs.Calls.{Outcome, answerOf, bufferRoom, outcomeOf, zeroPoint}
-use Rattle.rules.specs.Notes.{noteOf, refined, noteRefusal}
+use Rattle.rules.specs.Calls.{Outcome, answerOf, bufferRoom, firstOf, _if_, outcomeOf, zeroPoint}
+use Rattle.rules.specs.Notes.{noteOf, refined}
 use Rattle.rules.specs.Tables.{Mesh}
 use Rattle.tables.specs.Lent.{meshNow}
 use Rattle.tables.specs.declared.Worked.{Worked}
@@ -21,9 +23,10 @@ writeFrom a (suc n) x l = set (writeFrom a n x l) (a + n) (x n)
 abbrev pub headOf : ℕ → ℕ → ℕ → ℕ → List ℕ
 headOf t v f k = t ∷ v ∷ f ∷ k ∷ []
 
--- What comes of the note of a refine of t: 22 where what is lent is too short, which is left, and else it is written.
-pub record Notes (t : ℕ) (m : Mesh) (lent : List ℕ) (r : ℕ) (left : List ℕ) : Type 0 where
-  pub refusal : r ≡ noteRefusal t lent m
+-- What comes of the note of a refine of t: 22 where what is lent is too short for it, then 23 where a report of the
+-- refine does not fit; what is lent is then left, and else the note is written.
+pub record Notes (t : ℕ) (m : Mesh) (lent : List ℕ) (fits : Bool) (r : ℕ) (left : List ℕ) : Type 0 where
+  pub refusal : r ≡ firstOf (22 if ltb (length lent) (length (noteOf t m (refined t m))) ∷ 23 if not fits ∷ [])
   pub short : r ≢ 0 → left ≡ lent
   pub written : r ≡ 0
       → left ≡ fill (length (noteOf t m (refined t m))) (λ i. getD (noteOf t m (refined t m)) i 0) lent

@@ -1,6 +1,7 @@
 // The refine with a note of the old slots that it changes, and of what they hold.
 mod changed;
 
+use refining::Reported;
 use split::Chain;
 use tables::Counts;
 use tables::Worked;
@@ -10,7 +11,9 @@ ghost use Prim.Native.Nat.{ℕ, _+_, _*_, _≤_, _<_};
 ghost use lib.IntN.{ℤ};
 ghost use lib.ListN.{length, getD};
 ghost use Rattle.rules.specs.Below.{fill};
+ghost use Rattle.rules.specs.Calls.{withReport};
 ghost use Rattle.rules.specs.Notes.{nineOf, ninesOf, notedCall};
+ghost use Rattle.rules.specs.Reports.{withNote, reportedCall};
 ghost use Rattle.tables.specs.Lent.{meshNow, TrianglesAgree};
 ghost use Rattle.tables.specs.declared.Counts.{Counts};
 ghost use Rattle.refining.specs.Finding.{Goes};
@@ -106,7 +109,8 @@ fn write_note(
     }
 }
 
-// Writes the note of a refine of t along this chain; or answers 22, where what is lent is too short for it.
+// Writes the note of a refine of t along this chain; or answers 22, where what is lent is too short for it, and
+// then 23, where a report of the refine does not fit.
 fn note_changes(
     corners: &[u32],
     links: &[u32],
@@ -116,18 +120,22 @@ fn note_changes(
     t: u32,
     chain: Chain,
     note: &mut [u32],
+    report_fits: bool,
 ) -> u32
     requires { ⌜ ((p : List ℤ) ×
         Goes t (meshNow counts p (now corners) (now links) (now generations) (now locks)) chain) ⌝ }
     ensures { λ r. ⌜ ((p : List ℤ) →
         let m = meshNow counts p (now (corners .entry)) (now (links .entry)) (now (generations .entry))
         (now (locks .entry)) in
-        Goes t m chain → Notes t m (now (note .entry)) r (now (note .exit))) ⌝ }
+        Goes t m chain → Notes t m (now (note .entry)) «report_fits» r (now (note .exit))) ⌝ }
 {
     let mut slots: [u32; 32] = [0; 32];
     let k = changed::list_changed(links, generations, chain, &mut slots);
     if note.len() < 4 + 9 * k {
         return 22;
+    }
+    if !report_fits {
+        return 23;
     }
     write_note(
         corners,
@@ -173,7 +181,17 @@ pub fn refine_noted(
         };
     }
     let chain = found.chain;
-    let refusal = note_changes(corners, links, generations, locks, counts, t, chain, note);
+    let refusal = note_changes(
+        corners,
+        links,
+        generations,
+        locks,
+        counts,
+        t,
+        chain,
+        note,
+        true,
+    );
     if refusal != 0 {
         return Worked {
             refusal,
@@ -182,6 +200,7 @@ pub fn refine_noted(
             counts,
         };
     }
+    let mut none = [0u32; 1];
     refining::carry_out(
         positions,
         corners,
@@ -191,5 +210,67 @@ pub fn refine_noted(
         counts,
         t,
         chain,
+        &mut none,
+        0,
     )
+}
+
+// Refines triangle t with a note as above, and reports the slots that it writes.
+pub fn refine_noted_reported(
+    positions: &mut [i32],
+    corners: &mut [u32],
+    links: &mut [u32],
+    generations: &mut [u8],
+    locks: &mut [u8],
+    counts: Counts,
+    t: u32,
+    bad: u32,
+    note: &mut [u32],
+    report: &mut [u32],
+) -> Reported
+    requires { ⌜ bad ≡ standing (meshNow counts (now positions) (now corners) (now links) (now generations)
+        (now locks)) ⌝ }
+    ensures { λ r. ⌜
+        withReport (now (report .exit)) (r .reported) (notedOutcome (r .worked) (now (positions .exit))
+        (now (corners .exit)) (now (links .exit)) (now (generations .exit)) (now (locks .exit)) (now (note .exit)))
+        ≡ reportedCall (withNote t (now (note .entry))) (now (report .entry)) (meshNow counts
+        (now (positions .entry)) (now (corners .entry)) (now (links .entry)) (now (generations .entry))
+        (now (locks .entry))) ⌝ }
+{
+    let finding = refining::find(positions, links, generations, locks, counts, t, bad);
+    if finding.refusal != 0 {
+        return Reported::refused(finding.refusal, counts);
+    }
+    let chain = finding.chain;
+    let length = reporting::report_length(links, generations, chain);
+    let refusal = note_changes(
+        corners,
+        links,
+        generations,
+        locks,
+        counts,
+        t,
+        chain,
+        note,
+        length <= report.len(),
+    );
+    if refusal != 0 {
+        return Reported::refused(refusal, counts);
+    }
+    let done = refining::carry_out(
+        positions,
+        corners,
+        links,
+        generations,
+        locks,
+        counts,
+        t,
+        chain,
+        report,
+        0,
+    );
+    Reported {
+        worked: done,
+        reported: length as u32,
+    }
 }

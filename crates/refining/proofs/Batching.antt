@@ -1,33 +1,39 @@
 -- Work in spare tables: its start, a list's entries by the answers of their tests, and what is carried back.
 use borrow.Author.Tests.{le-leb, lt-leb, lt-ltb, le-ltb}
 use mathlib.Core.Bool.{Bool, true, false}
-use mathlib.Core.List.{List}
+use mathlib.Core.List.{List, [], append-nil}
 use mathlib.Core.Logic.{_≢_}
-use mathlib.Core.Path.{_≡_, refl, sym, ap, ap₂, _∙_}
-use Prim.Native.Nat.{ℕ, _≤_, _<_}
+use mathlib.Core.Path.{_≡_, refl, sym, ap, ap₂, _∙_, subst}
+use Prim.Native.Nat.{ℕ, zero, suc, _+_, _*_, _≤_, _<_}
 use native.Mathlib.Omega.{arith}
 use lib.Dec.{leb}
 use lib.IntN.{ℤ}
 use lib.ListN.{length, getD}
 use Rattle.rules.proofs.Chains.Going.{Going}
-use Rattle.rules.proofs.Lists.Holding.{Done, going-sizes, failed-is, copied-is}
-use Rattle.rules.proofs.Lists.InSpares.{entryOutcome, Doing, doing-begins}
+use Rattle.rules.proofs.Lists.Holding.{Done, going-sizes, failed-is, copied-is, holding-length}
+use Rattle.rules.proofs.Lists.InSpares.{entryOutcome, Doing, doing-begins, doing-on, doing-stops, doing-ends}
 use Rattle.rules.proofs.Lists.ListCall.{folded}
 use Rattle.rules.proofs.Numbers.Fill.{length-fill}
 use Rattle.rules.proofs.Soundness.Relaxed.{SameSlots}
 use Rattle.rules.proofs.Spares.CopiedBack.{tablesOf}
 use Rattle.rules.proofs.Spares.OverSpares.{over, over-sound}
-use Rattle.rules.specs.Calls.{outcomeOf, spareRoom, noRoom, refusedWith, worked, unless, refineRefusal, refineCall}
-use Rattle.rules.specs.Lists.{Progress, risen, entryRefusal, entryWork, refineEach, sparesAnswer}
+use Rattle.rules.specs.Calls.{Outcome, outcomeOf, spareRoom, noRoom, refusedWith, worked, unless}
+use Rattle.rules.specs.Calls.{refineRefusal, refineCall}
+use Rattle.rules.specs.Lists.{Progress, risen, entryRefusal, entryWork, refineEach, sparesAnswer, allOrNothing}
 use Rattle.rules.specs.Sound.{Sound}
 use Rattle.rules.specs.Spares.{Spares, copied, meshIn, SameSizes}
 use Rattle.rules.specs.Split.{Work, atFirst, refine}
 use Rattle.rules.specs.Tables.{Mesh, meshOf, withTopology, generation}
 use Rattle.tables.specs.declared.Counts.{Counts}
 use Rattle.tables.specs.Lent.{meshNow, HasSlots}
-use Rattle.refining.specs.Batches.{StartsWith, Begins, Handles, Made, MayWork, listDone, onlyRead}
+use Rattle.reporting.specs.Told.{Tells, Told, toldUnless}
+use Rattle.reporting.proofs.Telling.{tells-none, tells-on}
+use Rattle.refining.specs.Batches.{StartsWith, Begins, Handles, Made, MayWork, onlyRead, foreseenIf}
+use Rattle.refining.specs.Batches.{foreseenOf, foreseenOutcome}
+use Rattle.refining.specs.declared.lists.BatchForeseen.{BatchForeseen}
 use Rattle.refining.specs.declared.spares.Batch.{Batch}
 use Rattle.refining.proofs.Refusing.{standing-sound}
+use Rattle.refining.proofs.Telling.{tells-to, told-zero, told-nothing}
 
 module _ (m x : Mesh) (f t : ℕ) (g : List ℕ) (W : StartsWith f g m) where
   by-tests : {c r : Bool} → leb (m .topology .triangles) t ≡ c → risen m t x ≡ r →
@@ -56,6 +62,21 @@ module _ (m x : Mesh) (f t : ℕ) (g : List ℕ) (W : StartsWith f g m) where
     unfolding refineCall
     entry-refined r = by-tests in-use (le-ltb _ _ (rw (W .generations) at r))
 
+  -- What is told of it.
+  work-by : {r : Bool} → risen m t x ≡ r
+      → entryWork m t (atFirst x) ≡ elim r [ true ↦ atFirst x | false ↦ refine t (atFirst x) ]
+  unfolding entryWork
+  work-by q = ap (λ (r : Bool). elim r [ true ↦ atFirst x | false ↦ refine t (atFirst x) ]) q
+
+  pub passed-told : {b : List ℕ} {at : ℕ} → getD g t 0 < generation (x .topology) t
+      → Told (entryWork m t (atFirst x) .report) b b at
+  passed-told {b} {at} r = rw (work-by (lt-ltb _ _ (rw (W .generations) at r))) (at, tells-none at b)
+
+  pub refined-told : (n : ℕ) {a b : List ℕ} {at : ℕ} → generation (x .topology) t ≤ getD g t 0
+      → Told (toldUnless n (refine t (atFirst x) .report)) a b at
+      → Told (toldUnless n (entryWork m t (atFirst x) .report)) a b at
+  refined-told n r T = rw (work-by (le-ltb _ _ (rw (W .generations) at r))) T
+
 -- ---- the start
 
 module _ {m x : Mesh} {s : Spares} {g : List ℕ} (B : Begins m s g x) where
@@ -65,12 +86,51 @@ module _ {m x : Mesh} {s : Spares} {g : List ℕ} (B : Begins m s g x) where
     generations = B .generations;
   }
 
-  pub begins-doing : (list : List ℕ) → Doing m s list 0 0 0 x
+  pub begins-doing : (list : List ℕ) → Doing m s list 0 0 0 [] x
   begins-doing list = rw (B .tables) (doing-begins list (B .sizes) (B .sound))
+
+-- ---- what is told of the entries
+
+-- The first entries of a list are handled, and told from the start of a buffer on.
+abbrev pub DoingTold : Mesh → Spares → List ℕ → ℕ → ℕ → ℕ → List ℕ → List ℕ → Mesh → Type 0
+DoingTold m s list at k f a b x = (l : List ℕ) × Doing m s list at k f l x × Tells l a b 0 (3 * k + 2 * f)
+
+pub told-begins : {m x : Mesh} {s : Spares} {g : List ℕ} → Begins m s g x → (list b : List ℕ)
+    → DoingTold m s list 0 0 0 b b x
+told-begins B list b = ([], begins-doing B list, tells-none 0 b)
+
+module _ {m : Mesh} {s : Spares} {list : List ℕ} {at k f : ℕ} {a b : List ℕ} {x : Mesh}
+    (D : DoingTold m s list at k f a b x) where
+  told-list : {c : List ℕ} {i : ℕ} → D .0 ≡ refineEach list m .work .report → Tells (D .0) a c 0 i
+      → Told (refineEach list m .work .report) a c 0
+  told-list {c} {i} e T = (i, subst (λ (l : List ℕ). Tells l a c 0 i) e T)
+
+  pub told-ends : at ≡ length list
+      → Done (refineEach list m) s 0 at k f x × Told (refineEach list m .work .report) a b 0
+  told-ends e = let (F, q) = doing-ends (D .1) e in (F, told-list q (D .2))
+
+  module _ {o : Outcome} {c : List ℕ} (i : at < length list) (e : o ≡ entryOutcome m (getD list at 0) x)
+      (T :
+      Told (toldUnless (o .answer .refusal) (entryWork m (getD list at 0) (atFirst x) .report)) b c (3 * k + 2 * f))
+    where
+      pub told-goes-on : o .answer .refusal ≡ 0
+          → DoingTold m s list (at + 1) (k + o .answer .splits) (f + o .answer .flips) a c (o .mesh)
+      told-goes-on z =
+          let G = doing-on (D .1) i e z in
+          let (_, U) = told-zero _ _ T z in
+          (_, G, tells-to (tells-on (D .2) U) (holding-length (G .held)))
+
+      pub told-stops : o .answer .refusal ≢ 0
+          → Done (refineEach list m) s (o .answer .refusal) at k f (o .mesh)
+          × Told (refineEach list m .work .report) a c 0
+      told-stops z =
+          let (F, q) = doing-stops (D .1) i e z in
+          let (j, U) = told-nothing _ _ T z in
+          (F, told-list q (subst (λ (l : List ℕ). Tells l a c 0 j) (append-nil (D .0)) (tells-on (D .2) U)))
 
 -- ---- the tables keep their lengths
 
-over-sizes : (s : Spares) (m : Mesh) → SameSizes s (over s m)
+pub over-sizes : (s : Spares) (m : Mesh) → SameSizes s (over s m)
 unfolding copied
 over-sizes s m = record {
   positions = sym (length-fill _ _ (s .positions));
@@ -156,31 +216,44 @@ module _ (n : Counts) {p : List ℤ} {c l g k : List ℕ} {s : Spares} where
       )
 
 -- What a list made.
+pub list-going : (list : List ℕ) {m : Mesh} {s : Spares} → MayWork m s → Going m (refineEach list m .work)
+list-going list {m} {s} W = folded list s m (may-sound W) .going
+
 pub list-made : (list : List ℕ) {m : Mesh} {s : Spares} {r : Batch} {x : Mesh} → MayWork m s → Handles list m s r x
     → Made (refineEach list m) s m r x
-list-made list {m} {s} W D = record {
-  sizes = W .sizes;
-  going = folded list s m (may-sound W) .going;
-  done = D;
-}
+list-made list W D = record { sizes = W .sizes; going = list-going list W; done = D }
 
 -- ---- what is foreseen
 
-module _ (list : List ℕ) {m : Mesh} {s : Spares} {n at k f : ℕ} {x : Mesh}
-    (D : Done (refineEach list m) s n at k f x) where
-  pub foreseen-failed : n ≢ 0
-      → outcomeOf (sparesAnswer n 0 0 m at x) m (spareRoom (tablesOf x)) ≡ onlyRead m (listDone list m s)
+module _ {m : Mesh} {p : Progress} {s : Spares} {n at k f : ℕ} {x : Mesh} (D : Done p s n at k f x) where
+  foreseen-failed : n ≢ 0
+      → outcomeOf (sparesAnswer n 0 0 m at x) m (spareRoom (tablesOf x))
+      ≡ onlyRead m (allOrNothing (p .refusal) p s m)
   foreseen-failed z = ap (onlyRead m) (failed-is m D z)
 
-  pub foreseen-done : MayWork m s → n ≡ 0
+  foreseen-done : SameSizes s m → Going m (p .work) → n ≡ 0
       → outcomeOf (sparesAnswer 0 k f (withTopology (x .topology) m) at x) m (spareRoom (tablesOf x))
-      ≡ onlyRead m (listDone list m s)
-  foreseen-done W z =
-      let S = may-sound W in
-      let r : x .rule ≡ m .rule =
-      ap (λ (y : Mesh). y .rule) (D .tables) ∙ folded list s m S .going .places .rule in
-      let e = copied-is {y = copied x (tablesOf m)} (W .sizes) (folded list s m S .going) (rw z at D) refl in
+      ≡ onlyRead m (allOrNothing (p .refusal) p s m)
+  foreseen-done L G z =
+      let r : x .rule ≡ m .rule = ap (λ (y : Mesh). y .rule) (D .tables) ∙ G .places .rule in
+      let e = copied-is {y = copied x (tablesOf m)} L G (rw z at D) refl in
       ap (λ (q : ℕ).
       outcomeOf (sparesAnswer 0 k f (meshOf (x .topology) (m .positions) (m .locks) q) at x) m (spareRoom (tablesOf x)))
       (sym r)
       ∙ ap (onlyRead m) e
+
+pub foreseen-is : (n : Counts) {p : List ℤ} {c l g k : List ℕ} {w : Progress} {s : Spares} (r : Batch) {q : List ℤ}
+    {c′ l′ g′ k′ : List ℕ} {a : BatchForeseen} →
+    let m = meshNow n p c l g k in
+    let x = meshNow (r .counts) q c′ l′ g′ k′ in
+    a ≡ foreseenOf n r → Made w s m r x
+    → foreseenOutcome a m (tablesOf x) ≡ onlyRead m (allOrNothing (w .refusal) w s m)
+foreseen-is n {p} {c} {l} {g} {k} {w} {s} r {q} {c′} {l′} {g′} {k′} e M = rw e (go (r .refusal) (M .done))
+  where
+    go : (i : ℕ) →
+        let m = meshNow n p c l g k in
+        let x = meshNow (r .counts) q c′ l′ g′ k′ in
+        Done w s i (r .handled) (r .splits) (r .flips) x
+        → foreseenOutcome (foreseenIf i n r) m (tablesOf x) ≡ onlyRead m (allOrNothing (w .refusal) w s m)
+    go zero D = foreseen-done D (M .sizes) (M .going) refl
+    go (suc i) D = foreseen-failed D (λ z. omega (arith, z))

@@ -1,13 +1,17 @@
 -- Work in spare tables: lists of triangles, and what lists and boxes share.
-use Prim.Native.Nat.{ℕ}
+use Prim.Native.Nat.{ℕ, zero, suc, _+_, _*_}
+use mathlib.Core.Bool.{Bool, true, false}
 use mathlib.Core.List.{List, []}
 use mathlib.Core.Path.{_≡_}
+use lib.Dec.{ltb}
 use lib.IntN.{ℤ}
+use lib.ListN.{length}
 use Rattle.rules.proofs.Chains.Going.{Going}
 use Rattle.rules.proofs.Lists.Holding.{Done}
 use Rattle.rules.proofs.Spares.OverSpares.{over}
 use Rattle.rules.specs.Calls.{Outcome, outcomeOf, spareRoom}
 use Rattle.rules.specs.Lists.{Progress, refineEach, sparesAnswer, allOrNothing}
+use Rattle.rules.specs.Reports.{reportIn, reportedAs}
 use Rattle.rules.specs.Sound.{Sound}
 use Rattle.rules.specs.Spares.{Spares, SameSizes}
 use Rattle.rules.specs.Tables.{Mesh, topologyOf, withTopology}
@@ -75,9 +79,84 @@ refusedBatch n counts = record {
 abbrev pub onlyRead : Mesh → Outcome → Outcome
 onlyRead m o = outcomeOf (o .answer) m (o .room)
 
+-- The answer of a preview that is refused before the work.
+abbrev pub refusedForeseen : ℕ → Counts → BatchForeseen
+refusedForeseen n counts = record {
+  refusal = n;
+  splits = 0;
+  flips = 0;
+  «foreseen_vertices» = counts .vertices;
+  «foreseen_triangles» = counts .triangles;
+  handled = 0;
+  spares = record { vertices = 0; triangles = 0; rule = 0 };
+}
+
+-- What is foreseen where the work r was made of a mesh with these counts.
+abbrev pub foreseenIf : ℕ → Counts → Batch → BatchForeseen
+foreseenIf zero counts r = record {
+  refusal = 0;
+  splits = r .splits;
+  flips = r .flips;
+  «foreseen_vertices» = r .counts .vertices;
+  «foreseen_triangles» = r .counts .triangles;
+  handled = r .handled;
+  spares = r .counts;
+}
+foreseenIf (suc n) counts r = record {
+  refusal = suc n;
+  splits = 0;
+  flips = 0;
+  «foreseen_vertices» = counts .vertices;
+  «foreseen_triangles» = counts .triangles;
+  handled = r .handled;
+  spares = r .counts;
+}
+
+abbrev pub foreseenOf : Counts → Batch → BatchForeseen
+foreseenOf counts r = foreseenIf (r .refusal) counts r
+
 -- The outcome of a preview of m.
 abbrev pub foreseenOutcome : BatchForeseen → Mesh → Spares → Outcome
 foreseenOutcome a m s =
     let n = topologyOf (a .«foreseen_vertices») (a .«foreseen_triangles») [] [] [] in
     outcomeOf (sparesAnswer (a .refusal) (a .splits) (a .flips) (withTopology n m) (a .handled)
     (meshNow (a .spares) [] [] [] [] [])) m (spareRoom s)
+
+-- ---- with a report
+
+-- The work p, refused with 23 where it is not refused and a report of so many entries is too short.
+abbrev pub fittedIf : ℕ → Bool → Progress → Progress
+fittedIf (suc n) short p = p
+fittedIf zero true p = record { work = p .work; handled = p .handled; refusal = 23 }
+fittedIf zero false p = p
+
+abbrev pub fitted : Progress → List ℕ → Progress
+fitted p report = fittedIf (p .refusal) (ltb (length report) (length (p .work .report))) p
+
+-- The same of what was answered.
+abbrev pub fitIf : ℕ → Bool → Batch → Batch
+fitIf (suc n) short r = r
+fitIf zero true r = record {
+  refusal = 23;
+  splits = r .splits;
+  flips = r .flips;
+  handled = r .handled;
+  counts = r .counts;
+}
+fitIf zero false r = r
+
+abbrev pub fitIn : ℕ → Batch → Batch
+fitIn entries r = fitIf (r .refusal) (ltb entries (3 * r .splits + 2 * r .flips)) r
+
+-- What is left of a buffer: the report l, unless the work is refused.
+abbrev pub leftUnless : ℕ → List ℕ → List ℕ → List ℕ
+leftUnless zero l buffer = reportIn l buffer
+leftUnless (suc n) l buffer = buffer
+
+abbrev pub reportLeft : Progress → List ℕ → List ℕ
+reportLeft p buffer = leftUnless (fitted p buffer .refusal) (p .work .report) buffer
+
+-- What comes of the work p with a buffer for its report, where neither the mesh nor the spare tables are refused.
+abbrev pub reportedDone : Progress → List ℕ → Mesh → Spares → Outcome
+reportedDone p buffer m s =
+    reportedAs (p .refusal) (p .work .report) buffer (allOrNothing (p .refusal) p s m) (allOrNothing 23 p s m)

@@ -12,7 +12,8 @@ ghost use mathlib.Core.Bool.{not};
 ghost use Prim.Native.Nat.{ℕ, _+_, _-_, _*_, max};
 ghost use lib.Dec.{leb};
 ghost use lib.IntN.{ℤ};
-ghost use Rattle.rules.specs.Calls.{firstOf, _if_, roomFor, tooOld, altersLocked, worked, refineCall};
+ghost use Rattle.rules.specs.Calls.{firstOf, _if_, roomFor, tooOld, altersLocked, worked, refineCall, withReport};
+ghost use Rattle.rules.specs.Reports.{one, reportedCall};
 ghost use Rattle.rules.specs.Sound.{isSound};
 ghost use Rattle.rules.specs.Split.{atFirst, refine};
 ghost use Rattle.rules.specs.Tables.{tablesAgree};
@@ -22,12 +23,37 @@ ghost use Rattle.tables.specs.declared.Counts.{Counts};
 ghost use Rattle.split.specs.Made.{BaseChain};
 ghost use Rattle.refining.specs.Standing.{standing};
 ghost use Rattle.refining.specs.Locked.{Follows};
-ghost use Rattle.refining.specs.Finding.{Finds, Goes};
+ghost use Rattle.reporting.specs.Told.{Told, toldUnless};
+ghost use Rattle.refining.specs.Finding.{Finds, Goes, refusedReport};
 
 // What is found before a refine: its refusal, and where that is 0 the base chain of its triangle.
 pub struct Found {
     pub refusal: u32,
     pub chain: Chain,
+}
+
+// The answer of a refine with a report: the length of the report too.
+#[repr(C)]
+pub struct Reported {
+    pub worked: Worked,
+    pub reported: u32,
+}
+
+impl Reported {
+    // The answer of one that is refused.
+    pub fn refused(refusal: u32, counts: Counts) -> Self
+        ensures { λ r. ⌜ r ≡ refusedReport refusal counts ⌝ }
+    {
+        Self {
+            worked: Worked {
+                refusal,
+                splits: 0,
+                flips: 0,
+                counts,
+            },
+            reported: 0,
+        }
+    }
 }
 
 // Whether t may rise no more: it is of generation 20, or of 19 with its base on the boundary.
@@ -119,7 +145,7 @@ pub fn find(
     Found { refusal, chain }
 }
 
-// The refine of t along its base chain, which nothing refuses.
+// The refine of t along its base chain, which nothing refuses, told from place `at` of the report on.
 pub fn carry_out(
     positions: &mut [i32],
     corners: &mut [u32],
@@ -129,6 +155,8 @@ pub fn carry_out(
     counts: Counts,
     t: u32,
     chain: Chain,
+    report: &mut [u32],
+    at: usize,
 ) -> Worked
     requires { ⌜ Goes t (meshNow counts (now positions) (now corners) (now links) (now generations) (now locks))
         chain ⌝ }
@@ -137,8 +165,11 @@ pub fn carry_out(
         (now (locks .exit))
         ≡ worked (refine t (atFirst (meshNow counts (now (positions .entry)) (now (corners .entry))
         (now (links .entry)) (now (generations .entry)) (now (locks .entry))))) ⌝ }
+    ensures { λ r. ⌜ Told (refine t (atFirst (meshNow counts (now (positions .entry)) (now (corners .entry))
+        (now (links .entry)) (now (generations .entry)) (now (locks .entry)))) .report)
+        (now (report .entry)) (now (report .exit)) at ⌝ }
 {
-    let done = split::refine(
+    let done = reporting::refine(
         positions,
         corners,
         links,
@@ -147,6 +178,8 @@ pub fn carry_out(
         counts,
         t,
         chain,
+        report,
+        at,
     );
     Worked {
         refusal: 0,
@@ -160,7 +193,7 @@ pub fn carry_out(
     }
 }
 
-// Refines triangle t of a mesh whose first refusal is known.
+// Refines triangle t of a mesh whose first refusal is known, told from place `at` of the report on.
 pub fn refine(
     positions: &mut [i32],
     corners: &mut [u32],
@@ -170,6 +203,8 @@ pub fn refine(
     counts: Counts,
     t: u32,
     bad: u32,
+    report: &mut [u32],
+    at: usize,
 ) -> Worked
     requires { ⌜ bad ≡ standing (meshNow counts (now positions) (now corners) (now links) (now generations)
         (now locks)) ⌝ }
@@ -178,6 +213,9 @@ pub fn refine(
         (now (locks .exit))
         ≡ refineCall t (meshNow counts (now (positions .entry)) (now (corners .entry)) (now (links .entry))
         (now (generations .entry)) (now (locks .entry))) ⌝ }
+    ensures { λ r. ⌜ Told (toldUnless (r .refusal) (refine t (atFirst (meshNow counts (now (positions .entry))
+        (now (corners .entry)) (now (links .entry)) (now (generations .entry)) (now (locks .entry)))) .report))
+        (now (report .entry)) (now (report .exit)) at ⌝ }
 {
     let found = find(positions, links, generations, locks, counts, t, bad);
     if found.refusal != 0 {
@@ -197,5 +235,54 @@ pub fn refine(
         counts,
         t,
         found.chain,
+        report,
+        at,
     )
+}
+
+// Refines triangle t of a mesh whose first refusal is known, and reports the slots that it writes.
+pub fn refine_reported(
+    positions: &mut [i32],
+    corners: &mut [u32],
+    links: &mut [u32],
+    generations: &mut [u8],
+    locks: &mut [u8],
+    counts: Counts,
+    t: u32,
+    bad: u32,
+    report: &mut [u32],
+) -> Reported
+    requires { ⌜ bad ≡ standing (meshNow counts (now positions) (now corners) (now links) (now generations)
+        (now locks)) ⌝ }
+    ensures { λ r. ⌜
+        withReport (now (report .exit)) (r .reported) (workedOutcome (r .worked) (now (positions .exit))
+        (now (corners .exit)) (now (links .exit)) (now (generations .exit)) (now (locks .exit)))
+        ≡ reportedCall (one t) (now (report .entry)) (meshNow counts (now (positions .entry)) (now (corners .entry))
+        (now (links .entry)) (now (generations .entry)) (now (locks .entry))) ⌝ }
+{
+    let found = find(positions, links, generations, locks, counts, t, bad);
+    if found.refusal != 0 {
+        return Reported::refused(found.refusal, counts);
+    }
+    let chain = found.chain;
+    let length = reporting::report_length(links, generations, chain);
+    if report.len() < length {
+        return Reported::refused(23, counts);
+    }
+    let done = carry_out(
+        positions,
+        corners,
+        links,
+        generations,
+        locks,
+        counts,
+        t,
+        chain,
+        report,
+        0,
+    );
+    Reported {
+        worked: done,
+        reported: length as u32,
+    }
 }

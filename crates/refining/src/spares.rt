@@ -1,10 +1,11 @@
 // Work in spare tables: what it made of a mesh, and how this is carried back.
 use tables::Counts;
 ghost use mathlib.Core.Path.{_≡_};
+ghost use Prim.Native.Nat.{_≤_};
 ghost use Rattle.rules.specs.Lists.{Progress, allOrNothing};
 ghost use Rattle.rules.specs.Spares.{Spares};
 ghost use Rattle.tables.specs.Lent.{meshNow, sparesNow};
-ghost use Rattle.refining.specs.Batches.{Made, batchOutcome, refusedBatch};
+ghost use Rattle.refining.specs.Batches.{Made, batchOutcome, refusedBatch, fitIn};
 
 // Refines made one after the other: the number that the next one failed with, 0 for none, how many succeeded, and the
 // counts of the mesh in the spare tables.
@@ -45,6 +46,34 @@ impl BatchWorked {
                 rule: 0,
             },
         }
+    }
+}
+
+// The answer of such a call with a report: the length of the report too.
+#[repr(C)]
+pub struct BatchReported {
+    pub worked: BatchWorked,
+    pub reported: u32,
+}
+
+// Work whose report is to go into so many entries: refused with 23 where these are too few.
+pub fn fit(work: Batch, entries: usize) -> Batch
+    requires { ⌜ (work .splits ≤ 32768) × (work .flips ≤ 98304) ⌝ }
+    ensures { λ r. ⌜ r ≡ fitIn entries work ⌝ }
+{
+    if work.refusal != 0 {
+        return work;
+    }
+    if 3 * (work.splits as usize) + 2 * (work.flips as usize) <= entries {
+        return work;
+    }
+    let reached = work.counts;
+    Batch {
+        refusal: 23,
+        splits: work.splits,
+        flips: work.flips,
+        handled: work.handled,
+        counts: reached,
     }
 }
 

@@ -2,6 +2,8 @@
 pub mod FirstThatHolds
 pub mod CallRefusals
 pub mod Carried
+pub mod Reporting
 pub mod EveryCall
 pub mod Outcomes
 pub mod Histories
+pub mod ReportedCalls

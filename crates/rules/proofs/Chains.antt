@@ -8,6 +8,7 @@ pub mod Refine
 pub mod RefineLoop
 pub mod Altering
 pub mod Altered
+pub mod Flipping
 pub mod Noted
 pub mod Listed
 pub mod Kobbelt

@@ -24,6 +24,7 @@ use Rattle.rules.specs.Spares.{Spares, copied, sameSizes}
 use Rattle.rules.specs.Split.{faceCut, flip, centre, facePlaced, settle, faceSplit, chainEndWithin, chainAt}
 use Rattle.rules.specs.Split.{chainOddWithin, raise, refine, rimCut, firstThird, secondThird, rimPlaced, rimSplit}
 use Rattle.rules.specs.Step.{sumOver, movedCoordinate, moveVertices, refineFirst, wholeStep, limitCoordinate}
+use Rattle.rules.specs.Reports.{reportedCall, reportForeseen}
 use Rattle.rules.specs.Step.{limitPositions}
 use Rattle.rules.specs.Tables.{Mesh, topologyOf, meshOf, tablesAgree}
 
@@ -39,6 +40,7 @@ unfolding all any lowest total fill cageOf partner loaded sizesFit cornersFit co
     sparesRefusal listCall previewCall wanted refineWanted boxRefusal boxCall chainAt
     altersLocked someLocked lockRefusal lockCall viewRefusal viewCall
     those differs ninesOf notedRefusal notedCall putBackAll restored sameInUse accepted takeBackRefusal takeBackCall
+    reportedCall reportForeseen
 computing = tt
 
 -- The mesh after these changes, and the outcome of each.

@@ -13,9 +13,10 @@ use Rattle.rules.specs.Boxes.{Box}
 use Rattle.rules.specs.Calls.{Outcome}
 use Rattle.rules.specs.History.{Change, loads, refines, steps, refinesEach, refinesInBox, setsLock, ringOf}
 use Rattle.rules.specs.History.{positionOf, limitsOf, asked, changes, asks, previewOf, outcome, outcomes}
-use Rattle.rules.specs.History.{refinesNoted, takesBack, nothing, cage, lastLoad, edges}
+use Rattle.rules.specs.History.{refinesNoted, takesBack, reports, previewReported, nothing, cage, lastLoad, edges}
 use Rattle.rules.specs.Mirror.{mirror, mirrorTable}
 use Rattle.rules.specs.Numbers.{nearestThird, rounded}
+use Rattle.rules.specs.Reports.{one, each, inBox}
 use Rattle.rules.specs.Sound.{isSound}
 use Rattle.rules.specs.Tables.{Mesh, topologyOf, meshOf, withLocks, sides, origin, link, generation, coordinate}
 use Rattle.rules.specs.Tables.{triangleSlots}
@@ -425,6 +426,26 @@ pub record Table : Type 0 where
   pub twoTakenBack : map lineOf (drop 4 (madeEach (loads 1 tetrahedron ∷ refines 0 ∷ refines 0 ∷ refines 0
       ∷ refines 3 ∷ refines 1 ∷ takesBack fourthNote ∷ []) store)) ≡
       (0 ∷ 1 ∷ 2 ∷ 8 ∷ 12 ∷ []) ∷ (0 ∷ 1 ∷ 1 ∷ 9 ∷ 14 ∷ []) ∷ (0 ∷ 0 ∷ 0 ∷ 7 ∷ 10 ∷ []) ∷ []
+  -- What the refines of the outline's run report: a split its own slot and the new ones, a flip s and then u. Later
+  -- entries of the buffer stay. (Request m)
+  pub runReported : map (λ o. o .room .report) (drop 1 (madeEach (loads 1 tetrahedron
+      ∷ reports (one 0) (replicate 5 77) ∷ reports (one 0) (replicate 5 77) ∷ reports (one 0) (replicate 5 77)
+      ∷ reports (one 0) (replicate 12 77) ∷ []) store)) ≡
+      (0 ∷ 4 ∷ 5 ∷ 77 ∷ 77 ∷ []) ∷ (1 ∷ 6 ∷ 7 ∷ 7 ∷ 0 ∷ []) ∷ (0 ∷ 8 ∷ 9 ∷ 77 ∷ 77 ∷ [])
+      ∷ (3 ∷ 10 ∷ 11 ∷ 10 ∷ 1 ∷ 11 ∷ 5 ∷ 1 ∷ 12 ∷ 13 ∷ 13 ∷ 0 ∷ []) ∷ []
+  -- A face split and the three rim splits of Figure 8.
+  pub rimReported : map (λ o. o .room .report) (drop 1 (madeEach (loads 1 triangle
+      ∷ reports (one 0) (replicate 3 77) ∷ reports (one 0) (replicate 3 77) ∷ reports (one 1) (replicate 5 77)
+      ∷ reports (one 2) (replicate 8 77) ∷ []) store)) ≡
+      (0 ∷ 1 ∷ 2 ∷ []) ∷ (0 ∷ 3 ∷ 4 ∷ []) ∷ (1 ∷ 5 ∷ 6 ∷ 1 ∷ 4 ∷ []) ∷ (2 ∷ 7 ∷ 8 ∷ 2 ∷ 6 ∷ 8 ∷ 0 ∷ 77 ∷ []) ∷ []
+  -- A list, its preview, and a box of four turns, with what is answered of the length.
+  pub listReported : map (λ o. o .answer .reported ∷ o .room .report)
+      (outcome (changes (reports (each (0 ∷ 0 ∷ 1 ∷ []) (sevens 12 20)) (replicate 9 77))) solid
+      ∷ outcome (asks (previewReported (0 ∷ 0 ∷ 1 ∷ []) (sevens 12 20) (replicate 9 77))) solid ∷ []) ≡
+      replicate 2 (8 ∷ 0 ∷ 4 ∷ 5 ∷ 1 ∷ 6 ∷ 7 ∷ 7 ∷ 0 ∷ 77 ∷ [])
+  pub boxReported :
+      outcome (changes (reports (inBox (everywhere 1) (sevens 12 20)) (replicate 24 77))) solid .room .report ≡
+      0 ∷ 4 ∷ 5 ∷ 1 ∷ 6 ∷ 7 ∷ 7 ∷ 0 ∷ 2 ∷ 8 ∷ 9 ∷ 2 ∷ 6 ∷ 9 ∷ 4 ∷ 3 ∷ 10 ∷ 11 ∷ 3 ∷ 8 ∷ 10 ∷ 1 ∷ 11 ∷ 5 ∷ []
 
 pub readings : Table
 unfolding computing mirrorTable fresh sevens listed heldBy tetrahedron triangle store solid smoothed sideOne throughOne
@@ -514,4 +535,8 @@ readings = record {
   staleNote = refl;
   otherTriangle = refl;
   twoTakenBack = refl;
+  runReported = refl;
+  rimReported = refl;
+  listReported = refl;
+  boxReported = refl;
 }

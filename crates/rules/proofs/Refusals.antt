@@ -10,8 +10,9 @@ use Rattle.rules.specs.Boxes.{Box}
 use Rattle.rules.specs.Calls.{zeroPoint}
 use Rattle.rules.specs.History.{Change, loads, refines, steps, refinesEach, refinesInBox, setsLock, ringOf}
 use Rattle.rules.specs.History.{positionOf, limitsOf, previewOf, pointSeen, trianglesSeen, Call, changes, asks}
-use Rattle.rules.specs.History.{refinesNoted, takesBack, outcome}
+use Rattle.rules.specs.History.{refinesNoted, takesBack, reports, outcome}
 use Rattle.rules.specs.Spares.{Spares}
+use Rattle.rules.specs.Reports.{one, withNote}
 use Rattle.rules.specs.Tables.{Mesh, topologyOf, meshOf, withLocks, withRule, boundary}
 
 -- The refusal of the last call, on a mesh, after the others.
@@ -257,6 +258,13 @@ pub record Table : Type 0 where
   -- A refine that changes three slots, with 0, 30, 31 and 32 entries for its note; after 8, 9, 19 and 11.
   pub n22 : map (λ n. refusalAfter [] (changes (refinesNoted 0 (replicate n 7))) solid)
       (0 ∷ 30 ∷ 31 ∷ 32 ∷ []) ≡ 22 ∷ 22 ∷ 0 ∷ 0 ∷ []
+  -- A refine that reports three slots, with 0, 2, 3 and 4 entries for them; after 22, 11 and 8. (Request m)
+  pub n23 : map (λ n. refusalAfter [] (changes (reports (one 0) (replicate n 7))) solid)
+      (0 ∷ 2 ∷ 3 ∷ 4 ∷ []) ≡ 23 ∷ 23 ∷ 0 ∷ 0 ∷ []
+  pub noteBeforeReport : map (λ n. refusalAfter [] (changes (reports (withNote 0 (replicate n 7)) [])) solid)
+      (30 ∷ 31 ∷ []) ≡ 22 ∷ 23 ∷ []
+  pub roomBeforeReport : refusalAfter (loads 1 tetrahedron ∷ []) (changes (reports (one 0) [])) (fresh 6 5) ≡ 11
+  pub unusedBeforeReport : refusalAfter [] (changes (reports (one 4) [])) solid ≡ 8
   pub roomBeforeNote : refusalAfter (loads 1 tetrahedron ∷ []) (changes (refinesNoted 0 [])) (fresh 6 5) ≡ 11
   pub lockBeforeNote : refusalAfter (setsLock true 0 ∷ []) (changes (refinesNoted 0 [])) solid ≡ 19
   pub unusedBeforeNote : refusalAfter [] (changes (refinesNoted 4 [])) solid ≡ 8
@@ -336,6 +344,10 @@ refusals = record {
   longerIsAccepted = refl;
   soundBeforeNote = refl;
   n22 = refl;
+  n23 = refl;
+  noteBeforeReport = refl;
+  roomBeforeReport = refl;
+  unusedBeforeReport = refl;
   roomBeforeNote = refl;
   lockBeforeNote = refl;
   unusedBeforeNote = refl;

@@ -21,6 +21,9 @@ use Rattle.rules.proofs.Calls.Outcomes.{load-makes, refine-makes, chain
 use Rattle.rules.proofs.Calls.Outcomes.{refine-is-least, noted-short, noted-as-refine, few-noted, noted-enough}
 use Rattle.rules.proofs.Calls.Outcomes.{take-back-makes, whole-step-makes, lock-makes, limit-makes, ring-reads}
 use Rattle.rules.proofs.Calls.Outcomes.{position-reads, view-reads}
+use Rattle.rules.proofs.Calls.ReportedCalls.{reported-refusal, reported-makes, reported-short}
+use Rattle.rules.proofs.Calls.ReportedCalls.{reported-as-plain, foreseen-reported, report-tells, report-bound}
+use Rattle.rules.proofs.Calls.ReportedCalls.{refine-report-bound}
 use Rattle.rules.proofs.Chains.Least.{run-least}
 use Rattle.rules.proofs.Chains.Refine.{chain-counts, chain-takes}
 use Rattle.rules.proofs.Lists.Entries.{handled-then}
@@ -41,12 +44,13 @@ use Rattle.rules.proofs.Soundness.SoundTest.{sound-is}
 use Rattle.rules.proofs.Spares.Adds.{refine-adds}
 use Rattle.rules.specs.Boxes.{Box, refineInBox, boxRefusal, boxCall}
 use Rattle.rules.specs.Cage.{Cage, cageOf, loaded, someInnerOfTwo}
-use Rattle.rules.specs.Calls.{outcomeOf, worked, loadCall, refineCall, wholeStepCall, ringRead, ringCall}
+use Rattle.rules.specs.Calls.{outcomeOf, withReport, worked, loadCall, refineCall, wholeStepCall, ringRead}
+use Rattle.rules.specs.Calls.{ringCall}
 use Rattle.rules.specs.Calls.{positionRead, positionCall, limitRead, limitCall, splitsOf}
 use Rattle.rules.specs.Calls.{rimSplitsOf, verticesOf, trianglesOf, spareRoom, refusedWith, withLock, lockCall}
 use Rattle.rules.specs.Calls.{viewRead, viewCall}
 use Rattle.rules.specs.Conditions.{SidesDiffer, EndsAtBoundary, OddInChain, First, loadConditions, lockConditions}
-use Rattle.rules.specs.Conditions.{viewConditions, notedConditions, takeBackConditions}
+use Rattle.rules.specs.Conditions.{viewConditions, notedConditions, takeBackConditions, reportedConditions}
 use Rattle.rules.specs.Conditions.{refineConditions, wholeStepConditions, limitConditions, ringConditions}
 use Rattle.rules.specs.Conditions.{positionConditions, listConditions, Takes, FailsAfter}
 use Rattle.rules.specs.Conditions.{SizesFit, CornersFit, FansFit, InnerOfTwo, SomeInnerOfTwo}
@@ -62,7 +66,9 @@ use Rattle.rules.specs.Numbers.{nearestThird, rounded}
 use Rattle.rules.specs.Promises.{Nearest, Matches, Loaded, ChainFalls, RefineMakes, added, StepMakes, LimitMakes}
 use Rattle.rules.specs.Promises.{refusedAs, AgreeInUse, RingMakes, kobbelt, ListMakes, SameWork, BackToBack}
 use Rattle.rules.specs.Promises.{BoxMakes, LockMakes, Stands, NoLoad, NoClearing, LeaveLocked, LinksFollow}
-use Rattle.rules.specs.Promises.{NoTakeBack, NoneTakenBack, HasNote, NotedMakes, TakeBackMakes}
+use Rattle.rules.specs.Promises.{NoTakeBack, NoneTakenBack, HasNote, NotedMakes, TakeBackMakes, Listed}
+use Rattle.rules.specs.Promises.{Unreported}
+use Rattle.rules.specs.Reports.{Refining, each, plainCall, workOf, reportIn, reportedCall, reportForeseen}
 use Rattle.rules.specs.Runs.{MayRun, ran, LeastDisturbance}
 use Rattle.rules.specs.Sound.{Sound, isSound}
 use Rattle.rules.specs.Spares.{Spares, copied, meshIn, SameSizes}
@@ -115,6 +121,11 @@ noted-returns = noted-refusal
 pub take-back-returns : (note : List ℕ) (m : Mesh)
     → First (takeBackConditions note m) (takeBackCall note m .answer .refusal)
 take-back-returns = take-back-refusal
+
+-- So does a call with a report: after what refuses it without one, 23 where the buffer is too short. (Request m)
+pub reported-returns : (r : Refining) (buffer : List ℕ) (m : Mesh)
+    → First (reportedConditions r buffer m) (reportedCall r buffer m .answer .refusal)
+reported-returns = reported-refusal
 
 -- So does a whole step.
 pub whole-step-returns : (m : Mesh) → First (wholeStepConditions m) (wholeStepCall m .answer .refusal)
@@ -342,7 +353,8 @@ pub list-held : (list : List ℕ) (spares : Spares) (m : Mesh) → SameSizes spa
     (listCall list spares m .room ≡ spareRoom (copied n spares)) × Sound (meshIn (copied n spares) n)
 list-held = held-in-spares
 
--- A refine adds its splits and flips to those made before it, and makes of the mesh what it makes alone.
+-- A refine adds its splits, flips and report to those made before it, in this order, and makes of the mesh what it
+-- makes alone.
 pub list-sums : (t : ℕ) (w : Work) → refine t w ≡ added w (refine t (atFirst (w .mesh)))
 list-sums = refine-adds
 
@@ -404,8 +416,8 @@ preview-repeats = preview-again
 -- ---- a box (Request h)
 
 -- A box that is carried out answers and leaves what its turns make, each a refine of the lowest triangle below the
--- generation with a corner in it; their splits and flips are added up (list-sums). Then no such triangle is left, which
--- is what the engraver relies on.
+-- generation with a corner in it; their splits and flips are added up and their reports joined (list-sums). Then no
+-- such triangle is left, which is what the engraver relies on.
 pub box-carried : (b : Box) (spares : Spares) (m : Mesh) → boxCall b spares m .answer .refusal ≡ 0
     → let p = refineInBox b m in
     (boxCall b spares m ≡ allOrNothing 0 p spares m) × BoxMakes b m p
@@ -459,6 +471,54 @@ pub box-turn : {b : Box} {t : ℕ} {m : Mesh} → Sound m → LowestWanted b m t
     × (m .topology .triangles + 2 ≤ n .topology .triangles)
 box-turn = turn-takes
 
+-- ---- reports (Request m)
+
+-- A call with a report that is carried out does what it does without one, and writes the report of its work to the
+-- first entries of the buffer.
+pub reported-carried : (r : Refining) (buffer : List ℕ) (m : Mesh) → reportedCall r buffer m .answer .refusal ≡ 0
+    → (plainCall r m .answer .refusal ≡ 0) × (length (workOf r m .report) ≤ length buffer)
+    × (reportedCall r buffer m
+    ≡ withReport (reportIn (workOf r m .report) buffer) (length (workOf r m .report)) (plainCall r m))
+reported-carried = reported-makes
+
+-- It is refused with 23 exactly where it is not refused without a report, and the buffer is shorter than this.
+pub reported-too-short : (r : Refining) (buffer : List ℕ) (m : Mesh) →
+    (reportedCall r buffer m .answer .refusal ≡ 23)
+    ↔ ((plainCall r m .answer .refusal ≡ 0) × (length buffer < length (workOf r m .report)))
+reported-too-short = reported-short
+
+-- With any other number, or carried out, it is the call without a report, but for the buffer and the length answered.
+pub reported-is-plain : (r : Refining) (buffer : List ℕ) (m : Mesh) →
+    let o = reportedCall r buffer m in
+    o .answer .refusal ≢ 23 → o ≡ withReport (o .room .report) (o .answer .reported) (plainCall r m)
+reported-is-plain = reported-as-plain
+
+-- A preview with a report answers, reports and leaves in the spare tables what the list would, and the mesh stands.
+pub preview-reports-list : (list : List ℕ) (spares : Spares) (buffer : List ℕ) (m : Mesh) →
+    let o = reportedCall (each list spares) buffer m in
+    reportForeseen list spares buffer m ≡ outcomeOf (o .answer) m (o .room)
+preview-reports-list = foreseen-reported
+
+-- The report has three slots for each split and two for each flip. A slot in use that it does not name was in use
+-- before, and keeps its corners, its generation and its links, save links that point at a reported slot, before and
+-- after.
+pub report-whole : (r : Refining) (m : Mesh) → plainCall r m .answer .refusal ≡ 0 →
+    let w = workOf r m in
+    (length (w .report) ≡ 3 * w .splits + 2 * w .flips)
+    × ((x : ℕ) → x < w .mesh .topology .triangles → ¬ Listed (w .report) x
+    → (x < m .topology .triangles) × Unreported (w .report) (m .topology) (w .mesh .topology) x)
+report-whole = report-tells
+
+-- With T triangle slots, 3 T - 2 F entries do for every call.
+pub report-in-3T : (r : Refining) (m : Mesh) → plainCall r m .answer .refusal ≡ 0
+    → length (workOf r m .report) + 2 * m .topology .triangles ≤ 3 * triangleSlots m
+report-in-3T = report-bound
+
+-- For one refine 54 do.
+pub report-in-54 : (t : ℕ) (m : Mesh) → refineCall t m .answer .refusal ≡ 0
+    → length (refine t (atFirst m) .report) ≤ 54
+report-in-54 = refine-report-bound
+
 -- ---- whole step (Whole step)
 
 -- A whole step that is carried out answers and leaves what `wholeStep` makes.
@@ -501,7 +561,8 @@ pub locked-stands-after : (x : ℕ) (cs : List Call) (m : Mesh) → Locked m x �
     → Stands x m (after cs m) × Locked (after cs m) x
 locked-stands-after = history-stands
 
--- Where a refine is taken back, the links of a locked triangle have followed from the mesh that is left to the one before.
+-- Where a refine is taken back, the links of a locked triangle have followed from the mesh that is left to the one
+-- before.
 pub locked-goes-back : (x : ℕ) (note : List ℕ) (m : Mesh) → Locked m x → takeBackCall note m .answer .refusal ≡ 0
     → LinksFollow x (takeBackCall note m .mesh .topology) (m .topology)
 locked-goes-back = goes-back
@@ -549,7 +610,7 @@ view-carried = view-reads
 
 -- For every list of calls, begun on any tables and counts, once a load in it was accepted: all links are mutual;
 -- vertices minus edges plus triangles is that of the cage of the last accepted load; neighbours' generations differ as
--- demanded; and a refine that follows, with a note or without, makes and reports what is demanded.
+-- demanded; and a refine that follows, with a note or a report or without, makes and reports what is demanded.
 pub third-demand : EveryHistory
 third-demand = every-history
 

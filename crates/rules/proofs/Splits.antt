@@ -12,6 +12,8 @@ pub mod Settled
 pub mod Told
 pub mod Cut
 pub mod PartsCut
+pub mod Reported
+pub mod Flipped
 pub mod Unlocking
 pub mod Following
 pub mod Places

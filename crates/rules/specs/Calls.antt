@@ -19,8 +19,9 @@ use Rattle.rules.specs.Tables.{generation, odd, isBase, coordinate, lock
 
 -- What a call answers: the number of its refusal, 0 for none, the splits and flips that it made, the length of a ring,
 -- a position, and the counts: V, F and the rule; and of work in spare tables (requests e, h) how many entries of a
--- list, or turns of a box, succeeded, and the counts of the mesh in them. A preview (request f) answers what its list
--- would. The calls build it by `answerOf` and `sparesAnswer` alone.
+-- list, or turns of a box, succeeded, and the counts of the mesh in them; and the length of a report (request m). A
+-- preview (request f) answers what its list would. The calls build it by `answerOf` and `sparesAnswer`, and where a
+-- buffer for a report is lent by `withReport`, alone.
 pub record Answer : Type 0 where
   pub refusal : ℕ
   pub splits : ℕ
@@ -34,13 +35,15 @@ pub record Answer : Type 0 where
   pub spareVertices : ℕ
   pub spareTriangles : ℕ
   pub spareRule : ℕ
+  pub reported : ℕ
 
--- What a call is lent beside the mesh: a buffer for a ring or a note, a table of points, spare tables. What it is not
--- lent is empty. Of a viewer's f32 the crate `viewer` tells.
+-- What a call is lent beside the mesh: a buffer for a ring or a note, a table of points, spare tables, a buffer for a
+-- report. What it is not lent is empty. Of a viewer's f32 the crate `viewer` tells.
 pub record Room : Type 0 where
   pub buffer : List ℕ
   pub table : List ℤ
   pub spares : Spares
+  pub report : List ℕ
 
 -- A call's answer, the mesh that it leaves and what it leaves in its room.
 pub record Outcome : Type 0 where
@@ -63,24 +66,47 @@ answerOf refusal splits flips n point m = record {
   spareVertices = 0;
   spareTriangles = 0;
   spareRule = 0;
+  reported = 0;
 }
 
 -- No room; a buffer, a table, spare tables alone.
 abbrev pub noRoom : Room
-noRoom = record { buffer = []; table = []; spares = noSpares }
+noRoom = record { buffer = []; table = []; spares = noSpares; report = [] }
 
 abbrev pub bufferRoom : List ℕ → Room
-bufferRoom buffer = record { buffer = buffer; table = []; spares = noSpares }
+bufferRoom buffer = record { buffer = buffer; table = []; spares = noSpares; report = [] }
 
 abbrev pub tableRoom : List ℤ → Room
-tableRoom table = record { buffer = []; table = table; spares = noSpares }
+tableRoom table = record { buffer = []; table = table; spares = noSpares; report = [] }
 
 abbrev pub spareRoom : Spares → Room
-spareRoom spares = record { buffer = []; table = []; spares = spares }
+spareRoom spares = record { buffer = []; table = []; spares = spares; report = [] }
 
 -- An outcome from its parts.
 abbrev pub outcomeOf : Answer → Mesh → Room → Outcome
 outcomeOf answer m room = record { answer = answer; mesh = m; room = room }
+
+-- An outcome with the buffer for a report as the call leaves it, and the length n of the report, 0 on a refusal.
+-- (Request m)
+abbrev pub withReport : List ℕ → ℕ → Outcome → Outcome
+withReport report n o =
+    let a = o .answer in
+    let r = o .room in
+    outcomeOf (record {
+      refusal = a .refusal;
+      splits = a .splits;
+      flips = a .flips;
+      ringLength = a .ringLength;
+      point = a .point;
+      vertices = a .vertices;
+      triangles = a .triangles;
+      rule = a .rule;
+      handled = a .handled;
+      spareVertices = a .spareVertices;
+      spareTriangles = a .spareTriangles;
+      spareRule = a .spareRule;
+      reported = n;
+    }) (o .mesh) (record { buffer = r .buffer; table = r .table; spares = r .spares; report = report })
 
 -- What is answered where no position is asked for.
 abbrev pub zeroPoint : ℤ × ℤ × ℤ

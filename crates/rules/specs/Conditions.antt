@@ -11,6 +11,7 @@ use Rattle.rules.specs.Cage.{Cage, cageOf, loaded}
 use Rattle.rules.specs.Notes.{changedSlots, Accepted}
 use Rattle.rules.specs.Numbers.{InRange, KnownRule}
 use Rattle.rules.specs.Ring.{OnBoundary, triangleCount, ring}
+use Rattle.rules.specs.Reports.{Refining, one, withNote, each, inBox, workOf}
 use Rattle.rules.specs.Sound.{OneFan, Sound}
 use Rattle.rules.specs.Spares.{Spares, SameSizes}
 use Rattle.rules.specs.Split.{Work, atFirst, refine}
@@ -333,3 +334,14 @@ boxConditions b spares m =
     ∷ 19 when SomeTurnFails 19 b m
     ∷ 11 when SomeTurnFails 11 b m
     ∷ []
+
+-- Those of a call that refines, and then 23: the buffer is shorter than the report. (Request m)
+abbrev pub plainConditions : Refining → Mesh → List Condition
+plainConditions (one t) m = refineConditions t m
+plainConditions (withNote t note) m = notedConditions t note m
+plainConditions (each list spares) m = listConditions list spares m
+plainConditions (inBox b spares) m = boxConditions b spares m
+
+abbrev pub reportedConditions : Refining → List ℕ → Mesh → List Condition
+reportedConditions r buffer m =
+    plainConditions r m ++ (23 when (length buffer < length (workOf r m .report)) ∷ [])

@@ -14,12 +14,14 @@ use Rattle.rules.specs.Calls.{refineCall, wholeStepCall, lockCall, ringC
 use Rattle.rules.specs.Conditions.{OddInChain, EndsAtBoundary}
 use Rattle.rules.specs.Lists.{listCall, previewCall}
 use Rattle.rules.specs.Notes.{notedCall, takeBackCall}
+use Rattle.rules.specs.Reports.{Refining, one, withNote, reportedCall, reportForeseen}
 use Rattle.rules.specs.Spares.{Spares}
 use Rattle.rules.specs.Tables.{Topology, Mesh, sides, link, boundary, generation, next}
 
 -- A call that may change the mesh, with its arguments: a rule and a cage's bytes; a triangle; none; a list of triangles
 -- and spare tables; a box and spare tables; whether to set or to clear, and a triangle; a triangle and what is lent for
--- its note; a note. What a call is lent are lists of their own, never one of the mesh's tables.
+-- its note; a note; a call that refines and a buffer for its report. What a call is lent are lists of their own, never
+-- one of the mesh's tables.
 pub data Change : Type 0 where
   loads : ℕ → List ℕ → Change
   refines : ℕ → Change
@@ -29,15 +31,17 @@ pub data Change : Type 0 where
   setsLock : Bool → ℕ → Change
   refinesNoted : ℕ → List ℕ → Change
   takesBack : List ℕ → Change
+  reports : Refining → List ℕ → Change
 
 -- A call that reads the mesh: a vertex and a ring buffer, a vertex, a table for limit positions, a list of triangles
--- and spare tables; and for a viewer a vertex, which is a position query, and the length of a table. A preview
--- answers the counts that the list would leave; those of the mesh stand.
+-- and spare tables, alone or with a buffer for the report; and for a viewer a vertex, which is a position query, and
+-- the length of a table. A preview answers the counts that the list would leave; those of the mesh stand.
 pub data Question : Type 0 where
   ringOf : ℕ → List ℕ → Question
   positionOf : ℕ → Question
   limitsOf : List ℤ → Question
   previewOf : List ℕ → Spares → Question
+  previewReported : List ℕ → Spares → List ℕ → Question
   pointSeen : ℕ → Question
   trianglesSeen : ℕ → Question
 
@@ -56,12 +60,14 @@ changed (refinesInBox box spares) m = boxCall box spares m
 changed (setsLock on t) m = lockCall on t m
 changed (refinesNoted t note) m = notedCall t note m
 changed (takesBack note) m = takeBackCall note m
+changed (reports r buffer) m = reportedCall r buffer m
 
 abbrev pub asked : Question → Mesh → Outcome
 asked (ringOf v buffer) m = ringCall v buffer m
 asked (positionOf v) m = positionCall v m
 asked (limitsOf table) m = limitCall table m
 asked (previewOf list spares) m = previewCall list spares m
+asked (previewReported list spares buffer) m = reportForeseen list spares buffer m
 asked (pointSeen v) m = positionCall v m
 asked (trianglesSeen n) m = viewCall n m
 
@@ -97,6 +103,7 @@ opens (changes (refinesInBox box spares)) m before = before
 opens (changes (setsLock on t)) m before = before
 opens (changes (refinesNoted t note)) m before = before
 opens (changes (takesBack note)) m before = before
+opens (changes (reports r buffer)) m before = before
 opens (asks q) m before = before
 
 -- The last accepted load after a list of calls.
@@ -160,6 +167,10 @@ pub record Kept (bytes : List ℕ) (m : Mesh) : Type 0 where
   pub refines : (t : ℕ) → refineCall t m .answer .refusal ≡ 0 → ReportsSplits m t (refineCall t m)
   pub refinesNoted : (t : ℕ) (note : List ℕ) → notedCall t note m .answer .refusal ≡ 0
       → ReportsSplits m t (notedCall t note m)
+  pub reports : (t : ℕ) (buffer : List ℕ) → reportedCall (one t) buffer m .answer .refusal ≡ 0
+      → ReportsSplits m t (reportedCall (one t) buffer m)
+  pub reportsNoted : (t : ℕ) (note buffer : List ℕ) → reportedCall (withNote t note) buffer m .answer .refusal ≡ 0
+      → ReportsSplits m t (reportedCall (withNote t note) buffer m)
 
 -- The customer's third demand: every list of calls, begun on any tables and counts.
 abbrev pub EveryHistory : Type 0

@@ -26,6 +26,7 @@ pub mod Calls
 pub mod Lists
 pub mod Boxes
 pub mod Notes
+pub mod Reports
 pub mod Conditions
 pub mod Runs
 pub mod History

@@ -81,6 +81,7 @@ sparesAnswer refusal splits flips m handled n = record {
   spareVertices = n .topology .vertices;
   spareTriangles = n .topology .triangles;
   spareRule = n .rule;
+  reported = 0;
 }
 
 -- All or nothing: after a failure the mesh stands. The slots in use of the spare tables hold the mesh after the last

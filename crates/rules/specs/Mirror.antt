@@ -12,7 +12,8 @@ use Rattle.rules.specs.Cage.{cageOf}
 use Rattle.rules.specs.Calls.{Answer, Room, Outcome, outcomeOf}
 use Rattle.rules.specs.History.{Call, changes, asks, loads, refines, steps, refinesEach, refinesInBox, setsLock}
 use Rattle.rules.specs.History.{refinesNoted, takesBack, ringOf, positionOf, limitsOf, previewOf, pointSeen}
-use Rattle.rules.specs.History.{trianglesSeen, outcome}
+use Rattle.rules.specs.History.{trianglesSeen, reports, previewReported, outcome}
+use Rattle.rules.specs.Reports.{Refining, one, withNote, each, inBox}
 use Rattle.rules.specs.Spares.{Spares}
 use Rattle.rules.specs.Tables.{Mesh, withPositions}
 
@@ -45,6 +46,7 @@ mirrorAnswer k a = record {
   spareVertices = a .spareVertices;
   spareTriangles = a .spareTriangles;
   spareRule = a .spareRule;
+  reported = a .reported;
 }
 
 abbrev pub mirrorSpares : ℕ → Spares → Spares
@@ -75,6 +77,7 @@ mirrorRoom k r = record {
   buffer = r .buffer;
   table = mirrorTable k (r .table);
   spares = mirrorSpares k (r .spares);
+  report = r .report;
 }
 
 abbrev pub mirrorOutcome : ℕ → Outcome → Outcome
@@ -90,6 +93,13 @@ pub record MirrorCage (k : ℕ) (those these : List ℕ) : Type 0 where
   pub coordinates : (i : ℕ) → i < 3 * cageOf those .vertices
       → cageOf these .coordinate i ≡ mirrorAt k (i % 3) (cageOf those .coordinate i)
 
+-- What refines, mirrored. (Request m)
+abbrev pub mirrorRefining : ℕ → Refining → Refining
+mirrorRefining k (one t) = one t
+mirrorRefining k (withNote t note) = withNote t note
+mirrorRefining k (each list spares) = each list (mirrorSpares k spares)
+mirrorRefining k (inBox b spares) = inBox (mirrorBox k b) (mirrorSpares k spares)
+
 -- The second call is the first with what has coordinates mirrored.
 pub data Mirrors (k : ℕ) : Call → Call → Type 0 where
   load : {rule : ℕ} {those these : List ℕ} → MirrorCage k those these
@@ -104,11 +114,17 @@ pub data Mirrors (k : ℕ) : Call → Call → Type 0 where
   -- A note has no coordinates. (Request l)
   noted : {t : ℕ} {note : List ℕ} → Mirrors k (changes (refinesNoted t note)) (changes (refinesNoted t note))
   takeBack : {note : List ℕ} → Mirrors k (changes (takesBack note)) (changes (takesBack note))
+  -- Nor has a report. (Request m)
+  report : {r : Refining} {buffer : List ℕ}
+      → Mirrors k (changes (reports r buffer)) (changes (reports (mirrorRefining k r) buffer))
   ring : {v : ℕ} {buffer : List ℕ} → Mirrors k (asks (ringOf v buffer)) (asks (ringOf v buffer))
   position : {v : ℕ} → Mirrors k (asks (positionOf v)) (asks (positionOf v))
   limit : {table : List ℤ} → Mirrors k (asks (limitsOf table)) (asks (limitsOf (mirrorTable k table)))
   preview : {entries : List ℕ} {spares : Spares}
       → Mirrors k (asks (previewOf entries spares)) (asks (previewOf entries (mirrorSpares k spares)))
+  reportForeseen : {entries : List ℕ} {spares : Spares} {buffer : List ℕ}
+      → Mirrors k (asks (previewReported entries spares buffer))
+      (asks (previewReported entries (mirrorSpares k spares) buffer))
   point : {v : ℕ} → Mirrors k (asks (pointSeen v)) (asks (pointSeen v))
   triangles : {n : ℕ} → Mirrors k (asks (trianglesSeen n)) (asks (trianglesSeen n))
 

@@ -1,7 +1,7 @@
 -- What holds of each call, carried out or refused, as statements; proofs/Results proves every one of them.
 use Prim.Native.Nat.{ℕ, zero, suc, _+_, _*_, _/_, _%_, _≤_, _<_}
 use mathlib.Core.Bool.{Bool, true, false}
-use mathlib.Core.List.{List, [], _∷_}
+use mathlib.Core.List.{List, [], _∷_, _++_}
 use mathlib.Core.Logic.{_≢_, _⊎_, _↔_}
 use mathlib.Core.Path.{_≡_}
 use lib.Dec.{eqb, ltb}
@@ -11,16 +11,19 @@ use lib.Signed.{_≤ℤ_, _<ℤ_}
 use Rattle.rules.specs.Actions.{LeadsTo, newPlace}
 use Rattle.rules.specs.Below.{total}
 use Rattle.rules.specs.Boxes.{Box, refineInBox, boxRefusal}
-use Rattle.rules.specs.Calls.{Outcome, outcomeOf, noRoom, bufferRoom, tableRoom, spareRoom, refusedWith, worked}
+use Rattle.rules.specs.Calls.{Outcome, outcomeOf, withReport, noRoom, bufferRoom, tableRoom, spareRoom}
+use Rattle.rules.specs.Calls.{refusedWith, worked}
 use Rattle.rules.specs.Calls.{splitsOf, rimSplitsOf, refineCall}
 use Rattle.rules.specs.Cage.{Cage}
 use Rattle.rules.specs.Conditions.{InnerOfTwo, Risen, Handled, Wanted, Turns}
 use Rattle.rules.specs.History.{Call, changes, asks, loads, refines, steps, refinesEach, refinesInBox, setsLock}
-use Rattle.rules.specs.History.{refinesNoted, takesBack, ringOf, positionOf, limitsOf, previewOf, pointSeen}
+use Rattle.rules.specs.History.{refinesNoted, takesBack, reports, ringOf, positionOf, limitsOf, previewOf}
+use Rattle.rules.specs.History.{previewReported, pointSeen}
 use Rattle.rules.specs.History.{trianglesSeen, outcome, ReportsSplits, edges, cageEdges}
 use Rattle.rules.specs.Lists.{Progress, refineEach, sparesRefusal, sparesAnswer}
 use Rattle.rules.specs.Notes.{noteOf}
 use Rattle.rules.specs.Numbers.{InRange, weight}
+use Rattle.rules.specs.Reports.{Refining, one, withNote, each, inBox}
 use Rattle.rules.specs.Ring.{OnBoundary, triangleCount, firstSide, fan, ring}
 use Rattle.rules.specs.Sound.{Sound}
 use Rattle.rules.specs.Spares.{Spares, copied}
@@ -80,6 +83,12 @@ refusedList list spares n m = refusedWork (sparesRefusal spares m) (refineEach l
 abbrev pub refusedBox : Box → Spares → ℕ → Mesh → Outcome
 refusedBox b spares n m = refusedWork (boxRefusal b spares m) (refineInBox b m) spares n m
 
+abbrev pub refusedReport : Refining → ℕ → Mesh → Outcome
+refusedReport (one t) n m = refusedWith n m noRoom
+refusedReport (withNote t note) n m = refusedWith n m (bufferRoom note)
+refusedReport (each list spares) n m = refusedList list spares n m
+refusedReport (inBox b spares) n m = refusedBox b spares n m
+
 -- A call refused with n: it answers zeros and the counts as they stand, and leaves the mesh and what it is lent, but
 -- spare tables that it has worked in.
 abbrev pub refusedAs : Call → ℕ → Mesh → Outcome
@@ -91,10 +100,12 @@ refusedAs (changes (refinesInBox b spares)) n m = refusedBox b spares n m
 refusedAs (changes (setsLock on t)) n m = refusedWith n m noRoom
 refusedAs (changes (refinesNoted t note)) n m = refusedWith n m (bufferRoom note)
 refusedAs (changes (takesBack note)) n m = refusedWith n m noRoom
+refusedAs (changes (reports r buffer)) n m = withReport buffer 0 (refusedReport r n m)
 refusedAs (asks (ringOf v buffer)) n m = refusedWith n m (bufferRoom buffer)
 refusedAs (asks (positionOf v)) n m = refusedWith n m noRoom
 refusedAs (asks (limitsOf table)) n m = refusedWith n m (tableRoom table)
 refusedAs (asks (previewOf list spares)) n m = refusedList list spares n m
+refusedAs (asks (previewReported list spares buffer)) n m = withReport buffer 0 (refusedList list spares n m)
 refusedAs (asks (pointSeen v)) n m = refusedWith n m noRoom
 refusedAs (asks (trianglesSeen k)) n m = refusedWith n m noRoom
 
@@ -242,11 +253,33 @@ kobbelt (suc n) t w = elim (odd (generation (w .mesh .topology) t)) [
   ]
 ]
 
+-- ---- reports (Request m)
+
+-- x stands in a list.
+abbrev pub Listed : List ℕ → ℕ → Type 0
+Listed [] x = ⊥
+Listed (y ∷ l) x = (x ≡ y) ⊎ Listed l x
+
+-- Slot x of m stands in n: its corners, its generation, and each of its links, unless this names a reported slot both
+-- in m and in n.
+pub record Unreported (report : List ℕ) (m n : Topology) (x : ℕ) : Type 0 where
+  pub corners : (i : ℕ) → i < 3 → origin n (3 * x + i) ≡ origin m (3 * x + i)
+  pub generation : generation n x ≡ generation m x
+  pub links : (i : ℕ) → i < 3 →
+      let a = link m (3 * x + i) in
+      let b = link n (3 * x + i) in
+      (b ≡ a) ⊎ (Listed report (a / 3) × Listed report (b / 3))
+
 -- ---- a list of triangles (Request e)
 
--- The mesh of r, with what both counted.
+-- The mesh of r, with what both counted and reported.
 abbrev pub added : Work → Work → Work
-added w r = record { mesh = r .mesh; splits = w .splits + r .splits; flips = w .flips + r .flips }
+added w r = record {
+  mesh = r .mesh;
+  splits = w .splits + r .splits;
+  flips = w .flips + r .flips;
+  report = w .report ++ r .report;
+}
 
 -- What a list that is carried out makes of a mesh.
 pub record ListMakes (list : List ℕ) (m : Mesh) (w : Work) : Type 0 where

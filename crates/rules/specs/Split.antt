@@ -2,7 +2,7 @@
 -- triangle; request b)
 use Prim.Native.Nat.{ℕ, zero, suc, _+_, _*_, _/_}
 use mathlib.Core.Bool.{true, false}
-use mathlib.Core.List.{List, [], _∷_}
+use mathlib.Core.List.{List, [], _∷_, _++_}
 use lib.Dec.{eqb, ltb}
 use lib.IntN.{ℤ, _+ℤ_}
 use lib.ListN.{set}
@@ -95,25 +95,42 @@ flip s u m =
 
 -- ---- counted work
 
--- A mesh with the splits, face and rim, and the flips made so far, counted as they are made. The rules build it by the
--- four functions below alone.
+-- A mesh with the splits, face and rim, and the flips made so far, counted as they are made, and the report of the
+-- slots whose corners or generation they wrote, in the order of the work, repeats kept. The calls build it by the four
+-- functions below alone.
 pub record Work : Type 0 where
   pub mesh : Mesh
   pub splits : ℕ
   pub flips : ℕ
+  pub report : List ℕ
 
--- Nothing made yet; one more split; one more flip; other positions.
+-- Nothing made yet.
 abbrev pub atFirst : Mesh → Work
-atFirst m = record { mesh = m; splits = 0; flips = 0 }
+atFirst m = record { mesh = m; splits = 0; flips = 0; report = [] }
 
-abbrev pub withSplit : Mesh → Work → Work
-withSplit m w = record { mesh = m; splits = suc (w .splits); flips = w .flips }
+-- One more split, of t: it reports its own slot and then the new ones. (Request m)
+abbrev pub withSplit : ℕ → Mesh → Work → Work
+withSplit t m w =
+    let f = w .mesh .topology .triangles in
+    record {
+      mesh = m;
+      splits = suc (w .splits);
+      flips = w .flips;
+      report = w .report ++ (t ∷ f ∷ (f + 1) ∷ []);
+    }
 
-abbrev pub withFlip : Mesh → Work → Work
-withFlip m w = record { mesh = m; splits = w .splits; flips = suc (w .flips) }
+-- One more flip, of s and u: it reports them in this order. (Request m)
+abbrev pub withFlip : ℕ → ℕ → Mesh → Work → Work
+withFlip s u m w = record {
+  mesh = m;
+  splits = w .splits;
+  flips = suc (w .flips);
+  report = w .report ++ (s ∷ u ∷ []);
+}
 
+-- Another mesh.
 abbrev pub withMesh : Mesh → Work → Work
-withMesh m w = record { mesh = m; splits = w .splits; flips = w .flips }
+withMesh m w = record { mesh = m; splits = w .splits; flips = w .flips; report = w .report }
 
 -- ---- the splits with their flips
 
@@ -158,7 +175,7 @@ unfoldable pub settle : ℕ → Work → Work
 settle s w =
     let m = w .mesh .topology in
     let h = link m (3 * s) in
-    elim (isBase m h) [ true ↦ withFlip (withTopology (flip s (h / 3) m) (w .mesh)) w | false ↦ w ]
+    elim (isBase m h) [ true ↦ withFlip s (h / 3) (withTopology (flip s (h / 3) m) (w .mesh)) w | false ↦ w ]
 
 -- These triangles settled in order.
 abbrev pub settleAll : List ℕ → Work → Work
@@ -169,7 +186,7 @@ settleAll (s ∷ rest) w = settleAll rest (settle s w)
 unfoldable pub faceSplit : ℕ → Work → Work
 faceSplit t w =
     let f = w .mesh .topology .triangles in
-    settleAll (t ∷ f ∷ (f + 1) ∷ []) (withSplit (facePlaced t (w .mesh)) w)
+    settleAll (t ∷ f ∷ (f + 1) ∷ []) (withSplit t (facePlaced t (w .mesh)) w)
 
 -- The rim split of an odd t whose base is on the boundary: the cut, and then a flip wherever the base of t or F + 1, in
 -- this order, meets a base. Slot F is even and has none. After the face split of a cage of one triangle, three rim
@@ -185,7 +202,7 @@ faceSplit t w =
 unfoldable pub rimSplit : ℕ → Work → Work
 rimSplit t w =
     let f = w .mesh .topology .triangles in
-    settleAll (t ∷ (f + 1) ∷ []) (withSplit (rimPlaced t (w .mesh)) w)
+    settleAll (t ∷ (f + 1) ∷ []) (withSplit t (rimPlaced t (w .mesh)) w)
 
 -- The split of the last triangle of a base chain: the face split of an even one, the rim split of an odd one.
 abbrev pub splitAt : ℕ → Work → Work

@@ -77,7 +77,7 @@ cut-hands t g h w slots cut written flips i j settled =
 
 module _ (t : ℕ) (w a : Work) (young : generation (w .mesh .topology) t < 20) where
   -- A face split leaves its three triangles, one above t.
-  pub face-hands : a ≡ withSplit (facePlaced t (w .mesh)) w → generation (w .mesh .topology) t % 2 ≡ 0
+  pub face-hands : a ≡ withSplit t (facePlaced t (w .mesh)) w → generation (w .mesh .topology) t % 2 ≡ 0
       → let f = w .mesh .topology .triangles in
       Hands t w (t ∷ f ∷ (f + 1) ∷ []) a
   unfolding faceSplit facePlaced faceCut
@@ -86,7 +86,7 @@ module _ (t : ℕ) (w a : Work) (young : generation (w .mesh .topology) t < 20) 
       rw ea (cut-hands t g g w _ _ refl refl (omega arith) (omega arith) (sym (split-even t w even)))
 
   -- A rim split leaves the outer two of its three triangles.
-  pub rim-hands : a ≡ withSplit (rimPlaced t (w .mesh)) w → generation (w .mesh .topology) t % 2 ≡ 1
+  pub rim-hands : a ≡ withSplit t (rimPlaced t (w .mesh)) w → generation (w .mesh .topology) t % 2 ≡ 1
       → Hands t w (t ∷ (w .mesh .topology .triangles + 1) ∷ []) a
   unfolding rimSplit rimPlaced rimCut
   rim-hands ea odd =
@@ -108,7 +108,7 @@ settle-young s x k w i j = go (isBase m h)
     h = link m (3 * s)
 
     go : (b : Bool) →
-        let r : Work = elim b [ true ↦ withFlip (withTopology (flip s (h / 3) m) (w .mesh)) w | false ↦ w ] in
+        let r : Work = elim b [ true ↦ withFlip s (h / 3) (withTopology (flip s (h / 3) m) (w .mesh)) w | false ↦ w ] in
         generation (r .mesh .topology) x ≤ suc k
     go true =
         let g : ℕ = suc (generation m s) in

@@ -2,7 +2,7 @@
 use Prim.Native.Nat.{ℕ, _+_, _*_, _/_}
 use native.Mathlib.Numerals.{add-one}
 use mathlib.Core.Bool.{Bool, true, false}
-use mathlib.Core.List.{List}
+use mathlib.Core.List.{List, [], _∷_, _++_}
 use mathlib.Core.Path.{_≡_}
 use lib.IntN.{ℤ}
 use lib.ListN.{getD}
@@ -38,7 +38,12 @@ third-steps m t h i j a b c r ea eb ec er = rw (er, ec, eb, ea)
 module _ (s : ℕ) (w : Work) (b : Bool) (e : b ≡ isBase (w .mesh .topology) (link (w .mesh .topology) (3 * s))) where
   pub settle-flips : (n : Topology) → b ≡ true
       → n ≡ flip s (link (w .mesh .topology) (3 * s) / 3) (w .mesh .topology)
-      → _≡_ {A = Work} (record { mesh = withTopology n (w .mesh); splits = w .splits; flips = w .flips + 1 })
+      → _≡_ {A = Work} (record {
+        mesh = withTopology n (w .mesh);
+        splits = w .splits;
+        flips = w .flips + 1;
+        report = w .report ++ (s ∷ link (w .mesh .topology) (3 * s) / 3 ∷ []);
+      })
       (settle s w)
   unfolding settle
   settle-flips n met en = rw (settle, ← e, met, en, add-one (w .flips))
@@ -58,8 +63,9 @@ pub face-cut-steps : (t : ℕ) (w : Work) (e : Topology) (p : Point) (positions 
       mesh = meshOf (withCounts (m .vertices + 1) (m .triangles + 2) e) positions locks (w .mesh .rule);
       splits = w .splits + 1;
       flips = w .flips;
+      report = w .report ++ (t ∷ m .triangles ∷ (m .triangles + 1) ∷ []);
     })
-    (withSplit (facePlaced t (w .mesh)) w)
+    (withSplit t (facePlaced t (w .mesh)) w)
 unfolding facePlaced faceCut centre
 face-cut-steps t w e p positions x r locks ep eq ex er ee el =
     rw (el, ee, er, ex, eq, ep, facePlaced, faceCut, centre, add-one (w .splits), add-one (w .mesh .topology .vertices))
@@ -76,8 +82,9 @@ pub rim-cut-steps : (t : ℕ) (w : Work) (e : Topology) (p q : Point) (one two :
       mesh = meshOf (withCounts (m .vertices + 2) (m .triangles + 2) e) two locks (w .mesh .rule);
       splits = w .splits + 1;
       flips = w .flips;
+      report = w .report ++ (t ∷ m .triangles ∷ (m .triangles + 1) ∷ []);
     })
-    (withSplit (rimPlaced t (w .mesh)) w)
+    (withSplit t (rimPlaced t (w .mesh)) w)
 unfolding rimPlaced rimCut firstThird secondThird
 rim-cut-steps t w e p q one two x r locks ep eq eo et ex er ee el =
     rw (el, ee, er, ex, et, eo, eq, ep, rimPlaced, rimCut, firstThird, secondThird, add-one (w .splits))

@@ -21,12 +21,13 @@ use Rattle.split.specs.declared.Work.{Work}
 abbrev pub countsOf : ℕ → Work → Counts
 countsOf rule w = record { vertices = w .vertices; triangles = w .triangles; rule = rule }
 
--- The work done, with what the slices hold.
-abbrev pub workNow : ℕ → Work → List ℤ → List ℕ → List ℕ → List ℕ → List ℕ → rules.Work
-workNow rule w positions corners links generations locks = record {
+-- The work done, with a report, which the code does not keep, and what the slices hold.
+abbrev pub workNow : ℕ → List ℕ → Work → List ℤ → List ℕ → List ℕ → List ℕ → List ℕ → rules.Work
+workNow rule report w positions corners links generations locks = record {
   mesh = meshNow (countsOf rule w) positions corners links generations locks;
   splits = w .splits;
   flips = w .flips;
+  report = report;
 }
 
 -- What a split of t asks: tables that agree, a slot for t, room, which a rim split needs for a vertex more, and a

@@ -1,4 +1,4 @@
-// Face split, rim split, flip, the base chain and the refinement of one triangle, on the lent tables.
+// Face split, rim split, flip and the base chain, on the lent tables.
 use points::Point;
 use tables::Counts;
 use tables::Triangle;
@@ -8,8 +8,7 @@ ghost use Prim.Native.Nat.{ℕ, _+_, _-_, _*_, _/_, _%_, _≤_, _<_, max};
 ghost use lib.IntN.{ℤ};
 ghost use lib.ListN.{length, getD};
 ghost use Rattle.points.specs.Axes.{eachAxis};
-ghost use Rattle.rules.proofs.Calls.Carried.{RefineFound};
-ghost use Rattle.rules.specs.Split.{flip, thirdOf, settle, settleAll, splitAt, atFirst, refine};
+ghost use Rattle.rules.specs.Split.{flip, thirdOf, settle, settleAll, splitAt};
 ghost use Rattle.rules.specs.Tables.{isBase};
 ghost use Rattle.tables.specs.declared.Counts.{Counts};
 ghost use Rattle.tables.specs.Lent.{topologyNow, meshNow, TrianglesAgree, VerticesAgree};
@@ -182,11 +181,11 @@ fn settle(
 ) -> Work
     requires { ⌜ TrianglesAgree (now corners) (now links) (now generations) × (s < length (now generations))
         × (getD (now generations) s 0 < 255) × (work .flips < 4294967295) ⌝ }
-    ensures { λ r. ⌜ ((rule : ℕ) (positions : List ℤ) (locks : List ℕ) →
-        workNow rule r positions (now (corners .exit)) (now (links .exit)) (now (generations .exit)) locks
+    ensures { λ r. ⌜ ((rule : ℕ) (positions : List ℤ) (locks report : List ℕ) → (more : List ℕ) × (
+        workNow rule more r positions (now (corners .exit)) (now (links .exit)) (now (generations .exit)) locks
         ≡ settle s
-        (workNow rule work positions (now (corners .entry)) (now (links .entry)) (now (generations .entry))
-        locks)) ⌝ }
+        (workNow rule report work positions (now (corners .entry)) (now (links .entry)) (now (generations .entry))
+        locks))) ⌝ }
 {
     let i = 3 * (s as usize);
     let h = links[i];
@@ -259,13 +258,13 @@ fn face_cut(
     work: Work,
     t: u32,
 ) -> Work
-    requires { ⌜ ((rule : ℕ) ×
-        MaySplit t (workNow rule work (now positions) (now corners) (now links) (now generations) (now locks)))
+    requires { ⌜ ((rule : ℕ) × (report : List ℕ) ×
+        MaySplit t (workNow rule report work (now positions) (now corners) (now links) (now generations) (now locks)))
         × (getD (now generations) t 0 % 2 ≡ 0) ⌝ }
-    ensures { λ r. ⌜ ((rule : ℕ) → Hands t (workNow rule work
+    ensures { λ r. ⌜ ((rule : ℕ) (report : List ℕ) → (more : List ℕ) × Hands t (workNow rule report work
         (now (positions .entry)) (now (corners .entry)) (now (links .entry)) (now (generations .entry))
         (now (locks .entry)))
-        (t ∷ work .triangles ∷ (work .triangles + 1) ∷ []) (workNow rule r
+        (t ∷ work .triangles ∷ (work .triangles + 1) ∷ []) (workNow rule more r
         (now (positions .exit)) (now (corners .exit)) (now (links .exit)) (now (generations .exit))
         (now (locks .exit)))) ⌝ }
 {
@@ -298,13 +297,13 @@ fn rim_cut(
     work: Work,
     t: u32,
 ) -> Work
-    requires { ⌜ ((rule : ℕ) ×
-        MaySplit t (workNow rule work (now positions) (now corners) (now links) (now generations) (now locks)))
+    requires { ⌜ ((rule : ℕ) × (report : List ℕ) ×
+        MaySplit t (workNow rule report work (now positions) (now corners) (now links) (now generations) (now locks)))
         × (getD (now generations) t 0 % 2 ≡ 1) ⌝ }
-    ensures { λ r. ⌜ ((rule : ℕ) → Hands t (workNow rule work
+    ensures { λ r. ⌜ ((rule : ℕ) (report : List ℕ) → (more : List ℕ) × Hands t (workNow rule report work
         (now (positions .entry)) (now (corners .entry)) (now (links .entry)) (now (generations .entry))
         (now (locks .entry)))
-        (t ∷ (work .triangles + 1) ∷ []) (workNow rule r
+        (t ∷ (work .triangles + 1) ∷ []) (workNow rule more r
         (now (positions .exit)) (now (corners .exit)) (now (links .exit)) (now (generations .exit))
         (now (locks .exit)))) ⌝ }
 {
@@ -343,11 +342,11 @@ fn settle_three(
     requires { ⌜ TrianglesAgree (now corners) (now links) (now generations) × (t < length (now generations))
         × (f < length (now generations)) × (e < length (now generations)) × (getD (now generations) t 0 < 23)
         × (getD (now generations) f 0 < 23) × (getD (now generations) e 0 < 23) × (work .flips + 3 ≤ 4294967295) ⌝ }
-    ensures { λ r. ⌜ ((rule : ℕ) (positions : List ℤ) (locks : List ℕ) →
-        workNow rule r positions (now (corners .exit)) (now (links .exit)) (now (generations .exit)) locks
+    ensures { λ r. ⌜ ((rule : ℕ) (positions : List ℤ) (locks report : List ℕ) → (more : List ℕ) × (
+        workNow rule more r positions (now (corners .exit)) (now (links .exit)) (now (generations .exit)) locks
         ≡ settleAll (t ∷ f ∷ e ∷ [])
-        (workNow rule work positions (now (corners .entry)) (now (links .entry)) (now (generations .entry))
-        locks)) ⌝ }
+        (workNow rule report work positions (now (corners .entry)) (now (links .entry)) (now (generations .entry))
+        locks))) ⌝ }
 {
     let one = settle(corners, links, generations, work, t);
     let two = settle(corners, links, generations, one, f);
@@ -366,11 +365,11 @@ fn settle_two(
     requires { ⌜ TrianglesAgree (now corners) (now links) (now generations) × (t < length (now generations))
         × (e < length (now generations)) × (getD (now generations) t 0 < 23) × (getD (now generations) e 0 < 23)
         × (work .flips + 2 ≤ 4294967295) ⌝ }
-    ensures { λ r. ⌜ ((rule : ℕ) (positions : List ℤ) (locks : List ℕ) →
-        workNow rule r positions (now (corners .exit)) (now (links .exit)) (now (generations .exit)) locks
+    ensures { λ r. ⌜ ((rule : ℕ) (positions : List ℤ) (locks report : List ℕ) → (more : List ℕ) × (
+        workNow rule more r positions (now (corners .exit)) (now (links .exit)) (now (generations .exit)) locks
         ≡ settleAll (t ∷ e ∷ [])
-        (workNow rule work positions (now (corners .entry)) (now (links .entry)) (now (generations .entry))
-        locks)) ⌝ }
+        (workNow rule report work positions (now (corners .entry)) (now (links .entry)) (now (generations .entry))
+        locks))) ⌝ }
 {
     let one = settle(corners, links, generations, work, t);
     settle(corners, links, generations, one, e)
@@ -387,14 +386,15 @@ pub fn split_at(
     work: Work,
     t: u32,
 ) -> Work
-    requires { ⌜ ((rule : ℕ) ×
-        MaySplit t (workNow rule work (now positions) (now corners) (now links) (now generations) (now locks))) ⌝ }
-    ensures { λ r. ⌜ ((rule : ℕ) →
-        workNow rule r (now (positions .exit)) (now (corners .exit)) (now (links .exit)) (now (generations .exit))
-        (now (locks .exit))
-        ≡ splitAt t (workNow rule work
+    requires { ⌜ ((rule : ℕ) × (report : List ℕ) ×
+        MaySplit t (workNow rule report work (now positions) (now corners) (now links) (now generations)
+        (now locks))) ⌝ }
+    ensures { λ r. ⌜ ((rule : ℕ) (report : List ℕ) → (more : List ℕ) × (
+        workNow rule more r (now (positions .exit)) (now (corners .exit)) (now (links .exit))
+        (now (generations .exit)) (now (locks .exit))
+        ≡ splitAt t (workNow rule report work
         (now (positions .entry)) (now (corners .entry)) (now (links .entry)) (now (generations .entry))
-        (now (locks .entry)))) ⌝ }
+        (now (locks .entry))))) ⌝ }
 {
     let f = work.triangles;
     if tables::generation_at(generations, t) % 2 == 0 {
@@ -438,55 +438,4 @@ pub fn base_chain(links: &[u32], generations: &[u8], t: u32) -> Chain
         rim,
         slots,
     }
-}
-
-// The triangle across the base of the last of so many odd triangles of a chain.
-fn across_last(links: &[u32], slots: &[u32; 20], odd: u32) -> u32
-    requires { ⌜ (0 < odd) × (odd < 20) × (3 * getD (now slots) (odd - 1) 0 < length (now links)) ⌝ }
-    ensures { λ r. ⌜ r ≡ getD (now (links .entry)) (3 * getD (now (slots .entry)) (odd - 1) 0) 0 / 3 ⌝ }
-{
-    let i = odd as usize - 1;
-    let h = 3 * (slots[i] as usize);
-    links[h] / 3
-}
-
-// The refinement of t, from the end of its base chain upwards. An odd triangle keeps its slot and its place in the
-// chain until it is flipped. What lies across its base is read anew for each split, as a flip may move it to another
-// slot.
-pub fn refine(
-    positions: &mut [i32],
-    corners: &mut [u32],
-    links: &mut [u32],
-    generations: &mut [u8],
-    locks: &mut [u8],
-    counts: Counts,
-    t: u32,
-    chain: Chain,
-) -> Work
-    requires { ⌜ RefineFound t (meshNow counts (now positions) (now corners) (now links) (now generations) (now locks))
-        × BaseChain (topologyNow counts (now corners) (now links) (now generations)) t chain ⌝ }
-    ensures { λ r. ⌜
-        workNow (counts .rule) r
-        (now (positions .exit)) (now (corners .exit)) (now (links .exit)) (now (generations .exit)) (now (locks .exit))
-        ≡ refine t (atFirst (meshNow counts
-        (now (positions .entry)) (now (corners .entry)) (now (links .entry)) (now (generations .entry))
-        (now (locks .entry)))) ⌝ }
-{
-    let slots = chain.slots;
-    let mut work = Work {
-        vertices: counts.vertices,
-        triangles: counts.triangles,
-        splits: 0,
-        flips: 0,
-    };
-    let mut left = chain.splits();
-    let mut end = chain.end;
-    while 0 < left {
-        work = split_at(positions, corners, links, generations, locks, work, end);
-        left -= 1;
-        if 0 < left {
-            end = across_last(links, &slots, left);
-        }
-    }
-    work
 }

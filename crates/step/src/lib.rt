@@ -97,11 +97,11 @@ fn split_all(
     counts: Counts,
 ) -> Work
     requires { ⌜ StepFound (meshNow counts (now positions) (now corners) (now links) (now generations) (now locks)) ⌝ }
-    ensures { λ r. ⌜
-        workNow (counts .rule) r
+    ensures { λ r. ⌜ ((more : List ℕ) × (
+        workNow (counts .rule) more r
         (now (positions .exit)) (now (corners .exit)) (now (links .exit)) (now (generations .exit)) (now (locks .exit))
         ≡ refineFirst (counts .triangles) (atFirst (meshNow counts (now (positions .entry)) (now (corners .entry))
-        (now (links .entry)) (now (generations .entry)) (now (locks .entry)))) ⌝ }
+        (now (links .entry)) (now (generations .entry)) (now (locks .entry)))))) ⌝ }
 {
     let f = counts.triangles;
     let mut t: u32 = 0;
@@ -185,11 +185,11 @@ fn whole_step(
 ) -> Work
     requires { ⌜ (let m = meshNow counts (now positions) (now corners) (now links) (now generations) (now locks) in
         StepFound m × RingSums m (now lengths) (now sums)) ⌝ }
-    ensures { λ r. ⌜
-        workNow (counts .rule) r
+    ensures { λ r. ⌜ ((more : List ℕ) × (
+        workNow (counts .rule) more r
         (now (positions .exit)) (now (corners .exit)) (now (links .exit)) (now (generations .exit)) (now (locks .exit))
         ≡ wholeStep (meshNow counts (now (positions .entry)) (now (corners .entry)) (now (links .entry))
-        (now (generations .entry)) (now (locks .entry))) ⌝ }
+        (now (generations .entry)) (now (locks .entry))))) ⌝ }
 {
     let v = counts.vertices;
     let rule = counts.rule;

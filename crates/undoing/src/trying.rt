@@ -48,6 +48,7 @@ fn refines_to(
     ) {
         return false;
     }
+    let mut none = [0u32; 1];
     let made = refining::refine(
         old_positions,
         old_corners,
@@ -56,6 +57,8 @@ fn refines_to(
         old_locks,
         old_counts,
         t,
+        0,
+        &mut none,
         0,
     );
     if made.refusal != 0 {

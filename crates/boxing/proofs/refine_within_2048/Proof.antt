@@ -16,7 +16,8 @@ slice-aggregate-refine-wanted-3 c = search needs
 
 refine-wanted-requires : tie.Need-refine-wanted-requires
 refine-wanted-requires c κs =
-    let pre = c .before .before .before .before .before .before .before .before .before .before .before .before .pre in
+    let pre = c .before .before .before .before .before .before .before .before .before .before .before .before
+    .before .before .pre in
     (pre .0, none-put 32 1 (omega (arith, pre .1)) (omega arith) (omega arith), none-seen 32 (omega (arith, pre .2)))
 
 same-length : tie.Need-same-length
@@ -34,6 +35,9 @@ same-length-4 c = search needs
 same-length-5 : tie.Need-same-length-5
 same-length-5 c = search needs
 
+same-length-6 : tie.Need-same-length-6
+same-length-6 c = search needs
+
 returns : tie.Need-returns
 returns c = search needs
 
@@ -50,4 +54,5 @@ refine-within-2048-spec =
     same-length-3
     same-length-4
     same-length-5
+    same-length-6
     returns)

@@ -18,7 +18,7 @@ slice-aggregate-refine-wanted-3 c = search needs
 refine-wanted-requires : tie.Need-refine-wanted-requires
 refine-wanted-requires c κs =
     let (m, s, B) = c .before .before .before .before .before .before .before .before .before .before .before
-    .before .pre in
+    .before .before .before .pre in
     let A = begins-sound B .tables in (
       (m, s, B),
       none-put 1024 16 (omega (arith, A .fewTriangles)) (omega arith) (omega arith),
@@ -40,6 +40,9 @@ same-length-4 c = search needs
 same-length-5 : tie.Need-same-length-5
 same-length-5 c = search needs
 
+same-length-6 : tie.Need-same-length-6
+same-length-6 c = search needs
+
 returns : tie.Need-returns
 returns c = search needs
 
@@ -56,4 +59,5 @@ refine-within-65536-spec =
     same-length-3
     same-length-4
     same-length-5
+    same-length-6
     returns)

@@ -8,8 +8,9 @@ use Rattle.tables.specs.Lent.{meshNow}
 use Rattle.noting.specs.Changed.{FrontIs}
 use Rattle.refining.specs.Finding.{Goes}
 use Rattle.noting.proofs.Listing.{changed-below}
-use Rattle.noting.proofs.Noted.{too-short, long-enough}
+use Rattle.noting.proofs.Noted.{too-short, no-report, long-enough}
 use borrow.Author.Needs.{needs}
+use borrow.Author.Tests.{not-true, not-false}
 use Rattle.noting.proofs.note_changes.Statement.{statement}
 use Rattle.noting.proofs.note_changes.Tie as tie
 
@@ -48,12 +49,19 @@ returns c p G =
     too-short (start at .args .t) (mesh at p) (listed at p G) (start at .args .note .now)
     (omega (arith, c .if1 .taken))
 
+returns-2 : tie.Need-returns-2
+returns-2 c p G =
+    let at-if1 = c .before in
+    let at = at-if1 .before .before in
+    no-report (start at .args .t) (mesh at p) (listed at p G) (start at .args .note .now)
+    (omega (arith, at-if1 .if1 .left)) (not-true _ (c .if2 .taken))
+
 slice-aggregate-write-note : tie.Need-slice-aggregate-write-note
 slice-aggregate-write-note c = search needs
 
 write-note-requires : tie.Need-write-note-requires
 write-note-requires c κs =
-    let at-if1 = c .before .before in
+    let at-if1 = c .before .before .before in
     let at = at-if1 .before .before in
     let (p, G) = start at .pre in
     let S = G .found .sound in (
@@ -68,14 +76,15 @@ write-note-requires c κs =
 same-length : tie.Need-same-length
 same-length c = search needs
 
-returns-2 : tie.Need-returns-2
-returns-2 c p G =
+returns-3 : tie.Need-returns-3
+returns-3 c p G =
     let at-written = c .before .before in
-    let at-if1 = at-written .before .before .before in
+    let at-if2 = at-written .before .before .before in
+    let at-if1 = at-if2 .before in
     let at = at-if1 .before .before in
     let H = listed at p G in
     long-enough (start at .args .t) (mesh at p) H (start at .args .note .now) (omega (arith, at-if1 .if1 .left))
-    (at-written .write-note .ensures p _ H)
+    (not-false _ (at-if2 .if2 .left)) (at-written .write-note .ensures p _ H)
 
 pub note-changes-spec : {M : Type 1} → statement M
 note-changes-spec =
@@ -86,7 +95,8 @@ note-changes-spec =
     mul-if1
     add-if1
     returns
+    returns-2
     slice-aggregate-write-note
     write-note-requires
     same-length
-    returns-2)
+    returns-3)

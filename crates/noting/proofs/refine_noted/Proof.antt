@@ -1,8 +1,10 @@
 -- `noting::refine_noted` meets its contract.
+use mathlib.Core.Bool.{true}
 use mathlib.Core.Path.{sym, _∙_}
 use native.Mathlib.Omega.{arith}
 use Rattle.rules.specs.Tables.{Mesh}
 use Rattle.tables.specs.Lent.{meshNow}
+use Rattle.noting.specs.Noting.{Notes}
 use Rattle.noting.proofs.Noted.{noted-refused, noted-short, noted-carried}
 use Rattle.refining.proofs.Refusing.{finds-goes}
 use Rattle.refining.specs.Finding.{Finds}
@@ -23,6 +25,20 @@ module _ (c : tie.After-find) where
 
   finds : Finds (start .args .t) (mesh-of start) (c .find .result)
   finds = c .find .ensures (start .args .corners .now) (start .pre)
+
+-- And what came of the note.
+module _ (c : tie.After-note-changes) where
+  abbrev noted-if1 : tie.Else1
+  noted-if1 = c .before .before .before .before .before .before .before
+
+  abbrev noted-find : tie.After-find
+  noted-find = noted-if1 .before .before
+
+  noted : Notes (start noted-find .args .t) (mesh-of (start noted-find)) (start noted-find .args .note .now) true
+      (c .note-changes .result) (c .note-changes .last .1 .1 .1 .1 .1 .1 .1 .0)
+  noted =
+      c .note-changes .ensures (start noted-find .args .positions .now)
+      (finds-goes (finds noted-find) (noted-if1 .if1 .left))
 
 find-requires : tie.Need-find-requires
 find-requires c κs = search needs
@@ -74,14 +90,16 @@ returns-2 c =
     let at-noted = c .before .before .before in
     let at-if1 = at-noted .before .before .before .before .before .before .before in
     let at = at-if1 .before .before in
+    let N = noted at-noted in
     noted-short (start at .args .t) (start at .args .note .now) (mesh-of (start at)) _
-    (sym (finds at .refusal) ∙ at-if1 .if1 .left)
-    (at-noted .note-changes .ensures (start at .args .positions .now) (finds-goes (finds at) (at-if1 .if1 .left)))
-    (c .if2 .taken)
+    (sym (finds at .refusal) ∙ at-if1 .if1 .left) (N .refusal) (c .if2 .taken) (N .short (c .if2 .taken))
+
+slice-aggregate-carry-out : tie.Need-slice-aggregate-carry-out
+slice-aggregate-carry-out c = search needs
 
 carry-out-requires : tie.Need-carry-out-requires
 carry-out-requires c κs =
-    let at-if2 = c .before .before .before .before .before in
+    let at-if2 = c .before .before .before .before .before .before in
     let at-if1 = at-if2 .before .before .before .before .before .before .before .before .before .before in
     finds-goes (finds (at-if1 .before .before)) (at-if1 .if1 .left)
 
@@ -105,15 +123,15 @@ same-length-16 c = search needs
 
 returns-3 : tie.Need-returns-3
 returns-3 c =
-    let at-carried = c .before .before .before .before .before .before .before .before .before in
-    let at-if2 = at-carried .before .before .before .before .before .before in
+    let at-carried = c .before .before .before .before .before .before .before .before .before .before in
+    let at-if2 = at-carried .before .before .before .before .before .before .before in
     let at-noted = at-if2 .before .before .before in
     let at-if1 = at-noted .before .before .before .before .before .before .before in
     let at = at-if1 .before .before in
+    let N = noted at-noted in
     noted-carried (start at .args .t) (start at .args .note .now) (mesh-of (start at)) _
-    (sym (finds at .refusal) ∙ at-if1 .if1 .left)
-    (at-noted .note-changes .ensures (start at .args .positions .now) (finds-goes (finds at) (at-if1 .if1 .left))) _
-    (at-carried .carry-out .ensures) (at-if2 .if2 .left)
+    (sym (finds at .refusal) ∙ at-if1 .if1 .left) (N .refusal) _ (at-carried .carry-out .ensures .0) (at-if2 .if2 .left)
+    (N .written (at-if2 .if2 .left))
 
 pub refine-noted-spec : {M : Type 1} → statement M
 refine-noted-spec =
@@ -133,6 +151,7 @@ refine-noted-spec =
     same-length-9
     same-length-10
     returns-2
+    slice-aggregate-carry-out
     carry-out-requires
     same-length-11
     same-length-12

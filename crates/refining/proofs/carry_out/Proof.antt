@@ -23,8 +23,13 @@ same-length-4 c = search needs
 same-length-5 : tie.Need-same-length-5
 same-length-5 c = search needs
 
+same-length-6 : tie.Need-same-length-6
+same-length-6 c = search needs
+
 returns : tie.Need-returns
-returns c = ap worked (c .before .before .before .before .before .before .before .before .before .refine .ensures)
+returns c =
+    let at-refine = c .before .before .before .before .before .before .before .before .before .before .before in
+    (ap worked (at-refine .refine .ensures .0), at-refine .refine .ensures .1)
 
 pub carry-out-spec : {M : Type 1} → statement M
 carry-out-spec =
@@ -36,4 +41,5 @@ carry-out-spec =
     same-length-3
     same-length-4
     same-length-5
+    same-length-6
     returns)

@@ -1,8 +1,10 @@
 -- `refining::refine` meets its contract.
-use mathlib.Core.Path.{_∙_}
+use mathlib.Core.Path.{ap, _∙_}
+use Rattle.rules.specs.Calls.{Outcome}
 use Rattle.rules.specs.Tables.{Mesh}
 use Rattle.tables.specs.Lent.{meshNow}
 use Rattle.refining.proofs.Refusing.{refine-refused, refine-carried, finds-goes}
+use Rattle.refining.proofs.Telling.{told-refused, told-done}
 use Rattle.refining.specs.Finding.{Finds}
 use borrow.Author.Needs.{needs}
 use Rattle.refining.proofs.refine.Statement.{statement}
@@ -17,7 +19,7 @@ mesh-of c =
 -- What was found.
 module _ (c : tie.After-find) where
   abbrev start : tie.Start
-  start = c .before .before .before .before .before .before .before .before .before
+  start = c .before .before .before .before .before .before .before .before .before .before
 
   finds : Finds (start .args .t) (mesh-of start) (c .find .result)
   finds = c .find .ensures (start .args .corners .now) (start .pre)
@@ -39,12 +41,14 @@ same-length-4 c = search needs
 
 returns : tie.Need-returns
 returns c =
-    let at = c .before .before in
-    refine-refused (start at .args .t) (mesh-of (start at)) _ (finds at .refusal) (c .if1 .taken)
+    let at = c .before .before in (
+      refine-refused (start at .args .t) (mesh-of (start at)) _ (finds at .refusal) (c .if1 .taken),
+      told-refused _ _ (c .if1 .taken),
+    )
 
 carry-out-requires : tie.Need-carry-out-requires
 carry-out-requires c κs =
-    let at-if1 = c .before .before .before .before .before in
+    let at-if1 = c .before .before .before .before .before .before in
     finds-goes (finds (at-if1 .before .before)) (at-if1 .if1 .left)
 
 same-length-5 : tie.Need-same-length-5
@@ -62,13 +66,19 @@ same-length-8 c = search needs
 same-length-9 : tie.Need-same-length-9
 same-length-9 c = search needs
 
+same-length-10 : tie.Need-same-length-10
+same-length-10 c = search needs
+
 returns-2 : tie.Need-returns-2
 returns-2 c =
-    let at-carried = c .before .before .before .before .before .before .before .before .before in
-    let at-if1 = at-carried .before .before .before .before .before .before in
-    let at = at-if1 .before .before in
-    at-carried .carry-out .ensures
-    ∙ refine-carried (start at .args .t) (mesh-of (start at)) _ (finds at .refusal) (at-if1 .if1 .left)
+    let at-carried = c .before .before .before .before .before .before .before .before .before .before .before in
+    let at-if1 = at-carried .before .before .before .before .before .before .before in
+    let at = at-if1 .before .before in (
+      at-carried .carry-out .ensures .0
+          ∙ refine-carried (start at .args .t) (mesh-of (start at)) _ (finds at .refusal) (at-if1 .if1 .left),
+      told-done _ (ap (λ (o : Outcome). o .answer .refusal) (at-carried .carry-out .ensures .0))
+          (at-carried .carry-out .ensures .1),
+    )
 
 pub refine-spec : {M : Type 1} → statement M
 refine-spec =
@@ -86,4 +96,5 @@ refine-spec =
     same-length-7
     same-length-8
     same-length-9
+    same-length-10
     returns-2)

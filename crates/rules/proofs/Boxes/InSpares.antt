@@ -1,5 +1,6 @@
 -- A box worked in spare tables, turn by turn: they hold the copy of what it makes of the mesh.
 use mathlib.Core.Path.{_≡_, refl, sym, ap, _∙_, subst}
+use mathlib.Core.List.{List, [], _++_}
 use mathlib.Core.Logic.{_≢_}
 use Prim.Native.Nat.{ℕ, zero, suc, _+_, _*_, _≤_, _<_}
 use native.Mathlib.Numerals.{add-one}
@@ -57,16 +58,16 @@ module _ {s : Spares} {m : Mesh} (L : SameSizes s m) (S : Sound m) where
 
 -- ---- the turns
 
--- So many turns were made, with k splits and f flips, and the tables hold x.
-pub record Boxing (b : Box) (m : Mesh) (s : Spares) (at k f : ℕ) (x : Mesh) : Type 0 where
+-- So many turns were made, with k splits, f flips and the report l, and the tables hold x.
+pub record Boxing (b : Box) (m : Mesh) (s : Spares) (at k f : ℕ) (l : List ℕ) (x : Mesh) : Type 0 where
   pub work : Work
-  pub held : Holding m s work k f x
+  pub held : Holding m s work k f l x
   pub few : at ≤ work .splits
   pub left : ℕ
   pub enough : triangleSlots m < left + reached work .triangles
   pub result : refineWanted left b (record { work = work; handled = at; refusal = 0 }) ≡ refineInBox b m
 
-pub boxing-begins : {m : Mesh} {s : Spares} (b : Box) → SameSizes s m → Sound m → Boxing b m s 0 0 0 (over s m)
+pub boxing-begins : {m : Mesh} {s : Spares} (b : Box) → SameSizes s m → Sound m → Boxing b m s 0 0 0 [] (over s m)
 boxing-begins {m} b L S = record {
   work = atFirst m;
   held = holding-begins L S;
@@ -76,7 +77,7 @@ boxing-begins {m} b L S = record {
   result = refl;
 }
 
-module _ {b : Box} {m : Mesh} {s : Spares} {at k f : ℕ} {x : Mesh} (D : Boxing b m s at k f x) where
+module _ {b : Box} {m : Mesh} {s : Spares} {at k f : ℕ} {l : List ℕ} {x : Mesh} (D : Boxing b m s at k f l x) where
   abbrev so-far : Progress
   so-far = record { work = D .work; handled = at; refusal = 0 }
 
@@ -90,7 +91,8 @@ module _ {b : Box} {m : Mesh} {s : Spares} {at k f : ℕ} {x : Mesh} (D : Boxing
   pub boxing-few : at ≤ 32768
   boxing-few = omega (arith, holding-few (D .held) .0, D .held .splits, D .few)
 
-  pub boxing-ends : ((t : ℕ) → t < x .topology .triangles → ¬ Wanted b x t) → Done (refineInBox b m) s 0 at k f x
+  pub boxing-ends : ((t : ℕ) → t < x .topology .triangles → ¬ Wanted b x t)
+      → Done (refineInBox b m) s 0 at k f x × (l ≡ refineInBox b m .work .report)
   boxing-ends nothing =
       holding-done (D .held) (sym (D .result) ∙ none-made b (D .left) so-far (λ t l W.
       let e = ap (λ (y : Mesh). wanted b y t) (D .held .tables) ∙ wanted-over L (G .sound) b t l in
@@ -107,38 +109,47 @@ module _ {b : Box} {m : Mesh} {s : Spares} {at k f : ℕ} {x : Mesh} (D : Boxing
         o ≡ unless n (over s (D .work .mesh)) noRoom (worked (withMesh (over s (u .mesh)) u))
     outcome-is e q = e ∙ ap (refineCall t) (D .held .tables) ∙ refine-over L (G .sound) t q
 
+    -- What the turn reports in the tables is what it reports in the mesh.
+    report-is : refineRefusal t (D .work .mesh) ≡ 0
+        → refine t (atFirst x) .report ≡ refine t (atFirst (D .work .mesh)) .report
+    report-is q =
+        ap (λ (y : Mesh). refine t (atFirst y) .report) (D .held .tables)
+        ∙ ap (λ (w : Work). w .report) (over-refine L t q)
+
     pub boxing-on : {o : Outcome} → o ≡ refineCall t x → o .answer .refusal ≡ 0
-        → Boxing b m s (at + 1) (k + o .answer .splits) (f + o .answer .flips) (o .mesh)
+        → Boxing b m s (at + 1) (k + o .answer .splits) (f + o .answer .flips) (l ++ refine t (atFirst x) .report)
+        (o .mesh)
     boxing-on {o} e z = go (refineRefusal t (D .work .mesh)) refl (D .left) (D .enough) (D .result)
       where
         go : (n : ℕ) → refineRefusal t (D .work .mesh) ≡ n
             → (j : ℕ) → triangleSlots m < j + reached (D .work) .triangles
             → refineWanted j b so-far ≡ refineInBox b m
-            → Boxing b m s (at + 1) (k + o .answer .splits) (f + o .answer .flips) (o .mesh)
+            → Boxing b m s (at + 1) (k + o .answer .splits) (f + o .answer .flips)
+            (l ++ refine t (atFirst x) .report) (o .mesh)
         go zero q zero i r = absurd (omega (arith, G .sound .triangleRoom, G .room .generations))
         go zero q (suc j) i r =
             let F = refine-found t (D .work .mesh) q in
             let H = going-on G F in
-            record {
+            rw (report-is q) (record {
               work = refine t (D .work);
               held = holding-on (D .held) _ (refine-adds t (D .work)) H (outcome-is e q);
               few = omega (arith, D .few, refine-splits (D .work) F);
               left = j;
               enough = omega (arith, G .triangles, H .triangles, refine-splits (D .work) F);
               result = rw (add-one at) (sym (turn-made j so-far next q) ∙ r);
-            }
+            })
         go (suc n) q j i r =
             let y : o .answer .refusal ≡ suc n = ap (λ (o : Outcome). o .answer .refusal) (outcome-is e q) in
             absurd (omega arith)
 
     pub boxing-stops : {o : Outcome} → o ≡ refineCall t x → o .answer .refusal ≢ 0
-        → Done (refineInBox b m) s (o .answer .refusal) at k f (o .mesh)
+        → Done (refineInBox b m) s (o .answer .refusal) at k f (o .mesh) × (l ≡ refineInBox b m .work .report)
     boxing-stops {o} e n = go (refineRefusal t (D .work .mesh)) refl (D .left) (D .enough) (D .result)
       where
         go : (r : ℕ) → refineRefusal t (D .work .mesh) ≡ r
             → (j : ℕ) → triangleSlots m < j + reached (D .work) .triangles
             → refineWanted j b so-far ≡ refineInBox b m
-            → Done (refineInBox b m) s (o .answer .refusal) at k f (o .mesh)
+            → Done (refineInBox b m) s (o .answer .refusal) at k f (o .mesh) × (l ≡ refineInBox b m .work .report)
         go zero q j i r = absurd (n (ap (λ (o : Outcome). o .answer .refusal) (outcome-is e q)))
         go (suc y) q zero i r = absurd (omega (arith, G .sound .triangleRoom, G .room .generations))
         go (suc y) q (suc j) i r =

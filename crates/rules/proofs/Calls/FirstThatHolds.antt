@@ -56,7 +56,7 @@ none-hold (this {n} {rest = rest} p) z t = absurd (not-zero n z (positive-both n
 none-hold (later {n} {rest = rest} q f) z t = (q, none-hold f z (positive-both n (positive rest) t .1))
 
 -- Where none of the first conditions holds, the rest decide.
-first-after : {conditions rest : List Condition} {n k : ℕ} → First conditions n → n ≡ 0 → T (positive conditions)
+pub first-after : {conditions rest : List Condition} {n k : ℕ} → First conditions n → n ≡ 0 → T (positive conditions)
     → First rest k → First (conditions ++ rest) k
 first-after none z t g = g
 first-after (this {n} {rest = others} p) z t g = absurd (not-zero n z (positive-both n (positive others) t .0))

@@ -18,6 +18,8 @@ use Rattle.rules.proofs.Lists.ListCall.{list-keeps}
 use Rattle.rules.proofs.Calls.Carried.{LoadFound, RefineFound, load-found, refine-found, found-refined}
 use Rattle.rules.proofs.Calls.Carried.{step-found, found-step, LockFound, lock-found, found-locked, noted-found}
 use Rattle.rules.proofs.Calls.Carried.{take-back-found}
+use Rattle.rules.proofs.Calls.Reporting.{plain, Reported, refusedPlain, tooShort, written, reported-as}
+use Rattle.rules.proofs.Calls.Reporting.{reported-keeps, short-number}
 use Rattle.rules.proofs.Calls.FirstThatHolds.{Judged, carried, refused, judged-carried}
 use Rattle.rules.proofs.Loads.InnerOfTwo.{same-two}
 use Rattle.rules.proofs.Loads.Load.{load-sound}
@@ -31,11 +33,12 @@ use Rattle.rules.specs.Calls.{Room, noRoom, Outcome, worked, loadRefusal
 use Rattle.rules.specs.Conditions.{OddInChain, atEven, atBoundary, onward, EndsAtBoundary, Takes, evenEnd}
 use Rattle.rules.specs.Conditions.{boundaryEnd, SizesFit, SomeInnerOfTwo}
 use Rattle.rules.specs.History.{Near, ReportsSplits, Kept, loads, refines, steps, refinesEach, refinesInBox}
-use Rattle.rules.specs.History.{setsLock, refinesNoted, takesBack, Call, changes, asks}
+use Rattle.rules.specs.History.{setsLock, refinesNoted, takesBack, reports, Call, changes, asks}
 use Rattle.rules.specs.History.{LastLoad, nothing, cage, outcome, after, opens, lastLoad, edges, characteristic}
 use Rattle.rules.specs.History.{cageCharacteristic, EveryHistory}
 use Rattle.rules.specs.Notes.{notedCall, notedTriangle, restored, Accepted}
 use Rattle.rules.specs.Promises.{StepMakes}
+use Rattle.rules.specs.Reports.{Refining, one, withNote, each, inBox, plainCall}
 use Rattle.rules.specs.Sound.{Sound}
 use Rattle.rules.specs.Split.{Work, atFirst, refine}
 use Rattle.rules.specs.Tables.{Topology, Mesh, TablesAgree, withRule, link, generation}
@@ -128,17 +131,22 @@ load-holds rule bytes m a (refused z) h = rw (ne-eqb (loadRefusal rule bytes m) 
 
 -- ---- the calls
 
+-- Those that can have a report.
+plain-holds : (r : Refining) (m : Mesh) (a : LastLoad) → Holds a m → Holds a (outcome (changes (plain r)) m .mesh)
+plain-holds (one t) m a =
+    judged-keeps (Holds a) (refine-judged t m) (λ z. holds-on a (refine-stays (refine-found t m z)))
+plain-holds (withNote t note) m a =
+    judged-keeps (Holds a) (noted-judged t note m) (λ z.
+    holds-on a (refine-stays (refine-found t m (noted-found t note m z .refines))))
+plain-holds (each list spares) m a = λ h. list-keeps list spares m (Holds a) h (λ G. holds-on a (going-stays G) h)
+plain-holds (inBox b spares) m a = λ h. box-keeps b spares m (Holds a) h (λ G. holds-on a (going-stays G) h)
+
 pub keeps : (c : Call) (m : Mesh) → Keeps c m
+keeps (changes (refines t)) m = record { holds = plain-holds (one t) m }
+keeps (changes (refinesNoted t note)) m = record { holds = plain-holds (withNote t note) m }
+keeps (changes (refinesEach list spares)) m = record { holds = plain-holds (each list spares) m }
+keeps (changes (refinesInBox b spares)) m = record { holds = plain-holds (inBox b spares) m }
 keeps (changes (loads rule bytes)) m = record { holds = λ a. load-holds rule bytes m a (load-judged rule bytes m) }
-keeps (changes (refines t)) m = record {
-  holds = λ a.
-      judged-keeps (Holds a) (refine-judged t m) (λ z. holds-on a (refine-stays (refine-found t m z)));
-}
-keeps (changes (refinesNoted t note)) m = record {
-  holds = λ a.
-      judged-keeps (Holds a) (noted-judged t note m) (λ z.
-      holds-on a (refine-stays (refine-found t m (noted-found t note m z .refines))));
-}
 keeps (changes (takesBack note)) m = record {
   holds = λ a.
       judged-keeps (Holds a) (take-back-judged note m) (λ z. holds-on a (back-stays (take-back-found note m z)));
@@ -150,11 +158,8 @@ keeps (changes steps) m = record {
 keeps (changes (setsLock on t)) m = record {
   holds = λ a. judged-keeps (Holds a) (lock-judged on t m) (λ z. holds-on a (lock-stays on t m (lock-found t m z)));
 }
-keeps (changes (refinesEach list spares)) m = record {
-  holds = λ a h. list-keeps list spares m (Holds a) h (λ G. holds-on a (going-stays G) h);
-}
-keeps (changes (refinesInBox b spares)) m = record {
-  holds = λ a h. box-keeps b spares m (Holds a) h (λ G. holds-on a (going-stays G) h);
+keeps (changes (reports r buffer)) m = record {
+  holds = λ a h. reported-keeps r buffer m (Holds a) h (plain-holds r m a h);
 }
 keeps (asks q) m = record { holds = λ a. subst (Holds a) (sym (question-stands q m)) }
 
@@ -165,23 +170,31 @@ history-holds (c ∷ cs) m o h = history-holds cs (outcome c m .mesh) (opens c m
 
 -- ---- soundness alone
 
+plain-sound : (r : Refining) (m : Mesh) → Sound m → Sound (outcome (changes (plain r)) m .mesh)
+plain-sound (one t) m =
+    judged-keeps Sound (refine-judged t m) (λ z _. found-refined (refine-found t m z) .sound)
+plain-sound (withNote t note) m =
+    judged-keeps Sound (noted-judged t note m) (λ z _.
+    found-refined (refine-found t m (noted-found t note m z .refines)) .sound)
+plain-sound (each list spares) m = λ S. list-keeps list spares m Sound S (λ G. G .sound)
+plain-sound (inBox b spares) m = λ S. box-keeps b spares m Sound S (λ G. G .sound)
+
 call-keeps-sound : (c : Call) (m : Mesh) → Sound m → Sound (outcome c m .mesh)
+call-keeps-sound (changes (refines t)) m = plain-sound (one t) m
+call-keeps-sound (changes (refinesNoted t note)) m = plain-sound (withNote t note) m
+call-keeps-sound (changes (refinesEach list spares)) m = plain-sound (each list spares) m
+call-keeps-sound (changes (refinesInBox b spares)) m = plain-sound (inBox b spares) m
 call-keeps-sound (changes (loads rule bytes)) m =
     judged-keeps Sound (load-judged rule bytes m) (λ z _.
     loaded-good rule bytes m (load-found rule bytes m z) .sound)
-call-keeps-sound (changes (refines t)) m =
-    judged-keeps Sound (refine-judged t m) (λ z _. found-refined (refine-found t m z) .sound)
-call-keeps-sound (changes (refinesNoted t note)) m =
-    judged-keeps Sound (noted-judged t note m) (λ z _.
-    found-refined (refine-found t m (noted-found t note m z .refines)) .sound)
 call-keeps-sound (changes (takesBack note)) m =
     judged-keeps Sound (take-back-judged note m) (λ z _. take-back-found note m z .sound)
 call-keeps-sound (changes steps) m =
     judged-keeps Sound (whole-step-judged m) (λ z _. found-step (step-found m z) .sound)
 call-keeps-sound (changes (setsLock on t)) m =
     judged-keeps Sound (lock-judged on t m) (λ z _. found-locked on (lock-found t m z) .sound)
-call-keeps-sound (changes (refinesEach list spares)) m = λ S. list-keeps list spares m Sound S (λ G. G .sound)
-call-keeps-sound (changes (refinesInBox b spares)) m = λ S. box-keeps b spares m Sound S (λ G. G .sound)
+call-keeps-sound (changes (reports r buffer)) m =
+    λ S. reported-keeps r buffer m Sound S (plain-sound r m S)
 call-keeps-sound (asks q) m = subst Sound (sym (question-stands q m))
 
 pub history-keeps-sound : (calls : List Call) (m : Mesh) → Sound m → Sound (after calls m)
@@ -256,6 +269,16 @@ carried-notes t note m z =
     subst (ReportsSplits m t) (sym (x .1))
     (record { odd = R .odd; atBoundary = R .atBoundary; bound = R .bound; even = R .even; made = R .made })
 
+-- The same with a report.
+carried-reports : (r : Refining) {t : ℕ} {m : Mesh} {buffer : List ℕ} {o : Outcome}
+    → (plainCall r m .answer .refusal ≡ 0 → ReportsSplits m t (plainCall r m)) → Reported r buffer m o
+    → o .answer .refusal ≡ 0 → ReportsSplits m t o
+carried-reports r f (refusedPlain n) z = absurd (n z)
+carried-reports r {m = m} f (tooShort y l) z = absurd (omega (arith, short-number r m, z))
+carried-reports r f (written y l) z =
+    let R = f y in
+    record { odd = R .odd; atBoundary = R .atBoundary; bound = R .bound; even = R .even; made = R .made }
+
 good-kept : (bytes : List ℕ) (m : Mesh) → Good bytes m → Kept bytes m
 good-kept bytes m G =
     let F = sound-manifold (G .sound) in
@@ -265,6 +288,9 @@ good-kept bytes m G =
       near = λ h l n. level-near _ (h % 3) _ (link (m .topology) h % 3) (sym (partnered (F .linked h l) n .level));
       refines = λ t z. carried-refines t m z;
       refinesNoted = λ t note z. carried-notes t note m z;
+      reports = λ t buffer z. carried-reports (one t) (carried-refines t m) (reported-as (one t) buffer m) z;
+      reportsNoted = λ t note buffer z.
+          carried-reports (withNote t note) (carried-notes t note m) (reported-as (withNote t note) buffer m) z;
     }
 
 module _ (calls : List Call) (m : Mesh) (bytes : List ℕ) (e : lastLoad calls m nothing ≡ cage bytes) where

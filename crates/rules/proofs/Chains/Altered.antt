@@ -108,7 +108,7 @@ abbrev pub afterNext : ℕ → Work → Topology
 afterNext t w = reached (splitAt (chainEnd (reached w) t) w)
 
 -- A triangle that is left is none that is written anew.
-left-not : (m n : Topology) {x y : ℕ} → x < m .triangles → generation n x ≡ generation m x → Written m n y → x ≢ y
+pub left-not : (m n : Topology) {x y : ℕ} → x < m .triangles → generation n x ≡ generation m x → Written m n y → x ≢ y
 left-not m n l e (inl w) q = omega arith
 left-not m n l e (inr w) q = unchanged-not m n w e q
 

@@ -5,17 +5,18 @@ use native.Mathlib.Omega.{arith}
 use lib.IntN.{pos, _+ℤ_, _-ℤ_}
 use Rattle.rules.proofs.Calls.Carried.{RefineFound, found-refined}
 use Rattle.rules.proofs.Chains.Refine.{Refined}
-use Rattle.rules.proofs.Chains.RefineLoop.{refine-flips}
+use Rattle.rules.proofs.Chains.Flipping.{refine-flips}
 use Rattle.rules.proofs.Links.Past.{Past, past-same, past-on}
 use Rattle.rules.proofs.Numbers.Differences.{nat, add, sub, equal}
 use Rattle.rules.proofs.Soundness.Relaxed.{SameSlots}
 use Rattle.rules.proofs.Spares.Adds.{refine-adds}
 use Rattle.rules.proofs.Splits.Bases.{reached}
 use Rattle.rules.proofs.Splits.Places.{Places, places-same, places-on}
+use Rattle.rules.proofs.Splits.Reported.{Telling, telling-none, telling-added}
 use Rattle.rules.proofs.Splits.Settled.{still-all, still-on}
 use Rattle.rules.specs.Calls.{splitsOf, rimSplitsOf}
 use Rattle.rules.specs.History.{edges, characteristic}
-use Rattle.rules.specs.Promises.{SamePast, Still}
+use Rattle.rules.specs.Promises.{SamePast, Still, odds}
 use Rattle.rules.specs.Sound.{Sound}
 use Rattle.rules.specs.Split.{Work, atFirst, refine}
 use Rattle.rules.specs.Tables.{Mesh, generation}
@@ -32,10 +33,12 @@ pub record Going (m : Mesh) (w : Work) : Type 0 where
   pub euler : characteristic (reached w) ≡ characteristic (m .topology)
   pub triangles : reached w .triangles ≡ m .topology .triangles + 2 * w .splits
   pub flips : w .flips ≤ 3 * w .splits
+  pub odd : 2 * w .flips + odds (reached w) ≤ odds (m .topology) + 3 * w .splits
   pub still : Still (m .topology) (reached w)
   pub room : SameSlots m (w .mesh)
   pub past : (b : ℕ) → reached w .triangles ≤ b → Past b (m .topology) (reached w)
   pub places : Places m (w .mesh)
+  pub telling : Telling (atFirst m) w
 
 pub going-begins : {m : Mesh} → Sound m → Going m (atFirst m)
 going-begins {m} S = record {
@@ -43,10 +46,12 @@ going-begins {m} S = record {
   euler = refl;
   triangles = omega arith;
   flips = omega arith;
+  odd = omega arith;
   still = still-all (m .topology);
   room = record { positions = refl; corners = refl; links = refl; generations = refl; locks = refl };
   past = λ b i. past-same b (m .topology);
   places = places-same m;
+  telling = telling-none (atFirst m);
 }
 
 -- A refine more, of a triangle that may be refined.
@@ -59,6 +64,7 @@ going-on {m} {w} {t} G F = rw (refine-adds t w) (record {
       ∙ G .euler;
   triangles = omega (arith, R .triangles, R .splits, G .triangles);
   flips = omega (arith, refine-flips F, R .splits, G .flips);
+  odd = omega (arith, R .odd, R .splits, G .odd);
   still = still-on (m .topology) (reached w) (reached (refine t (atFirst (w .mesh)))) (G .still) (R .still);
   room = record {
     positions = R .places .size ∙ G .room .positions;
@@ -69,6 +75,7 @@ going-on {m} {w} {t} G F = rw (refine-adds t w) (record {
   };
   past = λ b i. past-on (G .past b (omega (arith, R .triangles))) (R .past b i);
   places = places-on (G .places) (R .places);
+  telling = telling-added (G .telling) (R .telling);
 })
   where
     R : Refined t (splitsOf (reached w) t) (rimSplitsOf (reached w) t) (w .mesh) (refine t (atFirst (w .mesh)))

@@ -5,6 +5,7 @@ use Prim.Native.Nat.{ℕ, zero, suc, _+_, _*_, _%_, _≤_, _<_}
 use native.Mathlib.Omega.{arith}
 use lib.ListN.{length}
 use borrow.Author.Tests.{lt-ltb, le-ltb}
+use Rattle.rules.proofs.Splits.Reported.{Telling, telling-on}
 use Rattle.rules.proofs.Splits.Bases.{reached}
 use Rattle.rules.proofs.Chains.Chain.{Path, ends, path-end, path-odd, path-meets, path-use, path-high, path-fit}
 use Rattle.rules.proofs.Chains.Chain.{shortens}
@@ -75,6 +76,7 @@ pub record Raised (t top s q : ℕ) (d e : Work) : Type 0 where
   pub past : (b : ℕ) → reached e .triangles ≤ b → Past b (reached d) (reached e)
   pub odd : 2 * e .flips + odds (reached e) + 2 * q ≡ 2 * d .flips + odds (reached d) + 3 * s
   pub places : Places (d .mesh) (e .mesh)
+  pub telling : Telling d e
 
 module _ (t top v : ℕ) (d : Work) (x : Splittable (reached d) v) (F : Manifold (reached d))
     (K : BasesMeetIn nowhere (reached d)) (b : v < reached d .triangles) (high : topOf (reached d) v ≤ top) where
@@ -101,6 +103,7 @@ module _ (t top v : ℕ) (d : Work) (x : Splittable (reached d) v) (F : Manifold
         past = S .past;
         odd = X .odd;
         places = X .places;
+        telling = X .telling;
       }
 
   split-first : (s : ℕ) (e : Work) → Room 1 (reached d)
@@ -127,6 +130,7 @@ module _ (t top v : ℕ) (d : Work) (x : Splittable (reached d) v) (F : Manifold
         past = λ b i. past-on (S .past b (omega (arith, I .triangles))) (I .past b i);
         odd = omega (arith, X .odd, I .odd);
         places = places-on (X .places) (I .places);
+        telling = telling-on (X .telling) (I .telling);
       }
 
 pub room-rest : (s v g p r : ℕ) (m n : Topology) → CutResult v g p r m n → Room (suc s) m → Room s n

@@ -4,6 +4,7 @@ use mathlib.Core.Logic.{_≢_, inl, inr}
 use Prim.Native.Nat.{ℕ, zero, suc, _+_, _-_, _*_, _≤_, _<_, max}
 use native.Mathlib.Omega.{arith}
 use lib.ListN.{length}
+use Rattle.rules.proofs.Splits.Reported.{Telling}
 use Rattle.rules.proofs.Splits.Bases.{reached}
 use Rattle.rules.proofs.Chains.Chain.{Path, ends, Way, path-short, path-fit, path-counts, path-inside}
 use Rattle.rules.proofs.Chains.Chain.{path-outside, way}
@@ -43,6 +44,7 @@ pub record Refined (t s q : ℕ) (m : Mesh) (w : Work) : Type 0 where
   pub generationRoom : length (reached w .generations) ≡ length (m .topology .generations)
   pub past : (b : ℕ) → reached w .triangles ≤ b → Past b (m .topology) (reached w)
   pub places : Places m (w .mesh)
+  pub telling : Telling (atFirst m) w
 
 pub sound-room : {m : Mesh} {v : ℕ} (s : ℕ) → TablesAgree m → RoomFor v (2 * s) m → Room s (m .topology)
 sound-room s A R = record {
@@ -126,6 +128,7 @@ module _ (t : ℕ) (m : Mesh) (S : Sound m) (b : t < m .topology .triangles) (yo
         generationRoom = X .generationRoom;
         past = X .past;
         places = X .places;
+        telling = X .telling;
       }
 
   below : generation (m .topology) t < 20

@@ -1,7 +1,7 @@
 -- Refine as a counted loop: as many splits as t takes, each at the end that its base chain has then.
 use mathlib.Core.Path.{_≡_, refl, sym, _∙_, subst}
 use mathlib.Core.Bool.{Bool, true, false}
-use mathlib.Core.List.{List}
+use mathlib.Core.List.{List, _++_}
 use Prim.Native.Nat.{ℕ, zero, suc, _+_, _-_, _*_, _/_, _%_, _≤_, _<_, max}
 use native.Mathlib.Omega.{arith}
 use lib.ListN.{getD}
@@ -16,7 +16,7 @@ use Rattle.rules.proofs.Chains.Refine.{sound-room, chain-path, chain-bo
 use Rattle.rules.proofs.Soundness.Relaxed.{SameSlots, sound-manifold, sound-bases, agree-on}
 use Rattle.rules.proofs.Chains.Remembered.{path-last, path-within, places-stay}
 use Rattle.rules.proofs.Chains.Runs.{topOf, rimOf, split-even, split-odd}
-use Rattle.rules.proofs.Chains.Runs.{split-splitting}
+use Rattle.rules.proofs.Chains.Runs.{split-splitting, splitTold, split-report}
 use Rattle.rules.proofs.Splits.Settled.{nowhere}
 use Rattle.rules.specs.Calls.{splitsOf, rimSplitsOf}
 use Rattle.rules.specs.Conditions.{RoomFor}
@@ -81,6 +81,15 @@ pub ahead-splitting : {k g t : ℕ} {w : Work} (A : Ahead (suc k) g t w) →
 ahead-splitting {k} {t = t} {w = w} A =
     let E = ahead-end A in
     split-splitting (chainEnd (reached w) t) w (E .fit) (A .manifold) (E .inUse)
+    (room-fewer (suc k) 1 (reached w) (A .room) (omega arith))
+
+-- What it reports. (Request m)
+pub ahead-report : {k g t : ℕ} {w : Work} → Ahead (suc k) g t w →
+    let v = chainEnd (reached w) t in
+    splitAt v w .report ≡ w .report ++ splitTold (reached w) v
+ahead-report {k} {t = t} {w = w} A =
+    let E = ahead-end A in
+    split-report (chainEnd (reached w) t) w (E .fit) (A .manifold) (E .inUse)
     (room-fewer (suc k) 1 (reached w) (A .room) (omega arith))
 
 rising-on : (k n g t : ℕ) (m x : Topology) → Manifold x → BasesMeetIn nowhere x → t < x .triangles
@@ -189,7 +198,7 @@ unfolding settle
 settle-counts s w = go (isBase (reached w) (link (reached w) (3 * s)))
   where
     go : (b : Bool) →
-        let flipped = withFlip (withTopology (flip s (link (reached w) (3 * s) / 3) (reached w)) (w .mesh)) w in
+        let flipped = withFlip s (link (reached w) (3 * s) / 3) (withTopology (flip s (link (reached w) (3 * s) / 3) (reached w)) (w .mesh)) w in
         let x : Work = elim b [ true ↦ flipped | false ↦ w ] in
         x .flips ≤ w .flips + 1
     go true = omega arith
@@ -199,7 +208,7 @@ face-split-counts : (t : ℕ) (w : Work) → faceSplit t w .flips ≤ w .flips +
 unfolding faceSplit
 face-split-counts t w =
     let f : ℕ = reached w .triangles in
-    let a : Work = withSplit (facePlaced t (w .mesh)) w in
+    let a : Work = withSplit t (facePlaced t (w .mesh)) w in
     let b : Work = settle t a in
     omega (arith, settle-counts t a, settle-counts f b, settle-counts (f + 1) (settle f b))
 
@@ -207,19 +216,12 @@ rim-split-counts : (t : ℕ) (w : Work) → rimSplit t w .flips ≤ w .flips + 3
 unfolding rimSplit
 rim-split-counts t w =
     let f : ℕ = reached w .triangles in
-    let a : Work = withSplit (rimPlaced t (w .mesh)) w in
+    let a : Work = withSplit t (rimPlaced t (w .mesh)) w in
     omega (arith, settle-counts t a, settle-counts (f + 1) (settle t a))
 
-split-counts : (t : ℕ) (w : Work) → Splittable (reached w) t → splitAt t w .flips ≤ w .flips + 3
+pub split-counts : (t : ℕ) (w : Work) → Splittable (reached w) t → splitAt t w .flips ≤ w .flips + 3
 split-counts t w (isEven e) = rw (split-even t w e) (face-split-counts t w)
 split-counts t w (onBoundary o e) = rw (split-odd t w o) (rim-split-counts t w)
-
-ends-count : {g t : ℕ} (k : ℕ) (w : Work) → Ahead k g t w → splitEnds k t w .flips ≤ w .flips + 3 * k
-unfolding splitEnds
-ends-count zero w A = omega arith
-ends-count {t = t} (suc k) w A =
-    let v = chainEnd (reached w) t in
-    omega (arith, split-counts v w (ahead-end A .fit), ends-count k (splitAt v w) (ahead-on A))
 
 -- The vertices that the splits left take: one each, and one more where the next is a rim split.
 abbrev pub verticesLeft : ℕ → ℕ → Topology → ℕ
@@ -271,9 +273,6 @@ module _ {t : ℕ} {m : Mesh} (R : RefineFound t m) where
   refine-is-split-ends =
       raise-is-split-ends (splitsOf (m .topology) t) _ (atFirst m)
       (omega (arith, chain-bound t m (R .sound) (R .inUse))) ahead
-
-  pub refine-flips : refine t (atFirst m) .flips ≤ 3 * splitsOf (m .topology) t
-  refine-flips = rw refine-is-split-ends (omega (arith, ends-count (splitsOf (m .topology) t) (atFirst m) ahead))
 
   pub few-splits : splitsOf (m .topology) t ≤ 10
   few-splits = omega (arith, chain-bound t m (R .sound) (R .inUse), found-young R)

@@ -1,15 +1,17 @@
 -- What may be split, and its split with the flips.
+use mathlib.Core.List.{List, _++_}
 use mathlib.Core.Path.{_≡_, refl, subst}
 use mathlib.Core.Logic.{_≢_}
 use Prim.Native.Nat.{ℕ, suc, _+_, _*_, _%_, _<_}
 use native.Mathlib.Omega.{arith}
 use Rattle.rules.proofs.Splits.Bases.{reached}
 use Rattle.rules.proofs.Numbers.Decide.{odd-test, even-test}
-use Rattle.rules.proofs.Splits.Splitting.{Room, Splitting, face-splitting, rim-splitting}
+use Rattle.rules.proofs.Splits.Splitting.{Room, Splitting, face-splitting, rim-splitting, toldAs, face-report}
+use Rattle.rules.proofs.Splits.Splitting.{rim-report}
 use Rattle.rules.proofs.Links.Manifold.{Manifold}
 use Rattle.rules.specs.Conditions.{Splittable, isEven, onBoundary}
 use Rattle.rules.specs.Split.{Work, faceSplit, rimSplit, splitAt}
-use Rattle.rules.specs.Tables.{Topology, boundary, link, generation}
+use Rattle.rules.specs.Tables.{Topology, boundary, link, generation, odd}
 
 -- 1 where its split is a rim split, 0 where it is a face split; and the generation of its odd children.
 abbrev pub rimOf : Topology → ℕ → ℕ
@@ -38,3 +40,14 @@ split-splitting v d (isEven e) F b R =
     rw (split-even v d e, e)
     (subst (λ (g : ℕ). Splitting v g 1 0 d (faceSplit v d)) one (face-splitting v d F b R e))
 split-splitting v d (onBoundary o e) F b R = rw (split-odd v d o, o) (rim-splitting v d F b R o e)
+
+-- What the split of v reports, read before it. (Request m)
+abbrev pub splitTold : Topology → ℕ → List ℕ
+splitTold m v = toldAs (odd (generation m v)) m v
+
+pub split-report : (v : ℕ) (d : Work) → Splittable (reached d) v → Manifold (reached d) → v < reached d .triangles
+    → Room 1 (reached d) → splitAt v d .report ≡ d .report ++ splitTold (reached d) v
+split-report v d (isEven e) F b R =
+    rw (split-even v d e, even-test (generation (reached d) v) e) (face-report v d F b R e)
+split-report v d (onBoundary o e) F b R =
+    rw (split-odd v d o, odd-test (generation (reached d) v) o) (rim-report v d F b R o e)

@@ -1,8 +1,10 @@
 -- Refines made in spare tables: they hold the copy of what the refines make of the mesh, which may be copied back.
 use mathlib.Core.Path.{_≡_, refl, sym, ap, _∙_}
 use mathlib.Core.Logic.{_≢_}
-use Prim.Native.Nat.{ℕ, zero, suc, _+_, _≤_}
+use mathlib.Core.List.{List, [], _++_}
+use Prim.Native.Nat.{ℕ, zero, suc, _+_, _*_, _≤_}
 use native.Mathlib.Omega.{arith}
+use lib.ListN.{length}
 use Rattle.rules.proofs.Chains.Going.{Going, going-begins, same-past}
 use Rattle.rules.proofs.Spares.CopiedBack.{tablesOf, copied-back, copied-again}
 use Rattle.rules.proofs.Spares.OverSpares.{over, over-sound}
@@ -27,12 +29,13 @@ going-sizes L G =
       locks = L .locks ∙ sym (R .locks);
     }
 
--- The tables, which were s, hold x, the copy of what refines made of m, with k splits and f flips.
-pub record Holding (m : Mesh) (s : Spares) (w : Work) (k f : ℕ) (x : Mesh) : Type 0 where
+-- The tables, which were s, hold x, the copy of what refines made of m, with k splits, f flips and the report l.
+pub record Holding (m : Mesh) (s : Spares) (w : Work) (k f : ℕ) (l : List ℕ) (x : Mesh) : Type 0 where
   pub sizes : SameSizes s m
   pub going : Going m w
   pub splits : k ≡ w .splits
   pub flips : f ≡ w .flips
+  pub report : l ≡ w .report
   pub tables : x ≡ over s (w .mesh)
 
 -- What was answered, and the tables, are what was made.
@@ -43,10 +46,17 @@ pub record Done (p : Progress) (s : Spares) (n at k f : ℕ) (x : Mesh) : Type 0
   pub flips : f ≡ p .work .flips
   pub tables : x ≡ over s (p .work .mesh)
 
-pub holding-begins : {m : Mesh} {s : Spares} → SameSizes s m → Sound m → Holding m s (atFirst m) 0 0 (over s m)
-holding-begins L S = record { sizes = L; going = going-begins S; splits = refl; flips = refl; tables = refl }
+pub holding-begins : {m : Mesh} {s : Spares} → SameSizes s m → Sound m → Holding m s (atFirst m) 0 0 [] (over s m)
+holding-begins L S = record {
+  sizes = L;
+  going = going-begins S;
+  splits = refl;
+  flips = refl;
+  report = refl;
+  tables = refl;
+}
 
-module _ {m : Mesh} {s : Spares} {w : Work} {k f : ℕ} {x : Mesh} (H : Holding m s w k f x) where
+module _ {m : Mesh} {s : Spares} {w : Work} {k f : ℕ} {l : List ℕ} {x : Mesh} (H : Holding m s w k f l x) where
   pub holding-sizes : SameSizes s (w .mesh)
   holding-sizes = going-sizes (H .sizes) (H .going)
 
@@ -63,25 +73,29 @@ module _ {m : Mesh} {s : Spares} {w : Work} {k f : ℕ} {x : Mesh} (H : Holding 
       let q = H .flips in
       (omega (arith, G .triangles), omega (arith, G .triangles, G .flips))
 
+  -- Three slots are reported for each split, and two for each flip.
+  pub holding-length : length l ≡ 3 * k + 2 * f
+  holding-length =
+      let T = H .going .telling in
+      omega (arith, ap length (H .report ∙ T .report), T .size, H .splits, H .flips)
+
   pub holding-done : {n at : ℕ} {p : Progress} → p ≡ record { work = w; handled = at; refusal = n }
-      → Done p s n at k f x
-  holding-done e = rw e (record {
-    refusal = refl;
-    handled = refl;
-    splits = H .splits;
-    flips = H .flips;
-    tables = H .tables;
-  })
+      → Done p s n at k f x × (l ≡ p .work .report)
+  holding-done e = rw e (
+    record { refusal = refl; handled = refl; splits = H .splits; flips = H .flips; tables = H .tables },
+    H .report,
+  )
 
   -- More work, of which the tables hold the copy.
   pub holding-on : (u : Work) {y : Work} {o : Outcome} → y ≡ added w u → Going m y
       → o ≡ worked (withMesh (over s (u .mesh)) u)
-      → Holding m s y (k + o .answer .splits) (f + o .answer .flips) (o .mesh)
+      → Holding m s y (k + o .answer .splits) (f + o .answer .flips) (l ++ u .report) (o .mesh)
   holding-on u a G e = rw e (record {
     sizes = H .sizes;
     going = G;
     splits = rw a (ap (λ (j : ℕ). j + u .splits) (H .splits));
     flips = rw a (ap (λ (j : ℕ). j + u .flips) (H .flips));
+    report = rw a (ap (λ (j : List ℕ). j ++ u .report) (H .report));
     tables = rw a refl;
   })
 

@@ -2,7 +2,7 @@
 use mathlib.Core.Path.{_≡_, refl, sym, ap, ap₂, _∙_}
 use mathlib.Core.Logic.{_≢_}
 use mathlib.Core.Bool.{Bool, true, false}
-use mathlib.Core.List.{List}
+use mathlib.Core.List.{List, [], _++_, append-nil}
 use Prim.Native.Nat.{ℕ, zero, suc, _+_, _≤_, _<_}
 use native.Mathlib.Nat.{add-zero}
 use native.Mathlib.Numerals.{add-one}
@@ -39,7 +39,7 @@ module _ (start : Mesh) (t : ℕ) where
       go : (b : Bool)
           → _≡_ {A = Work} (elim b [ true ↦ w | false ↦ refine t w ])
           (added w (elim b [ true ↦ atFirst (w .mesh) | false ↦ refine t (atFirst (w .mesh)) ]))
-      go true = rw (add-zero (w .splits), add-zero (w .flips)) refl
+      go true = rw (add-zero (w .splits), add-zero (w .flips), append-nil (w .report)) refl
       go false = refine-adds t w
 
   module _ {s : Spares} {m : Mesh} (L : SameSizes s m) (S : Sound m)
@@ -96,27 +96,29 @@ module _ (start : Mesh) (t : ℕ) where
 
 -- ---- the list
 
--- The first entries of a list are handled: k splits and f flips were made, and the tables hold x.
-pub record Doing (m : Mesh) (s : Spares) (list : List ℕ) (at k f : ℕ) (x : Mesh) : Type 0 where
+-- The first entries of a list are handled: k splits and f flips were made, l is the report, and the tables hold x.
+pub record Doing (m : Mesh) (s : Spares) (list : List ℕ) (at k f : ℕ) (l : List ℕ) (x : Mesh) : Type 0 where
   pub work : Work
-  pub held : Holding m s work k f x
+  pub held : Holding m s work k f l x
   pub result : handleAll m (drop at list) (record { work = work; handled = at; refusal = 0 }) ≡ refineEach list m
 
-pub doing-begins : {m : Mesh} {s : Spares} (list : List ℕ) → SameSizes s m → Sound m → Doing m s list 0 0 0 (over s m)
+pub doing-begins : {m : Mesh} {s : Spares} (list : List ℕ) → SameSizes s m → Sound m
+    → Doing m s list 0 0 0 [] (over s m)
 doing-begins {m} list L S = record { work = atFirst m; held = holding-begins L S; result = refl }
 
-module _ {m : Mesh} {s : Spares} {list : List ℕ} {at k f : ℕ} {x : Mesh} (D : Doing m s list at k f x) where
+module _ {m : Mesh} {s : Spares} {list : List ℕ} {at k f : ℕ} {l : List ℕ} {x : Mesh}
+    (D : Doing m s list at k f l x) where
   abbrev so-far : Progress
   so-far = record { work = D .work; handled = at; refusal = 0 }
 
   abbrev G : Going m (D .work)
   G = D .held .going
 
-  pub doing-ends : at ≡ length list → Done (refineEach list m) s 0 at k f x
+  pub doing-ends : at ≡ length list → Done (refineEach list m) s 0 at k f x × (l ≡ refineEach list m .work .report)
   unfolding handleAll
   doing-ends e = holding-done (D .held) (sym (D .result) ∙ rw (e, drop-length list) refl)
 
-  module _ (l : at < length list) where
+  module _ (i : at < length list) where
     abbrev so-made : Work
     so-made = D .work
 
@@ -128,7 +130,7 @@ module _ {m : Mesh} {s : Spares} {list : List ℕ} {at k f : ℕ} {x : Mesh} (D 
         (goesOn (entryRefusal m entry (so-made .mesh)) (entryWork m entry so-made) so-far)
         ≡ refineEach list m
     unfolding handleAll handle
-    result-on = ap (λ (l : List ℕ). handleAll m l so-far) (sym (drop-cons list at 0 l)) ∙ D .result
+    result-on = ap (λ (l : List ℕ). handleAll m l so-far) (sym (drop-cons list at 0 i)) ∙ D .result
 
     outcome-is : {o : Outcome} → o ≡ entryOutcome m entry x → {n : ℕ} → entryRefusal m entry (so-made .mesh) ≡ n →
         let u = entryWork m entry (atFirst (so-made .mesh)) in
@@ -145,27 +147,37 @@ module _ {m : Mesh} {s : Spares} {list : List ℕ} {at k f : ℕ} {x : Mesh} (D 
         go (passes l r) z = G
         go (refines l r f F) z = going-on G F
 
+    -- What the entry reports in the tables is what it reports in the mesh.
+    report-is : entryRefusal m entry (so-made .mesh) ≡ 0
+        → entryWork m entry (atFirst x) .report ≡ entryWork m entry (atFirst (so-made .mesh)) .report
+    report-is q =
+        ap (λ (y : Mesh). entryWork m entry (atFirst y) .report) (D .held .tables)
+        ∙ ap (λ (w : Work). w .report)
+        (work-over m entry (holding-sizes (D .held)) (G .sound) (G .still .grows) q)
+
     pub doing-on : {o : Outcome} → o ≡ entryOutcome m entry x → o .answer .refusal ≡ 0
-        → Doing m s list (at + 1) (k + o .answer .splits) (f + o .answer .flips) (o .mesh)
+        → Doing m s list (at + 1) (k + o .answer .splits) (f + o .answer .flips)
+        (l ++ entryWork m entry (atFirst x) .report) (o .mesh)
     doing-on {o} e z = go (entryRefusal m entry (so-made .mesh)) refl
       where
         go : (n : ℕ) → entryRefusal m entry (so-made .mesh) ≡ n
-            → Doing m s list (at + 1) (k + o .answer .splits) (f + o .answer .flips) (o .mesh)
-        go zero q = record {
+            → Doing m s list (at + 1) (k + o .answer .splits) (f + o .answer .flips)
+            (l ++ entryWork m entry (atFirst x) .report) (o .mesh)
+        go zero q = rw (report-is q) (record {
           work = entryWork m entry so-made;
           held = holding-on (D .held) _ (entry-adds m entry so-made) (going-next q) (outcome-is e q);
           result = rw (add-one at) (rw q at result-on);
-        }
+        })
         go (suc n) q =
             let r : o .answer .refusal ≡ suc n = ap (λ (o : Outcome). o .answer .refusal) (outcome-is e q) in
             absurd (omega arith)
 
     pub doing-stops : {o : Outcome} → o ≡ entryOutcome m entry x → o .answer .refusal ≢ 0
-        → Done (refineEach list m) s (o .answer .refusal) at k f (o .mesh)
+        → Done (refineEach list m) s (o .answer .refusal) at k f (o .mesh) × (l ≡ refineEach list m .work .report)
     doing-stops {o} e n = go (entryRefusal m entry (so-made .mesh)) refl
       where
         go : (n : ℕ) → entryRefusal m entry (so-made .mesh) ≡ n
-            → Done (refineEach list m) s (o .answer .refusal) at k f (o .mesh)
+            → Done (refineEach list m) s (o .answer .refusal) at k f (o .mesh) × (l ≡ refineEach list m .work .report)
         go zero q = absurd (n (ap (λ (o : Outcome). o .answer .refusal) (outcome-is e q)))
         go (suc j) q =
             rw (outcome-is e q, ← D .held .tables)

@@ -35,7 +35,7 @@ copied-agrees {s} {m} L S =
     }
 
 -- Copied twice is copied once, and the tables keep their lengths.
-copied-twice : (m : Mesh) (s : Spares) → copied m (copied m s) ≡ copied m s
+pub copied-twice : (m : Mesh) (s : Spares) → copied m (copied m s) ≡ copied m s
 unfolding copied
 copied-twice m s = rw (
   fill-again (3 * m .topology .vertices) _ (s .positions),

@@ -12,6 +12,7 @@ use Rattle.rules.proofs.Boxes.BoxCall.{box-refusal, box-makes}
 use Rattle.rules.proofs.Calls.CallRefusals.{refine-judged, noted-judged, take-back-judged, whole-step-refusal}
 use Rattle.rules.proofs.Calls.Carried.{RefineFound, refine-found, refine-unlocked, found-refined, noted-found}
 use Rattle.rules.proofs.Calls.Carried.{take-back-found}
+use Rattle.rules.proofs.Calls.Reporting.{Reported, refusedPlain, tooShort, written, reported-as, short-number}
 use Rattle.rules.proofs.Calls.EveryCall.{refused-is, question-stands}
 use Rattle.rules.proofs.Calls.FirstThatHolds.{judged-carried, none-hold}
 use Rattle.rules.proofs.Calls.Outcomes.{lock-makes}
@@ -28,11 +29,12 @@ use Rattle.rules.specs.Calls.{Outcome, refineRefusal, wholeStepCall, loc
 use Rattle.rules.specs.Conditions.{Locked, SomeLocked}
 use Rattle.rules.specs.History.{loads, refines, steps, refinesEach, refinesInBox, setsLock, Call, changes, asks}
 use Rattle.rules.specs.History.{refinesNoted, takesBack, ringOf, positionOf, limitsOf, previewOf, pointSeen}
-use Rattle.rules.specs.History.{trianglesSeen, outcome, after}
+use Rattle.rules.specs.History.{trianglesSeen, reports, previewReported, outcome, after}
 use Rattle.rules.specs.Lists.{Progress, refineEach, sparesRefusal}
 use Rattle.rules.specs.Notes.{refined, notedTriangle, restored, Accepted, takeBackCall}
 use Rattle.rules.specs.Promises.{refusedWork, refusedAs, SameLocks, Still, LockMakes, Stands, NoLoad, NoClearing}
 use Rattle.rules.specs.Promises.{NoTakeBack, LeaveLocked, NoneTakenBack, LinksFollow}
+use Rattle.rules.specs.Reports.{Refining, one, withNote, each, inBox, plainCall}
 use Rattle.rules.specs.Sound.{Sound}
 use Rattle.rules.specs.Spares.{Spares}
 use Rattle.rules.specs.Split.{atFirst}
@@ -55,11 +57,19 @@ refused-mesh (changes (refinesInBox b spares)) n m = refused-work (boxRefusal b 
 refused-mesh (changes (setsLock on t)) n m = refl
 refused-mesh (changes (refinesNoted t note)) n m = refl
 refused-mesh (changes (takesBack note)) n m = refl
+refused-mesh (changes (reports (one t) buffer)) n m = refl
+refused-mesh (changes (reports (withNote t note) buffer)) n m = refl
+refused-mesh (changes (reports (each list spares) buffer)) n m =
+    refused-work (sparesRefusal spares m) (refineEach list m) spares n m
+refused-mesh (changes (reports (inBox b spares) buffer)) n m =
+    refused-work (boxRefusal b spares m) (refineInBox b m) spares n m
 refused-mesh (asks (ringOf v buffer)) n m = refl
 refused-mesh (asks (positionOf v)) n m = refl
 refused-mesh (asks (limitsOf table)) n m = refl
 refused-mesh (asks (pointSeen v)) n m = refl
 refused-mesh (asks (trianglesSeen k)) n m = refl
+refused-mesh (asks (previewReported list spares buffer)) n m =
+    refused-work (sparesRefusal spares m) (refineEach list m) spares n m
 refused-mesh (asks (previewOf list spares)) n m = refused-work (sparesRefusal spares m) (refineEach list m) spares n m
 
 -- A refused call leaves the mesh.
@@ -148,15 +158,42 @@ goes-back x note m L z =
 pub step-locked : (m : Mesh) → SomeLocked m → wholeStepCall m .answer .refusal ≢ 0
 step-locked m L z = let (_, (_, (_, (_, (_, (l, _)))))) = none-hold (whole-step-refusal m) z tt in l L
 
+-- A call that refines, with a report or without.
+plain-left : (x : ℕ) (c : Call) (r : Refining) (m : Mesh) → Locked m x → plainCall r m .answer .refusal ≡ 0
+    → Left x c m (plainCall r m .mesh)
+plain-left x c (one t) m L z =
+    let (r, e) = judged-carried (refine-judged t m) z in
+    left-refined t L (ap (λ (o : Outcome). o .mesh) e) r
+plain-left x c (withNote t note) m L z =
+    let (r, e) = judged-carried (noted-judged t note m) z in
+    left-refined t L (ap (λ (o : Outcome). o .mesh) e) (noted-found t note m r .refines)
+plain-left x c (each list spares) m L z =
+    let (e, _, M) = list-makes list spares m z in
+    let (_, (_, (s, _))) = none-hold (list-refusal list spares m) z tt in
+    let S = stable (sound-is m) s in
+    left-still L (ap (λ (o : Outcome). o .mesh) e) S (M .sound) (M .still) (M .oldVertices) (M .locks)
+    (handled-leaves (going-begins S) L (M .handled))
+plain-left x c (inBox b spares) m L z =
+    let (e, M) = box-makes b spares m z in
+    let (_, (_, (_, (s, _)))) = none-hold (box-refusal b spares m) z tt in
+    let S = stable (sound-is m) s in
+    left-still L (ap (λ (o : Outcome). o .mesh) e) S (M .sound) (M .still) (M .oldVertices) (M .locks)
+    (turns-leave (going-begins S) L (M .turns))
+
+reported-left : (x : ℕ) (c : Call) (r : Refining) (m : Mesh) {buffer : List ℕ} {o : Outcome} → Locked m x
+    → Reported r buffer m o → o .answer .refusal ≡ 0 → Left x c m (o .mesh)
+reported-left x c r m L (refusedPlain n) z = absurd (n z)
+reported-left x c r m L (tooShort y l) z = absurd (omega (arith, short-number r m, z))
+reported-left x c r m L (written y l) z = plain-left x c r m L y
+
 carried-stands : (x : ℕ) (c : Call) (m : Mesh) → Locked m x → NoLoad c m → outcome c m .answer .refusal ≡ 0
     → Left x c m (outcome c m .mesh)
 carried-stands x (changes (loads rule bytes)) m L n z = absurd (n rule bytes refl z)
-carried-stands x (changes (refines t)) m L n z =
-    let (r, e) = judged-carried (refine-judged t m) z in
-    left-refined t L (ap (λ (o : Outcome). o .mesh) e) r
-carried-stands x (changes (refinesNoted t note)) m L n z =
-    let (r, e) = judged-carried (noted-judged t note m) z in
-    left-refined t L (ap (λ (o : Outcome). o .mesh) e) (noted-found t note m r .refines)
+carried-stands x (changes (refines t)) m L n z = plain-left x _ (one t) m L z
+carried-stands x (changes (refinesNoted t note)) m L n z = plain-left x _ (withNote t note) m L z
+carried-stands x (changes (refinesEach list spares)) m L n z = plain-left x _ (each list spares) m L z
+carried-stands x (changes (refinesInBox b spares)) m L n z = plain-left x _ (inBox b spares) m L z
+carried-stands x (changes (reports r buffer)) m L n z = reported-left x _ r m L (reported-as r buffer m) z
 carried-stands x (changes (takesBack note)) m L n z =
     let (r, e) = judged-carried (take-back-judged note m) z in
     let A = take-back-found note m r in
@@ -167,18 +204,6 @@ carried-stands x (changes (takesBack note)) m L n z =
       sound = inr (A .sound);
     })
 carried-stands x (changes steps) m L n z = absurd (step-locked m (x, L) z)
-carried-stands x (changes (refinesEach list spares)) m L n z =
-    let (e, _, M) = list-makes list spares m z in
-    let (_, (_, (s, _))) = none-hold (list-refusal list spares m) z tt in
-    let S = stable (sound-is m) s in
-    left-still L (ap (λ (o : Outcome). o .mesh) e) S (M .sound) (M .still) (M .oldVertices) (M .locks)
-    (handled-leaves (going-begins S) L (M .handled))
-carried-stands x (changes (refinesInBox b spares)) m L n z =
-    let (e, M) = box-makes b spares m z in
-    let (_, (_, (_, (s, _)))) = none-hold (box-refusal b spares m) z tt in
-    let S = stable (sound-is m) s in
-    left-still L (ap (λ (o : Outcome). o .mesh) e) S (M .sound) (M .still) (M .oldVertices) (M .locks)
-    (turns-leave (going-begins S) L (M .turns))
 carried-stands x (changes (setsLock on t)) m (l, d) n z =
     let (e, M) = lock-makes on t m z in
     subst (Left x (changes (setsLock on t)) m) (sym (ap (λ (o : Outcome). o .mesh) e)) (record {

@@ -1,8 +1,10 @@
 -- What comes of a call of a mirrored mesh.
 use Prim.Native.Nat.{ℕ, zero, suc}
 use native.Mathlib.Omega.{arith}
+use mathlib.Core.Bool.{Bool, true, false}
 use mathlib.Core.List.{List, []}
 use mathlib.Core.Path.{_≡_, refl, ap, ap₂, _∙_}
+use lib.Dec.{ltb}
 use lib.IntN.{ℤ}
 use lib.ListN.{length, getD}
 use Rattle.rules.proofs.Mirrors.MirrorBoxes.{turns-mirror, box-refused}
@@ -15,16 +17,20 @@ use Rattle.rules.proofs.Mirrors.MirrorTables.{coordinate-mirror}
 use Rattle.rules.proofs.Mirrors.MirrorWork.{mirrorWork, refine-mirror, step-mirror, limits-mirror}
 use Rattle.rules.proofs.Mirrors.Opposites.{mirror-zero}
 use Rattle.rules.specs.Below.{fill}
-use Rattle.rules.specs.Boxes.{refineInBox, boxCall}
-use Rattle.rules.specs.Calls.{Room, Outcome, outcomeOf, answerOf, bufferRoom, tableRoom, spareRoom, zeroPoint}
+use Rattle.rules.specs.Boxes.{Box, refineInBox, boxCall}
+use Rattle.rules.specs.Calls.{Room, Outcome, withReport, outcomeOf, answerOf, bufferRoom, tableRoom, spareRoom, zeroPoint}
 use Rattle.rules.specs.Calls.{worked, unless, loadCall}
-use Rattle.rules.specs.Calls.{refineCall, wholeStepCall, lockCall, limitCall, ringCall, positionCall, viewCall}
+use Rattle.rules.specs.Calls.{refineCall, wholeStepCall, withLock, lockCall, limitCall, ringCall, positionCall, viewCall}
 use Rattle.rules.specs.History.{Call, outcome, after}
 use Rattle.rules.specs.Lists.{Progress, begun, refineEach, allOrNothing, listCall, previewCall}
 use Rattle.rules.specs.Mirror.{mirrorPoint, mirrorTable, mirror, mirrorSpares, mirrorRoom, mirrorOutcome}
 use Rattle.rules.specs.Mirror.{Mirrors, Rounds, load, refine, step, list, box, lock, noted, takeBack, ring}
-use Rattle.rules.specs.Mirror.{position, limit, preview, point, triangles, MirrorsEach, none, next}
+use Rattle.rules.specs.Mirror.{position, limit, preview, point, triangles, report, reportForeseen, MirrorsEach}
+use Rattle.rules.specs.Mirror.{none, next, mirrorBox, mirrorRefining}
 use Rattle.rules.specs.Notes.{notedWork, notedCall, takeBackCall}
+use Rattle.rules.specs.Reports as reports
+use Rattle.rules.specs.Reports.{Refining, one, withNote, each, inBox, plainCall, workOf, shortCall, reportIn}
+use Rattle.rules.specs.Reports.{reportedAs, reportedCall}
 use Rattle.rules.specs.Spares.{Spares}
 use Rattle.rules.specs.Split.{Work, atFirst}
 use Rattle.rules.specs.Tables.{Mesh, triangleSlots, withRule}
@@ -89,6 +95,62 @@ module _ (k : ℕ) (m : Mesh) where
   list-mirror entries spares =
       in-spares (refineEach entries m) spares (spares-refused k m spares) (handle-all-mirror k m entries (begun m))
 
+  box-mirror : (b : Box) (spares : Spares)
+      → boxCall (mirrorBox k b) (mirrorSpares k spares) (mirror k m) ≡ mirrorOutcome k (boxCall b spares m)
+  unfolding boxCall
+  box-mirror b spares =
+      in-spares (refineInBox b m) spares (box-refused k b m spares) (turns-mirror k b (triangleSlots m) (begun m))
+
+  -- ---- with a report
+
+  plain-mirror : (r : Refining) → plainCall (mirrorRefining k r) (mirror k m) ≡ mirrorOutcome k (plainCall r m)
+  unfolding refineCall notedCall
+  plain-mirror (one t) =
+      unless-mirror _ _ (refine-refused k m t) (ring-room []) (worked-mirror _ (refine-mirror k t (atFirst m)))
+  plain-mirror (withNote t note) =
+      unless-mirror _ _ (noted-refused k t note m) (ring-room note) (noted-mirror t note)
+  plain-mirror (each entries spares) = list-mirror entries spares
+  plain-mirror (inBox b spares) = box-mirror b spares
+
+  report-mirror : (r : Refining) → workOf (mirrorRefining k r) (mirror k m) .report ≡ workOf r m .report
+  report-mirror (one t) = ap (λ (w : Work). w .report) (refine-mirror k t (atFirst m))
+  report-mirror (withNote t note) = ap (λ (w : Work). w .report) (refine-mirror k t (atFirst m))
+  report-mirror (each entries spares) =
+      ap (λ (p : Progress). p .work .report) (handle-all-mirror k m entries (begun m))
+  report-mirror (inBox b spares) =
+      ap (λ (p : Progress). p .work .report) (turns-mirror k b (triangleSlots m) (begun m))
+
+  short-mirror : (r : Refining) → shortCall (mirrorRefining k r) (mirror k m) ≡ mirrorOutcome k (shortCall r m)
+  short-mirror (one t) = rw (no-point, ring-room [])
+  short-mirror (withNote t note) = rw (no-point, ring-room note)
+  short-mirror (each entries spares) =
+      rw (handle-all-mirror k m entries (begun m)) (done-mirror 23 (refineEach entries m) spares)
+  short-mirror (inBox b spares) =
+      rw (turns-mirror k b (triangleSlots m) (begun m)) (done-mirror 23 (refineInBox b m) spares)
+
+  reported-mirror : (r : Refining) (buffer : List ℕ)
+      → reportedCall (mirrorRefining k r) buffer (mirror k m) ≡ mirrorOutcome k (reportedCall r buffer m)
+  unfolding reportedCall
+  reported-mirror r buffer =
+      rw (plain-mirror r, report-mirror r, short-mirror r) (go (plainCall r m .answer .refusal) (workOf r m .report))
+    where
+      go : (n : ℕ) (l : List ℕ)
+          → reportedAs n l buffer (mirrorOutcome k (plainCall r m)) (mirrorOutcome k (shortCall r m))
+          ≡ mirrorOutcome k (reportedAs n l buffer (plainCall r m) (shortCall r m))
+      go (suc i) l = refl
+      go zero l = which (ltb (length buffer) (length l))
+        where
+          which : (b : Bool) →
+              let told : Outcome → Outcome → Outcome =
+              λ done short. elim b [
+                | true ↦ withReport buffer 0 short
+                | false ↦ withReport (reportIn l buffer) (length l) done
+              ] in
+              told (mirrorOutcome k (plainCall r m)) (mirrorOutcome k (shortCall r m))
+              ≡ mirrorOutcome k (told (plainCall r m) (shortCall r m))
+          which true = refl
+          which false = refl
+
   position-mirror : (v : ℕ) → positionCall v (mirror k m) ≡ mirrorOutcome k (positionCall v m)
   unfolding positionCall
   position-mirror v =
@@ -98,21 +160,18 @@ module _ (k : ℕ) (m : Mesh) where
 
   pub call-mirror : {c c′ : Call} → Mirrors k c c′ → (Rounds c → m .rule ≡ 2)
       → outcome c′ (mirror k m) ≡ mirrorOutcome k (outcome c m)
-  unfolding loadCall refineCall wholeStepCall boxCall lockCall limitCall ringCall previewCall viewCall notedCall
-      takeBackCall
+  unfolding loadCall wholeStepCall lockCall limitCall ringCall previewCall viewCall takeBackCall reports.reportForeseen
   call-mirror (load {rule} C) two =
       unless-mirror _ _ (load-refused k m C rule) (ring-room [])
       (worked-mirror _ (ap (λ n. atFirst (withRule rule n)) (loaded-mirror k m C)))
-  call-mirror (refine {t}) two =
-      unless-mirror _ _ (refine-refused k m t) (ring-room []) (worked-mirror _ (refine-mirror k t (atFirst m)))
+  call-mirror (refine {t}) two = plain-mirror (one t)
   call-mirror step two =
       unless-mirror _ _ (step-refused k m) (ring-room []) (worked-mirror _ (step-mirror k m (two step)))
   call-mirror (list {entries} {spares}) two = list-mirror entries spares
-  call-mirror (box {b} {spares}) two =
-      in-spares (refineInBox b m) spares (box-refused k b m spares) (turns-mirror k b (triangleSlots m) (begun m))
-  call-mirror (lock {on} {t}) two = unless-mirror _ _ (lock-refused k m t) (ring-room []) (worked-mirror _ refl)
-  call-mirror (noted {t} {note}) two =
-      unless-mirror _ _ (noted-refused k t note m) (ring-room note) (noted-mirror t note)
+  call-mirror (box {b} {spares}) two = box-mirror b spares
+  call-mirror (lock {on} {t}) two = unless-mirror _ _ (lock-refused k m t) (ring-room []) (worked-mirror (atFirst (withLock on t m)) refl)
+  call-mirror (noted {t} {note}) two = plain-mirror (withNote t note)
+  call-mirror (report {r} {buffer}) two = reported-mirror r buffer
   call-mirror (takeBack {note}) two =
       unless-mirror _ _ (take-back-refused k note m) (ring-room [])
       (worked-mirror _ (ap atFirst (restored-mirror k note m)))
@@ -123,6 +182,7 @@ module _ (k : ℕ) (m : Mesh) where
       unless-mirror _ _ (limit-refused k m table) (table-room table)
       (rw (limits-mirror k m (two limit) table, no-point, table-room))
   call-mirror (preview {entries} {spares}) two = rw (list-mirror entries spares) refl
+  call-mirror (reportForeseen {entries} {spares} {buffer}) two = rw (reported-mirror (each entries spares) buffer) refl
   call-mirror (point {v}) two = position-mirror v
   call-mirror (triangles {n}) two =
       unless-mirror _ _ (view-refused k m n) (ring-room []) (rw (no-point, ring-room []))

@@ -48,7 +48,7 @@ module _ (k : ℕ) where
   settle-mirror s w =
       let m = w .mesh .topology in
       let h = link m (3 * s) in
-      either (isBase m h) (withFlip (withTopology (flip s (h / 3) m) (w .mesh)) w) w refl refl
+      either (isBase m h) (withFlip s (h / 3) (withTopology (flip s (h / 3) m) (w .mesh)) w) w refl refl
 
   settle-all-mirror : (l : List ℕ) (w : Work) → settleAll l (mirrorWork k w) ≡ mirrorWork k (settleAll l w)
   settle-all-mirror [] w = refl
@@ -59,8 +59,8 @@ module _ (k : ℕ) where
   split-at-mirror t w =
       let f = w .mesh .topology .triangles in
       either (odd (generation (w .mesh .topology) t)) (rimSplit t w) (faceSplit t w)
-      (rw rim-mirror (settle-all-mirror (t ∷ (f + 1) ∷ []) (withSplit (rimPlaced t (w .mesh)) w)))
-      (rw split-mirror (settle-all-mirror (t ∷ f ∷ (f + 1) ∷ []) (withSplit (facePlaced t (w .mesh)) w)))
+      (rw rim-mirror (settle-all-mirror (t ∷ (f + 1) ∷ []) (withSplit t (rimPlaced t (w .mesh)) w)))
+      (rw split-mirror (settle-all-mirror (t ∷ f ∷ (f + 1) ∷ []) (withSplit t (facePlaced t (w .mesh)) w)))
 
   raise-mirror : (n g t : ℕ) (w : Work) → raise n g t (mirrorWork k w) ≡ mirrorWork k (raise n g t w)
   unfolding raise

@@ -2,7 +2,7 @@
 use Prim.Native.Nat.{ℕ, zero, suc, _+_, _*_, _/_}
 use native.Mathlib.Nat.{add-zero, add-suc}
 use mathlib.Core.Bool.{Bool, true, false}
-use mathlib.Core.List.{List, [], _∷_}
+use mathlib.Core.List.{List, [], _∷_, append-assoc, append-nil}
 use mathlib.Core.Path.{_≡_, refl}
 use lib.Dec.{ltb}
 use Rattle.rules.specs.Promises.{added}
@@ -21,7 +21,7 @@ module _ (w : Work) where
   settle-adds s r =
       let m = r .mesh .topology in
       let h = link m (3 * s) in
-      either (isBase m h) (withFlip (withTopology (flip s (h / 3) m) (r .mesh)) r) r (rw add-suc) refl
+      either (isBase m h) (withFlip s (h / 3) (withTopology (flip s (h / 3) m) (r .mesh)) r) r (rw (add-suc, append-assoc)) refl
 
   settle-all-adds : (l : List ℕ) (r : Work) → settleAll l (added w r) ≡ added w (settleAll l r)
   settle-all-adds [] r = refl
@@ -32,8 +32,8 @@ module _ (w : Work) where
   split-at-adds t r =
       let f = r .mesh .topology .triangles in
       either (odd (generation (r .mesh .topology) t)) (rimSplit t r) (faceSplit t r)
-      (rw (← add-suc) (settle-all-adds (t ∷ (f + 1) ∷ []) (withSplit (rimPlaced t (r .mesh)) r)))
-      (rw (← add-suc) (settle-all-adds (t ∷ f ∷ (f + 1) ∷ []) (withSplit (facePlaced t (r .mesh)) r)))
+      (rw (← add-suc, append-assoc) (settle-all-adds (t ∷ (f + 1) ∷ []) (withSplit t (rimPlaced t (r .mesh)) r)))
+      (rw (← add-suc, append-assoc) (settle-all-adds (t ∷ f ∷ (f + 1) ∷ []) (withSplit t (facePlaced t (r .mesh)) r)))
 
   raise-adds : (n g t : ℕ) (r : Work) → raise n g t (added w r) ≡ added w (raise n g t r)
   unfolding raise
@@ -47,4 +47,4 @@ pub refine-adds : (t : ℕ) (w : Work) → refine t w ≡ added w (refine t (atF
 unfolding refine
 refine-adds t w =
     let g = generation (w .mesh .topology) t in
-    simp add-zero at (raise-adds w (suc g) g t (atFirst (w .mesh)))
+    simp (add-zero, append-nil) at (raise-adds w (suc g) g t (atFirst (w .mesh)))

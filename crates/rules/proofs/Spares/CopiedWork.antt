@@ -2,7 +2,7 @@
 use mathlib.Core.Path.{_≡_, refl, sym, ap, ap₂, _∙_}
 use mathlib.Core.Logic.{inl, inr}
 use mathlib.Core.Bool.{Bool, true, false, _&&_}
-use mathlib.Core.List.{List, [], _∷_}
+use mathlib.Core.List.{List, [], _∷_, _++_}
 use Prim.Native.Nat.{ℕ, zero, suc, _+_, _*_, _/_, _%_, _<_, _≤_, min, max}
 use native.Mathlib.Omega.{arith}
 use native.Mathlib.Decide.{decLt}
@@ -40,6 +40,7 @@ pub record Over (r s : Mesh) (v f : ℕ) (w x : Work) : Type 0 where
   pub rule : x .mesh .rule ≡ w .mesh .rule
   pub splits : x .splits ≡ w .splits
   pub flips : x .flips ≡ w .flips
+  pub report : x .report ≡ w .report
 
 -- ---- the base chain
 
@@ -153,7 +154,7 @@ module _ {r s : Mesh} (A : TablesAgree r) (B : TablesAgree s) where
       h = link (reached w) (3 * c)
 
       flipped : Work → ℕ → Work
-      flipped w h = withFlip (withTopology (flip c (h / 3) (reached w)) (w .mesh)) w
+      flipped w h = withFlip c (h / 3) (withTopology (flip c (h / 3) (reached w)) (w .mesh)) w
 
       settleAt : Work → ℕ → ℕ → Work
       settleAt w h g = elim (eqb (h % 3) 0 && odd g) [ true ↦ flipped w h | false ↦ w ]
@@ -172,6 +173,7 @@ module _ {r s : Mesh} (A : TablesAgree r) (B : TablesAgree s) where
         rule = O .rule;
         splits = O .splits;
         flips = ap suc (O .flips);
+        report = ap (λ (l : List ℕ). l ++ (c ∷ h / 3 ∷ [])) (O .report);
       }
       go false e i = O
 
@@ -193,8 +195,15 @@ module _ {r s : Mesh} (A : TablesAgree r) (B : TablesAgree s) where
         → thirdOf h i j (x .mesh) t k ≡ thirdOf h i j (w .mesh) t k
     third-same h i j k a b c d = simp corner-same
 
+    -- The new slots are the same.
+    split-reported :
+        let new : Work → List ℕ = λ y. t ∷ reached y .triangles ∷ (reached y .triangles + 1) ∷ [] in
+        x .report ++ new x ≡ w .report ++ new w
+    split-reported =
+        ap₂ (λ (l : List ℕ) (f : ℕ). l ++ (t ∷ f ∷ (f + 1) ∷ [])) (O .report) (O .copyCounts .1 ∙ sym (O .counts .1))
+
     face-placed-over : SlotsFor r s (suc v) (f + 2)
-        → Over r s (suc v) (f + 2) (withSplit (facePlaced t (w .mesh)) w) (withSplit (facePlaced t (x .mesh)) x)
+        → Over r s (suc v) (f + 2) (withSplit t (facePlaced t (w .mesh)) w) (withSplit t (facePlaced t (x .mesh)) x)
     unfolding facePlaced centre
     face-placed-over Z = record {
       counts = face-cut-counted t (reached w) (O .counts);
@@ -210,10 +219,11 @@ module _ {r s : Mesh} (A : TablesAgree r) (B : TablesAgree s) where
       rule = O .rule;
       splits = ap suc (O .splits);
       flips = O .flips;
+      report = split-reported;
     }
 
     rim-placed-over : SlotsFor r s (v + 2) (f + 2)
-        → Over r s (v + 2) (f + 2) (withSplit (rimPlaced t (w .mesh)) w) (withSplit (rimPlaced t (x .mesh)) x)
+        → Over r s (v + 2) (f + 2) (withSplit t (rimPlaced t (w .mesh)) w) (withSplit t (rimPlaced t (x .mesh)) x)
     unfolding rimPlaced firstThird secondThird
     rim-placed-over Z = record {
       counts = rim-cut-counted t (reached w) (O .counts);
@@ -232,6 +242,7 @@ module _ {r s : Mesh} (A : TablesAgree r) (B : TablesAgree s) where
       rule = O .rule;
       splits = ap suc (O .splits);
       flips = O .flips;
+      report = split-reported;
     }
 
     -- What a split makes, settled, in slots that F gives.

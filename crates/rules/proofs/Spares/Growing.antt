@@ -36,7 +36,7 @@ settle-counted {v} {f} c w M = go (isBase (reached w) h)
 
     go : (b : Bool) →
         let x : Work =
-        elim b [ true ↦ withFlip (withTopology (flip c (h / 3) (reached w)) (w .mesh)) w | false ↦ w ] in
+        elim b [ true ↦ withFlip c (h / 3) (withTopology (flip c (h / 3) (reached w)) (w .mesh)) w | false ↦ w ] in
         Counted v f (reached x)
     go true = flip-counted c (reached w) M (h / 3)
     go false = M
@@ -51,13 +51,13 @@ module _ {v f : ℕ} (t : ℕ) (w : Work) (M : Counted v f (reached w)) where
   unfolding faceSplit facePlaced
   face-split-counted =
       let e : ℕ = reached w .triangles in
-      settle-all-counted (t ∷ e ∷ (e + 1) ∷ []) (withSplit (facePlaced t (w .mesh)) w)
+      settle-all-counted (t ∷ e ∷ (e + 1) ∷ []) (withSplit t (facePlaced t (w .mesh)) w)
       (face-cut-counted t (reached w) M)
 
   pub rim-split-counted : Counted (v + 2) (f + 2) (reached (rimSplit t w))
   unfolding rimSplit rimPlaced
   rim-split-counted =
-      settle-all-counted (t ∷ (reached w .triangles + 1) ∷ []) (withSplit (rimPlaced t (w .mesh)) w)
+      settle-all-counted (t ∷ (reached w .triangles + 1) ∷ []) (withSplit t (rimPlaced t (w .mesh)) w)
       (rim-cut-counted t (reached w) M)
 
 -- They are not lower in n than in m.

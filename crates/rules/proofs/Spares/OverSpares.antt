@@ -93,6 +93,7 @@ module _ {s : Spares} {m : Mesh} (H : Holds s m) (S : Sound m) where
         rule = refl;
         splits = refl;
         flips = refl;
+        report = refl;
       }
 
   sizes : SameSlots (meshIn s m) (over s m)
@@ -228,6 +229,7 @@ over-is {s} {m} {w} {x} B (v, f, O) Z =
           (P .rule i);
       splits = P .splits i;
       flips = P .flips i;
+      report = P .report i;
     }
 
 -- Where s has the slots for it too.

@@ -1,7 +1,8 @@
 -- Where two bases meet, and what settling a child does about it.
-use mathlib.Core.Path.{_≡_, refl, ap, _∙_, subst}
+use mathlib.Core.Path.{_≡_, refl, sym, ap, _∙_, subst}
 use mathlib.Core.Logic.{_≢_}
 use mathlib.Core.Bool.{Bool, true, false}
+use mathlib.Core.List.{List, [], _∷_, _++_, append-nil}
 use Prim.Native.Nat.{ℕ, _+_, _*_, _/_, _%_, _≤_, _<_}
 use native.Mathlib.Omega.{arith}
 use lib.ListN.{getD, List·getD-eq-default}
@@ -78,11 +79,16 @@ abbrev pub flipsOf : {c : ℕ} {m n : Topology} → Settling c m n → ℕ
 flipsOf (kept x) = 0
 flipsOf (flipped u B S) = 1
 
+abbrev pub reportOf : {c : ℕ} {m n : Topology} → Settling c m n → List ℕ
+reportOf (kept x) = []
+reportOf {c} (flipped u B S) = c ∷ u ∷ []
+
 -- What settling c makes of work.
 pub record Settles (c : ℕ) (w v : Work) : Type 0 where
   pub settling : Settling c (reached w) (reached v)
   pub splits : v .splits ≡ w .splits
   pub flips : v .flips ≡ w .flips + flipsOf settling
+  pub report : v .report ≡ w .report ++ reportOf settling
 
 pub settle-settles : (p g c : ℕ) (w : Work) → Manifold (reached w) → Child p g c (reached w) → Settles c w (settle c w)
 unfolding settle
@@ -93,7 +99,7 @@ settle-settles p g c w F C = go (isBase m (link m (3 * c))) refl
 
     go : (b : Bool) → isBase m (link m (3 * c)) ≡ b
         → Settles c w (elim b
-        [ true ↦ withFlip (withTopology (flip c (link m (3 * c) / 3) m) (w .mesh)) w | false ↦ w ])
+        [ true ↦ withFlip c (link m (3 * c) / 3) (withTopology (flip c (link m (3 * c) / 3) m) (w .mesh)) w | false ↦ w ])
     go true e =
         let u : ℕ = link m (3 * c) / 3 in
         let B : BasesMeet c u m = bases p g c m F C (when-true (base-is m (link m (3 * c))) e) in
@@ -101,11 +107,13 @@ settle-settles p g c w F C = go (isBase m (link m (3 * c))) refl
           settling = flipped u B (flip-flips c u m F (B .useS) (B .useU) (B .differ));
           splits = refl;
           flips = omega arith;
+          report = refl;
         }
     go false e = record {
       settling = kept (when-false (base-is m (link m (3 * c))) e);
       splits = refl;
       flips = omega arith;
+      report = sym (append-nil (w .report));
     }
 
 pub settling-manifold : (c : ℕ) (m n : Topology) → Manifold m → Settling c m n → Manifold n

@@ -1,20 +1,23 @@
 -- The face split and the rim split, with their flips.
-use mathlib.Core.Path.{_≡_, refl, sym, _∙_, subst}
+use mathlib.Core.Path.{_≡_, refl, sym, ap, ap₂, _∙_, subst}
 use mathlib.Core.Logic.{inl, inr}
 use mathlib.Core.Bool.{Bool, true, false}
-use mathlib.Core.List.{List, [], _∷_}
+use mathlib.Core.List.{List, [], _∷_, _++_, append-nil, append-assoc}
 use Prim.Native.Nat.{ℕ, suc, _+_, _*_, _/_, _%_, _≤_, _<_}
 use native.Mathlib.Omega.{arith}
 use lib.ListN.{length, getD}
 use lib.IntN.{pos}
 use Rattle.rules.proofs.Splits.Bases.{Settles, reached, settle-settles, settling-manifold}
-use Rattle.rules.proofs.Splits.Cut.{Cut, CutResult, cut-settled}
+use Rattle.rules.proofs.Splits.Cut.{Cut, Onto, CutResult, cut-settled}
 use Rattle.rules.proofs.Splits.Edges.{split-boundary, rim-boundary}
+use Rattle.rules.proofs.Splits.Flipped.{BaseAt, flips-some, flips-once, pairAt, pairOf, pairsOf, pair-of-side}
+use Rattle.rules.proofs.Splits.Flipped.{report-is}
 use Rattle.rules.proofs.Links.Manifold.{Manifold}
 use Rattle.rules.proofs.Splits.Odds.{split-odds, rim-odds, settling-odds}
 use Rattle.rules.proofs.Splits.Parts.{Parts, Parted, faceParts, parted-is, split-is, rimParts, rim-is}
 use Rattle.rules.proofs.Splits.PartsCut.{child, cut-of}
 use Rattle.rules.proofs.Splits.Places.{Places, places-stay, places-on, places-new}
+use Rattle.rules.proofs.Splits.Reported.{Telling, telling-none, telling-on, settles-telling, cut-telling}
 use Rattle.rules.proofs.Splits.Unlocking.{unlocks-stay, unlocks-new}
 use Rattle.rules.proofs.Numbers.Rounding.{third-in-range}
 use Rattle.rules.proofs.Splits.Settled.{Settled, done, then, Children, Distinct, children-on}
@@ -22,7 +25,7 @@ use Rattle.rules.proofs.Splits.RimKeeps.{rim-manifold}
 use Rattle.rules.proofs.Splits.SplitKeeps.{split-manifold}
 use Rattle.rules.specs.Actions.{cutsFace, cutsRim}
 use Rattle.rules.specs.Numbers.{InRange}
-use Rattle.rules.specs.Promises.{odds}
+use Rattle.rules.specs.Promises.{odds, Listed}
 use Rattle.rules.specs.Split.{Work, faceCut, flip, withSplit, withFlip, centre, facePlaced, settle, settleAll}
 use Rattle.rules.specs.Split.{faceSplit, thirdOf, firstThird, secondThird, rimCut, rimPlaced, rimSplit}
 use Rattle.rules.specs.Tables.{Topology, Mesh, meshOf, withTopology, origin, boundary, link, generation, isBase}
@@ -153,6 +156,12 @@ counted : {cs : List ℕ} {w x : Work} → SettlesAll cs w x → Counted w x
 counted all-done = record { splits = refl; odd = refl }
 counted (next-child S s) = counted-on S (counted s)
 
+-- What they report.
+told-all : {cs : List ℕ} {w x : Work} → SettlesAll cs w x → Telling w x
+told-all (all-done {w = w}) = telling-none w
+told-all (next-child S s) =
+    telling-on (settles-telling S) (told-all s)
+
 -- ---- the new vertices
 
 -- Settling changes the topology alone.
@@ -166,7 +175,7 @@ settle-leaves s w = go (isBase m (link m (3 * s)))
 
     go : (b : Bool) →
         let x : Work = elim b as (λ _. Work) [
-          | true ↦ withFlip (withTopology (flip s (link m (3 * s) / 3) m) (w .mesh)) w
+          | true ↦ withFlip s (link m (3 * s) / 3) (withTopology (flip s (link m (3 * s) / 3) m) (w .mesh)) w
           | false ↦ w
         ] in
         (x .mesh .positions ≡ w .mesh .positions) × (x .mesh .rule ≡ w .mesh .rule)
@@ -202,23 +211,33 @@ pub record Splitting (v g p r : ℕ) (w x : Work) : Type 0 where
   pub splits : x .splits ≡ suc (w .splits)
   pub odd : 2 * x .flips + odds (reached x) + r ≡ 2 * w .flips + odds (reached w) + 3
   pub places : Places (w .mesh) (x .mesh)
+  pub telling : Telling w x
+  pub some : (h : ℕ) → BaseAt v (reached w) h → w .flips + 1 ≤ x .flips
+  pub once : ((h k : ℕ) → BaseAt v (reached w) h → BaseAt v (reached w) k → h ≡ k) → x .flips ≤ w .flips + 1
 
 -- A cut whose new vertices are placed, counted and settled.
 splitting-of : (v g p r : ℕ) (cs : List ℕ) (w : Work) (k : Mesh) → Manifold (reached w) → v < reached w .triangles
-    → Cut v g cs p r (reached w) (k .topology) → odds (k .topology) + r ≡ odds (reached w) + 3 → Places (w .mesh) k
-    → Splitting v g p r w (settleAll cs (withSplit k w))
-splitting-of v g p r cs w k F b C o P =
-    let A = settles-all (reached w .vertices) g cs (withSplit k w) (C .manifold) (C .children) (C .distinct) in
+    → Cut v g cs p r (reached w) (k .topology)
+    → ((h : ℕ) → Onto cs h →
+    let f = reached w .triangles in
+    Listed (v ∷ f ∷ (f + 1) ∷ []) (h / 3))
+    → odds (k .topology) + r ≡ odds (reached w) + 3 → Places (w .mesh) k
+    → Splitting v g p r w (settleAll cs (withSplit v k w))
+splitting-of v g p r cs w k F b C into o P =
+    let A = settles-all (reached w .vertices) g cs (withSplit v k w) (C .manifold) (C .children) (C .distinct) in
     let K = counted A in
-    let x : Work = settleAll cs (withSplit k w) in
+    let x : Work = settleAll cs (withSplit v k w) in
     let result = cut-settled v g cs p r (reached w) (k .topology) (reached x) F b C (settled-of A) in
-    let L = settled-leaves cs (withSplit k w) in
+    let L = settled-leaves cs (withSplit v k w) in
     record {
       result = result;
       splits = K .splits;
       odd = omega (arith, K .odd);
       places = places-on P (places-stay k (x .mesh) (L .0) (result .vertices ∙ sym (C .vertices))
           (unlocks-stay k (x .mesh) (L .2) (result .triangles ∙ sym (C .triangles))) (L .1));
+      telling = telling-on (cut-telling w k C into) (told-all A);
+      some = flips-some (withSplit v k w) F C (told-all A) (K .splits);
+      once = flips-once (withSplit v k w) F C (told-all A) (K .splits);
     }
 
 -- A third of corners of a triangle in use is in range where the vertices are.
@@ -249,6 +268,12 @@ module _ (v : ℕ) (w : Work) (F : Manifold (reached w)) (b : v < reached w .tri
       let N : Manifold (faceCut v m) =
       split-manifold v m (faceCut v m) F b even S (omega arith) (omega arith) (omega arith) in
       splitting-of v _ 1 0 _ w (facePlaced v (w .mesh)) F b (face-cut v m (faceCut v m) F b even S N)
+      (λ h o. elim o [
+        | inl e ↦ inl (omega arith)
+        | inr (inl e) ↦ inr (inl (omega arith))
+        | inr (inr (inl e)) ↦ inr (inr (inl (omega arith)))
+        | inr (inr (inr e)) ↦ absurd e
+      ])
       (split-odds v m (faceCut v m) b even S)
       (places-new (w .mesh) (facePlaced v (w .mesh)) _ (S .vertices) refl
       (unlocks-new (w .mesh) (facePlaced v (w .mesh)) (S .triangles) refl) refl
@@ -281,4 +306,73 @@ module _ (v : ℕ) (w : Work) (F : Manifold (reached w)) (b : v < reached w .tri
       (λ a. third-fits 0 1 1 (w .mesh) v F b (omega arith) (omega arith) (omega arith)
       (λ i l. subst InRange (one .old i l) (a i (omega arith)))) in
       splitting-of v _ 2 2 _ w (rimPlaced v (w .mesh)) F b (rim-cut v m (rimCut v m) F b odd edge S N)
+      (λ h o. elim o [
+        | inl e ↦ inl (omega arith)
+        | inr (inl e) ↦ inr (inr (inl (omega arith)))
+        | inr (inr e) ↦ absurd e
+      ])
       (rim-odds v m (rimCut v m) b odd S) (places-on one two)
+
+-- ---- what a split reports, read before it
+
+-- What the flips of the split of v report, of a rim split or of a face split.
+abbrev pub flipsTold : Bool → Topology → ℕ → List ℕ
+flipsTold true m v = pairAt m v (3 * v + 2) ++ pairAt m (m .triangles + 1) (3 * v + 1)
+flipsTold false m v =
+    let f = m .triangles in
+    pairAt m v (3 * v) ++ (pairAt m f (3 * v + 1) ++ pairAt m (f + 1) (3 * v + 2))
+
+-- Its own slot, the new ones, and then what they do.
+abbrev pub toldAs : Bool → Topology → ℕ → List ℕ
+toldAs rim m v = v ∷ m .triangles ∷ (m .triangles + 1) ∷ flipsTold rim m v
+
+module _ (v : ℕ) (w : Work) (F : Manifold (reached w)) (b : v < reached w .triangles) (R : Room 1 (reached w)) where
+  pub face-report : generation (reached w) v % 2 ≡ 0
+      → faceSplit v w .report ≡ w .report ++ toldAs false (reached w) v
+  unfolding faceSplit facePlaced
+  face-report even =
+      let rc = R .corners in
+      let rl = R .links in
+      let rg = R .generations in
+      let m : Topology = reached w in
+      let n : Topology = faceCut v m in
+      let f : ℕ = m .triangles in
+      let S : Parted v (faceParts v m) m n =
+      rw (split-is v m) (parted-is v (faceParts v m) m F b (omega arith) (omega arith) (omega arith)) in
+      let N : Manifold n = split-manifold v m n F b even S (omega arith) (omega arith) (omega arith) in
+      let C = face-cut v m n F b even S N in
+      let k : Mesh = facePlaced v (w .mesh) in
+      let x : pairOf n v ≡ pairAt m v (3 * v) =
+      pair-of-side v v (3 * v) m n F N (C .generations) (omega arith) (omega arith) (S .own .links .0) in
+      let y : pairOf n f ≡ pairAt m f (3 * v + 1) =
+      pair-of-side v f (3 * v + 1) m n F N (C .generations) (omega arith) (omega arith) (S .second .links .0) in
+      let z : pairOf n (f + 1) ≡ pairAt m (f + 1) (3 * v + 2) =
+      pair-of-side v (f + 1) (3 * v + 2) m n F N (C .generations) (omega arith) (omega arith) (S .third .links .0) in
+      report-is (m .vertices) _ (v ∷ f ∷ (f + 1) ∷ []) (withSplit v k w) N (C .children) (C .distinct)
+      ∙ append-assoc (w .report) (v ∷ f ∷ (f + 1) ∷ []) (pairsOf n (v ∷ f ∷ (f + 1) ∷ []))
+      ∙ ap (λ (l : List ℕ). w .report ++ (v ∷ f ∷ (f + 1) ∷ l))
+      (ap₂ (λ (l j : List ℕ). l ++ j) x (ap₂ (λ (l j : List ℕ). l ++ j) y (append-nil (pairOf n (f + 1)) ∙ z)))
+
+  pub rim-report : generation (reached w) v % 2 ≡ 1 → link (reached w) (3 * v) ≡ boundary
+      → rimSplit v w .report ≡ w .report ++ toldAs true (reached w) v
+  unfolding rimSplit rimPlaced
+  rim-report odd edge =
+      let rc = R .corners in
+      let rl = R .links in
+      let rg = R .generations in
+      let m : Topology = reached w in
+      let n : Topology = rimCut v m in
+      let f : ℕ = m .triangles in
+      let S : Parted v (rimParts v m) m n =
+      rw (rim-is v m) (parted-is v (rimParts v m) m F b (omega arith) (omega arith) (omega arith)) in
+      let N : Manifold n = rim-manifold v m n F b odd edge S (omega arith) (omega arith) (omega arith) in
+      let C = rim-cut v m n F b odd edge S N in
+      let k : Mesh = rimPlaced v (w .mesh) in
+      let x : pairOf n v ≡ pairAt m v (3 * v + 2) =
+      pair-of-side v v (3 * v + 2) m n F N (C .generations) (omega arith) (omega arith) (S .own .links .0) in
+      let y : pairOf n (f + 1) ≡ pairAt m (f + 1) (3 * v + 1) =
+      pair-of-side v (f + 1) (3 * v + 1) m n F N (C .generations) (omega arith) (omega arith) (S .third .links .0) in
+      report-is (m .vertices) _ (v ∷ (f + 1) ∷ []) (withSplit v k w) N (C .children) (C .distinct)
+      ∙ append-assoc (w .report) (v ∷ f ∷ (f + 1) ∷ []) (pairsOf n (v ∷ (f + 1) ∷ []))
+      ∙ ap (λ (l : List ℕ). w .report ++ (v ∷ f ∷ (f + 1) ∷ l))
+      (ap₂ (λ (l j : List ℕ). l ++ j) x (append-nil (pairOf n (f + 1)) ∙ y))

@@ -2,7 +2,8 @@
 use borrow.Author.Needs.{needs}
 use native.Mathlib.Omega.{arith}
 use mathlib.Core.Path.{ap}
-use Rattle.split.specs.Made.{countsOf}
+use Rattle.rules.specs.Split.{Work}
+use Rattle.split.specs.Made.{countsOf, workNow}
 use Rattle.split.proofs.Bounds.{face-hands}
 use Rattle.split.proofs.Steps.{face-cut-steps}
 use Rattle.split.proofs.face_cut.Statement.{statement}
@@ -71,7 +72,7 @@ same-length-5 : tie.Need-same-length-5
 same-length-5 c = search needs
 
 returns : tie.Need-returns
-returns c rule =
+returns c rule report =
     let at-unlock-two = c .before .before in
     let at-replace = at-unlock-two .before .before .before .before .before .before .before .before in
     let at-children = at-replace .before .before .before .before in
@@ -81,11 +82,16 @@ returns c rule =
     let at-start = at-third-of .before .before .before .before .before .before .before .before in
     let args = at-start .args in
     let n = countsOf rule (args .work) in
-    face-hands _ _ _ (at-start .pre .0 .1 .young)
-    (face-cut-steps _ _ _ _ _ _ _ _
-    (at-third-of .third-of .ensures n (args .links .now) (args .generations .now) (args .locks .now))
-    (at-store-point .store-point .ensures) (at-triangle-at .triangle-at .ensures n) (at-children .children .ensures)
-    (at-replace .replace .ensures n) (at-unlock-two .unlock-two .ensures)) (at-start .pre .1)
+    let w : Work =
+    workNow rule report (args .work) (args .positions .now) (args .corners .now) (args .links .now)
+    (args .generations .now) (args .locks .now) in (
+      _,
+      face-hands _ w _ (at-start .pre .0 .2 .young)
+          (face-cut-steps _ w _ _ _ _ _ _
+          (at-third-of .third-of .ensures n (args .links .now) (args .generations .now) (args .locks .now))
+          (at-store-point .store-point .ensures) (at-triangle-at .triangle-at .ensures n) (at-children .children .ensures)
+          (at-replace .replace .ensures n) (at-unlock-two .unlock-two .ensures)) (at-start .pre .1),
+    )
 
 pub face-cut-spec : {M : Type 1} → statement M
 face-cut-spec =

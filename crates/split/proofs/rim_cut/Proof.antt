@@ -2,7 +2,8 @@
 use borrow.Author.Needs.{needs}
 use native.Mathlib.Omega.{arith}
 use mathlib.Core.Path.{ap}
-use Rattle.split.specs.Made.{countsOf}
+use Rattle.rules.specs.Split.{Work}
+use Rattle.split.specs.Made.{countsOf, workNow}
 use Rattle.split.proofs.Bounds.{rim-hands}
 use Rattle.split.proofs.Steps.{rim-cut-steps}
 use Rattle.split.proofs.rim_cut.Statement.{statement}
@@ -92,7 +93,7 @@ same-length-5 : tie.Need-same-length-5
 same-length-5 c = search needs
 
 returns : tie.Need-returns
-returns c rule =
+returns c rule report =
     let at-unlock-two = c .before .before in
     let at-replace = at-unlock-two .before .before .before .before .before .before .before .before in
     let at-rim-children = at-replace .before .before .before .before in
@@ -104,13 +105,18 @@ returns c rule =
     let at-start = at-third-of .before .before .before .before .before .before .before .before in
     let args = at-start .args in
     let n = countsOf rule (args .work) in
-    rim-hands _ _ _ (at-start .pre .0 .1 .young)
-    (rim-cut-steps _ _ _ _ _ _ _ _ _ _
-    (at-third-of .third-of .ensures n (args .links .now) (args .generations .now) (args .locks .now))
-    (at-third-of2 .third-of2 .ensures n (args .links .now) (args .generations .now) (args .locks .now))
-    (at-store-point .store-point .ensures) (at-store-point2 .store-point2 .ensures)
-    (at-triangle-at .triangle-at .ensures n) (at-rim-children .rim-children .ensures)
-    (at-replace .replace .ensures n) (at-unlock-two .unlock-two .ensures)) (at-start .pre .1)
+    let w : Work =
+    workNow rule report (args .work) (args .positions .now) (args .corners .now) (args .links .now)
+    (args .generations .now) (args .locks .now) in (
+      _,
+      rim-hands _ w _ (at-start .pre .0 .2 .young)
+          (rim-cut-steps _ w _ _ _ _ _ _ _ _
+          (at-third-of .third-of .ensures n (args .links .now) (args .generations .now) (args .locks .now))
+          (at-third-of2 .third-of2 .ensures n (args .links .now) (args .generations .now) (args .locks .now))
+          (at-store-point .store-point .ensures) (at-store-point2 .store-point2 .ensures)
+          (at-triangle-at .triangle-at .ensures n) (at-rim-children .rim-children .ensures)
+          (at-replace .replace .ensures n) (at-unlock-two .unlock-two .ensures)) (at-start .pre .1),
+    )
 
 pub rim-cut-spec : {M : Type 1} → statement M
 rim-cut-spec =

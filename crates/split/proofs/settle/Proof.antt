@@ -29,10 +29,10 @@ module _ (c : tie.After-is-base) where
   tested : c .is-base .result ≡ isBase topology side
   tested = c .is-base .ensures (countsOf 0 (start .args .work)) (start .args .corners .now) (start .args .links .now)
 
-  abbrev work : ℕ → List ℤ → List ℕ → rules.Work
-  work rule positions locks =
+  abbrev work : ℕ → List ℤ → List ℕ → List ℕ → rules.Work
+  work rule positions locks report =
       let args = start .args in
-      workNow rule (args .work) positions (args .corners .now) (args .links .now) (args .generations .now) locks
+      workNow rule report (args .work) positions (args .corners .now) (args .links .now) (args .generations .now) locks
 
 mul-i : tie.Need-mul-i
 mul-i c = search needs
@@ -66,20 +66,22 @@ same-length-3 : tie.Need-same-length-3
 same-length-3 c = search needs
 
 returns : tie.Need-returns
-returns c rule positions locks =
+returns c rule positions locks report =
     let at-flip = c .before .before .before .before .before .before in
     let at-if1 = at-flip .before .before .before .before .before in
-    let at = at-if1 .before in
-    settle-flips (start at .args .s) (work at rule positions locks) _ (tested at) _ (at-if1 .if1 .taken)
-    (at-flip .flip .ensures (countsOf rule (start at .args .work)))
+    let at = at-if1 .before in (
+      _,
+      settle-flips (start at .args .s) (work at rule positions locks report) _ (tested at) _ (at-if1 .if1 .taken)
+          (at-flip .flip .ensures (countsOf rule (start at .args .work))),
+    )
 
 same-length-4 : tie.Need-same-length-4
 same-length-4 c = search needs
 
 returns-2 : tie.Need-returns-2
-returns-2 c rule positions locks =
+returns-2 c rule positions locks report =
     let at = c .before in
-    settle-keeps (start at .args .s) (work at rule positions locks) _ (tested at) (c .if1 .left)
+    (report, settle-keeps (start at .args .s) (work at rule positions locks report) _ (tested at) (c .if1 .left))
 
 pub settle-spec : {M : Type 1} → statement M
 settle-spec =

@@ -17,7 +17,7 @@ module _ (c : tie.After-settle) where
 
   low : (x : ℕ) → getD (start .args .generations .now) x 0 < 23
       → (getD (c .settle .last .1 .1 .0) x 0 ≤ 23) × (c .settle .result .flips ≤ start .args .work .flips + 1)
-  low x i = settle-low (start .args .t) x 22 _ _ (omega (arith, start .pre)) (omega arith) (c .settle .ensures 0 [] [])
+  low x i = settle-low (start .args .t) x 22 _ _ (omega (arith, start .pre)) (omega arith) (c .settle .ensures 0 [] [] [] .1)
 
   low-f : (getD (c .settle .last .1 .1 .0) (start .args .f) 0 ≤ 23)
       × (c .settle .result .flips ≤ start .args .work .flips + 1)
@@ -39,7 +39,7 @@ settle-requires-3 c κs =
     let one = low-f at-settle in
     let two =
     settle-low (args .f) (args .e) 23 _ _ (one .0) (low at-settle (args .e) (omega (arith, start at-settle .pre)) .0)
-    (at-settle2 .settle2 .ensures 0 [] []) in
+    (at-settle2 .settle2 .ensures 0 [] [] [] .1) in
     omega (arith, start at-settle .pre, at-settle .settle .kept, at-settle2 .settle2 .kept, one, two)
 
 same-length : tie.Need-same-length
@@ -52,14 +52,15 @@ same-length-3 : tie.Need-same-length-3
 same-length-3 c = search needs
 
 returns : tie.Need-returns
-returns c rule positions locks =
+returns c rule positions locks report =
     let at-settle3 = c .before .before .before .before .before .before in
     let at-settle2 = at-settle3 .before .before .before .before .before .before .before .before .before .before in
     let at-settle = at-settle2 .before .before .before .before .before .before .before .before .before .before in
     let args = start at-settle .args in
-    at-settle3 .settle3 .ensures rule positions locks
-    ∙ ap (rules.settle (args .e)) (at-settle2 .settle2 .ensures rule positions locks
-    ∙ ap (rules.settle (args .f)) (at-settle .settle .ensures rule positions locks))
+    let (k, one) = at-settle .settle .ensures rule positions locks report in
+    let (l, two) = at-settle2 .settle2 .ensures rule positions locks k in
+    let (more, three) = at-settle3 .settle3 .ensures rule positions locks l in
+    (more, three ∙ ap (rules.settle (args .e)) (two ∙ ap (rules.settle (args .f)) one))
 
 pub settle-three-spec : {M : Type 1} → statement M
 settle-three-spec =

@@ -18,7 +18,7 @@ settle-requires-2 c κs =
     let args = at-start .args in
     let low =
     settle-low (args .t) (args .e) 22 _ _ (omega (arith, at-start .pre)) (omega (arith, at-start .pre))
-    (at-settle .settle .ensures 0 [] []) in
+    (at-settle .settle .ensures 0 [] [] [] .1) in
     omega (arith, at-start .pre, at-settle .settle .kept, low)
 
 same-length : tie.Need-same-length
@@ -31,12 +31,13 @@ same-length-3 : tie.Need-same-length-3
 same-length-3 c = search needs
 
 returns : tie.Need-returns
-returns c rule positions locks =
+returns c rule positions locks report =
     let at-settle2 = c .before .before .before .before .before .before in
     let at-settle = at-settle2 .before .before .before .before .before .before .before .before .before .before in
     let at-start = at-settle .before .before .before .before .before .before .before in
-    at-settle2 .settle2 .ensures rule positions locks
-    ∙ ap (rules.settle (at-start .args .e)) (at-settle .settle .ensures rule positions locks)
+    let (k, one) = at-settle .settle .ensures rule positions locks report in
+    let (more, two) = at-settle2 .settle2 .ensures rule positions locks k in
+    (more, two ∙ ap (rules.settle (at-start .args .e)) one)
 
 pub settle-two-spec : {M : Type 1} → statement M
 settle-two-spec =

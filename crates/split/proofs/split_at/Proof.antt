@@ -1,6 +1,7 @@
 -- `split::split_at` meets its contract.
 use borrow.Author.Needs.{needs}
 use native.Mathlib.Omega.{arith}
+use mathlib.Core.List.{[]}
 use mathlib.Core.Path.{_∙_}
 use Rattle.split.proofs.split_at.Statement.{statement}
 use Rattle.split.proofs.split_at.Tie as tie
@@ -19,7 +20,7 @@ settle-three-requires c κs =
     let at = c .before .before .before .before .before .before .before .before .before .before .before .before in
     let start = at .before .before .before .before .before .before .before .before .before .before .before
     .before .before in
-    omega (arith, start .pre, at .face-cut .ensures 0, at .face-cut .kept)
+    omega (arith, start .pre, at .face-cut .ensures 0 [] .1, at .face-cut .kept)
 
 rim-cut-requires : tie.Need-rim-cut-requires
 rim-cut-requires c κs = search needs
@@ -32,7 +33,7 @@ settle-two-requires c κs =
     let at = c .before .before .before .before .before .before .before .before .before .before .before .before in
     let start = at .before .before .before .before .before .before .before .before .before .before .before
     .before .before in
-    omega (arith, start .pre, at .rim-cut .ensures 0, at .rim-cut .kept)
+    omega (arith, start .pre, at .rim-cut .ensures 0 [] .1, at .rim-cut .kept)
 
 same-length : tie.Need-same-length
 same-length c = search needs
@@ -47,11 +48,13 @@ same-length-4 : tie.Need-same-length-4
 same-length-4 c = search needs
 
 returns : tie.Need-returns
-returns c rule =
+returns c rule report =
     let at-settle-three = c .before .before .before .before .before .before in
     let at-face-cut = at-settle-three .before .before .before .before .before .before .before .before .before
     .before .before .before .before in
-    at-settle-three .settle-three .ensures rule _ _ ∙ at-face-cut .face-cut .ensures rule .settled
+    let (k, H) = at-face-cut .face-cut .ensures rule report in
+    let (more, e) = at-settle-three .settle-three .ensures rule _ _ k in
+    (more, e ∙ H .settled)
 
 same-length-5 : tie.Need-same-length-5
 same-length-5 c = search needs
@@ -72,11 +75,13 @@ same-length-10 : tie.Need-same-length-10
 same-length-10 c = search needs
 
 returns-2 : tie.Need-returns-2
-returns-2 c rule =
+returns-2 c rule report =
     let at-settle-two = c .before .before .before .before .before .before in
     let at-rim-cut = at-settle-two .before .before .before .before .before .before .before .before .before
     .before .before .before .before in
-    at-settle-two .settle-two .ensures rule _ _ ∙ at-rim-cut .rim-cut .ensures rule .settled
+    let (k, H) = at-rim-cut .rim-cut .ensures rule report in
+    let (more, e) = at-settle-two .settle-two .ensures rule _ _ k in
+    (more, e ∙ H .settled)
 
 pub split-at-spec : {M : Type 1} → statement M
 split-at-spec =

@@ -2,6 +2,7 @@
 use borrow.Author.Needs.{needs}
 use Prim.Native.Nat.{_-_, _≤_, ℕ, _<_}
 use native.Mathlib.Omega.{arith}
+use mathlib.Core.List.{List, []}
 use mathlib.Core.Path.{_≡_, refl, _∙_}
 use Rattle.rules.proofs.Calls.Carried.{StepFound}
 use Rattle.rules.proofs.Soundness.Relaxed.{SameSlots}
@@ -34,15 +35,16 @@ next-may-split {m} {i} R at l =
 abbrev Inv-loop : tie.InvT-loop
 Inv-loop positions₀ corners₀ links₀ generations₀ locks₀ f t₀ work₀ positions corners links generations locks t work =
     (t ≤ f) × ((rule : ℕ) →
-    let m = workNow rule work₀ positions₀ corners₀ links₀ generations₀ locks₀ .mesh in
-    StepFound m → workNow rule work positions corners links generations locks ≡ refineFirst t (atFirst m))
+    let m = workNow rule [] work₀ positions₀ corners₀ links₀ generations₀ locks₀ .mesh in
+    StepFound m → (report : List ℕ)
+    × (workNow rule report work positions corners links generations locks ≡ refineFirst t (atFirst m)))
 
 abbrev μ-loop : tie.MeasureT-loop
 μ-loop _ _ _ _ _ f _ _ _ _ _ _ _ t _ = f - t
 
 loop-holds : tie.Need-loop-holds Inv-loop μ-loop
 unfolding refineFirst
-loop-holds c = (omega arith, λ rule F. refl)
+loop-holds c = (omega arith, λ rule F. ([], refl))
 
 split-at-requires : tie.Need-split-at-requires Inv-loop μ-loop
 split-at-requires c κs =
@@ -50,7 +52,7 @@ split-at-requires c κs =
     let start = head .before .before .before .before .before in
     let rule = start .args .counts .rule in
     let taken = c .before .before .before .before .before .loop-test .taken in
-    (rule, next-may-split (start .pre) (head .loop .inv .1 rule (start .pre)) taken)
+    (rule, _, next-may-split (start .pre) (head .loop .inv .1 rule (start .pre) .1) taken)
 
 add-t : tie.Need-add-t Inv-loop μ-loop
 add-t c = search needs
@@ -65,8 +67,9 @@ loop-again c =
     let head = turn .before in (
       omega arith,
       λ rule F.
-          at-split-at .split-at .ensures rule
-          ∙ step-on F (head .loop .inv .1 rule F) (head .loop .inv .0) (turn .loop-test .taken),
+          let (before, so-far) = head .loop .inv .1 rule F in
+          let (report, e) = at-split-at .split-at .ensures rule before in
+          (report, e ∙ step-on F so-far (head .loop .inv .0) (turn .loop-test .taken)),
     )
 
 -- At the end of the loop the tables have the slots that they had.
@@ -76,10 +79,10 @@ slots : (c : tie.At-loop Inv-loop μ-loop) →
     SameSlots
     (meshNow (args .counts) (args .positions .now) (args .corners .now) (args .links .now) (args .generations .now)
     (args .locks .now))
-    (workNow (args .counts .rule) (l .work) (l .positions) (l .corners) (l .links) (l .generations) (l .locks) .mesh)
+    (workNow (args .counts .rule) [] (l .work) (l .positions) (l .corners) (l .links) (l .generations) (l .locks) .mesh)
 slots c =
     let start = c .before .before .before .before .before in
-    step-slots (start .pre) (c .loop .inv .1 (start .args .counts .rule) (start .pre)) (c .loop .inv .0)
+    step-slots (start .pre) (c .loop .inv .1 (start .args .counts .rule) (start .pre) .1) (c .loop .inv .0)
 
 same-length : tie.Need-same-length Inv-loop μ-loop
 same-length c = slots (c .before) .positions

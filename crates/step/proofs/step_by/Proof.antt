@@ -76,7 +76,7 @@ same-length-14 c = omega (arith, at-step c .whole-step .kept, at-refusal c .refu
 
 returns-2 : tie.Need-returns-2
 returns-2 c =
-    ap worked (at-step c .whole-step .ensures)
+    ap worked (at-step c .whole-step .ensures .1)
     ∙ step-carried _ (sym (carried c .if1 .left) ∙ at-refusal c .refusal .ensures .0)
 
 pub step-by-spec : {M : Type 1} → statement M

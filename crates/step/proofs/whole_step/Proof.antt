@@ -22,6 +22,7 @@ whole-step-steps : (m : Mesh) (w : Work) (positions : List ℤ) → w ≡ refine
       mesh = meshOf (w .mesh .topology) positions (w .mesh .locks) (w .mesh .rule);
       splits = w .splits;
       flips = w .flips;
+      report = w .report;
     })
     (wholeStep m)
 unfolding wholeStep
@@ -50,7 +51,7 @@ move-all-requires : tie.Need-move-all-requires
 move-all-requires c κs =
     let at-split = c .before .before .before .before .before .before .before .before .before .before in
     let start = at-split .before .before .before .before .before .before .before .before .before .before .before in
-    (_, movable (start .pre .0) (start .pre .1) (at-split .split-all .ensures))
+    (_, movable (start .pre .0) (start .pre .1) (at-split .split-all .ensures .1))
 
 module _ (c : tie.After-positions2) where
   abbrev at-split : tie.After-split-all
@@ -73,9 +74,11 @@ same-length-5 c = omega (arith, at-split c .split-all .kept)
 
 returns : tie.Need-returns
 returns c =
-    let split = at-split c .split-all .ensures in
-    let start = at-split c .before .before .before .before .before .before .before .before .before .before .before in
-    whole-step-steps _ _ _ split (c .before .move-all .ensures _ (movable (start .pre .0) (start .pre .1) split))
+    let (report, split) = at-split c .split-all .ensures in
+    let start = at-split c .before .before .before .before .before .before .before .before .before .before .before in (
+      report,
+      whole-step-steps _ _ _ split (c .before .move-all .ensures _ (movable (start .pre .0) (start .pre .1) split)),
+    )
 
 pub whole-step-spec : {M : Type 1} → statement M
 whole-step-spec =

@@ -8,6 +8,9 @@ use Rattle.batches.proofs.lists.preview.Tie as tie
 refusal-requires : tie.Need-refusal-requires
 refusal-requires c κs = search needs
 
+refused-requires : tie.Need-refused-requires
+refused-requires c κs = search needs
+
 same-length : tie.Need-same-length
 same-length c = search needs
 
@@ -24,7 +27,9 @@ same-length-5 : tie.Need-same-length-5
 same-length-5 c = search needs
 
 returns : tie.Need-returns
-returns c = preview-refused _ _ _ (c .before .refusal .ensures) _ (c .if1 .taken)
+returns c =
+    let at-refusal = c .before .before in
+    rw (c .refused .ensures) (preview-refused _ _ _ (at-refusal .refusal .ensures) _ (c .before .if1 .taken))
 
 preview-requires : tie.Need-preview-requires
 preview-requires c κs =
@@ -58,6 +63,7 @@ preview-spec =
     tie.close
     (tie.spec
     refusal-requires
+    refused-requires
     same-length
     same-length-2
     same-length-3

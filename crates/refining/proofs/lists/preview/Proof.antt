@@ -1,11 +1,17 @@
 -- `refining::lists::preview` meets its contract.
 use borrow.Author.Needs.{needs}
-use Rattle.refining.proofs.Batching.{foreseen-failed, foreseen-done}
+use Rattle.refining.proofs.Batching.{list-made, foreseen-is}
 use Rattle.refining.proofs.lists.preview.Statement.{statement}
 use Rattle.refining.proofs.lists.preview.Tie as tie
 
+slice-aggregate-work-in-spares : tie.Need-slice-aggregate-work-in-spares
+slice-aggregate-work-in-spares c = search needs
+
 work-in-spares-requires : tie.Need-work-in-spares-requires
 work-in-spares-requires c κs = search needs
+
+foresee-requires : tie.Need-foresee-requires
+foresee-requires c κs = search needs
 
 same-length : tie.Need-same-length
 same-length c = search needs
@@ -19,50 +25,27 @@ same-length-3 c = search needs
 same-length-4 : tie.Need-same-length-4
 same-length-4 c = search needs
 
-returns : tie.Need-returns
-returns c =
-    let at-work = c .before .before .before .before .before .before .before .before .before .before .before .before in
-    foreseen-failed _ (at-work .work-in-spares .ensures) (c .if1 .taken)
-
 same-length-5 : tie.Need-same-length-5
 same-length-5 c = search needs
 
-same-length-6 : tie.Need-same-length-6
-same-length-6 c = search needs
-
-same-length-7 : tie.Need-same-length-7
-same-length-7 c = search needs
-
-same-length-8 : tie.Need-same-length-8
-same-length-8 c = search needs
-
-same-length-9 : tie.Need-same-length-9
-same-length-9 c = search needs
-
-same-length-10 : tie.Need-same-length-10
-same-length-10 c = search needs
-
-returns-2 : tie.Need-returns-2
-returns-2 c =
-    let at-work = c .before .before .before .before .before .before .before .before .before .before .before .before in
-    let to-start = at-work .before .before .before .before .before .before .before .before in
-    let start = to-start .before .before .before .before .before .before .before in
-    foreseen-done _ (at-work .work-in-spares .ensures) (start .pre) (c .if1 .left)
+returns : tie.Need-returns
+returns c =
+    let at-work = c .before .before .before .before .before .before .before .before .before .before .before in
+    let start = at-work .before .before .before .before .before .before .before .before .before .before
+    .before .before .before .before .before .before in
+    foreseen-is (start .args .counts) (at-work .work-in-spares .result) (c .foresee .ensures)
+    (list-made _ (start .pre) (at-work .work-in-spares .ensures .0))
 
 pub preview-spec : {M : Type 1} → statement M
 preview-spec =
     tie.close
     (tie.spec
+    slice-aggregate-work-in-spares
     work-in-spares-requires
+    foresee-requires
     same-length
     same-length-2
     same-length-3
     same-length-4
     same-length-5
-    returns
-    same-length-6
-    same-length-7
-    same-length-8
-    same-length-9
-    same-length-10
-    returns-2)
+    returns)

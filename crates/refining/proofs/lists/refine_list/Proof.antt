@@ -5,17 +5,19 @@ use Rattle.refining.proofs.Batching.{list-made}
 use Rattle.refining.proofs.lists.refine_list.Statement.{statement}
 use Rattle.refining.proofs.lists.refine_list.Tie as tie
 
+slice-aggregate-work-in-spares : tie.Need-slice-aggregate-work-in-spares
+slice-aggregate-work-in-spares c = search needs
+
 work-in-spares-requires : tie.Need-work-in-spares-requires
 work-in-spares-requires c κs = search needs
 
 carry-back-requires : tie.Need-carry-back-requires
 carry-back-requires c κs =
-    let to-work = c .before .before .before .before .before .before .before .before .before .before .before
-    .before .before .before .before .before in
-    let at-work = to-work .before .before .before in
-    let to-start = at-work .before .before .before .before .before .before .before .before .before .before in
-    let start = to-start .before .before .before .before .before .before .before .before .before .before in
-    (_, _, list-made _ (start .pre) (at-work .work-in-spares .ensures))
+    let at-work = c .before .before .before .before .before .before .before .before .before .before
+    .before .before .before .before .before .before .before .before .before .before in
+    let start = at-work .before .before .before .before .before .before .before .before .before .before
+    .before .before .before .before .before .before .before .before .before .before .before in
+    (_, _, list-made _ (start .pre) (at-work .work-in-spares .ensures .0))
 
 -- The copy back, and the work, from the end.
 module _ (c : tie.After-slice-known16) where
@@ -24,8 +26,8 @@ module _ (c : tie.After-slice-known16) where
 
   abbrev at-work : tie.After-work-in-spares
   at-work =
-      let to-work = at-carry .before .before .before .before .before .before .before .before .before .before in
-      to-work .before .before .before .before .before .before .before .before .before .before
+      at-carry .before .before .before .before .before .before .before .before .before .before .before
+      .before .before .before .before .before .before .before .before .before .before
 
 same-length : tie.Need-same-length
 same-length c = search needs
@@ -59,14 +61,15 @@ same-length-10 c = omega (arith, at-work c .work-in-spares .kept)
 
 returns : tie.Need-returns
 returns c =
-    let to-start = at-work c .before .before .before .before .before .before .before .before .before .before in
-    let start = to-start .before .before .before .before .before .before .before .before .before .before in
-    at-carry c .carry-back .ensures _ _ (list-made _ (start .pre) (at-work c .work-in-spares .ensures))
+    let start = at-work c .before .before .before .before .before .before .before .before .before
+    .before .before .before .before .before .before .before .before .before .before .before .before in
+    at-carry c .carry-back .ensures _ _ (list-made _ (start .pre) (at-work c .work-in-spares .ensures .0))
 
 pub refine-list-spec : {M : Type 1} → statement M
 refine-list-spec =
     tie.close
     (tie.spec
+    slice-aggregate-work-in-spares
     work-in-spares-requires
     carry-back-requires
     same-length

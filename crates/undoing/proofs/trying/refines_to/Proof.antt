@@ -27,7 +27,11 @@ start-of c =
     near .before .before .before .before .before .before .before
 
 abbrev sound-of : tie.After-refine → tie.Else1
-sound-of c = c .before .before .before .before .before .before
+sound-of c = c .before .before .before .before .before .before .before
+
+-- Where the refine has been made.
+abbrev refine-of : tie.After-struct-known → tie.After-refine
+refine-of c = c .before .before .before .before .before .before .before .before .before .before .before
 
 is-sound-requires : tie.Need-is-sound-requires
 is-sound-requires c κs = search needs
@@ -52,9 +56,12 @@ returns c =
     let start = start-of (c .before) in
     old-unsound (start .args .t) (old-of start) (mesh-of start) (c .before .is-sound .ensures) (c .if1 .taken)
 
+slice-aggregate-refine : tie.Need-slice-aggregate-refine
+slice-aggregate-refine c = search needs
+
 refine-requires : tie.Need-refine-requires
 refine-requires c κs =
-    let at-if1 = c .before .before .before .before .before in
+    let at-if1 = c .before .before .before .before .before .before in
     let start = start-of (at-if1 .before) in
     old-stands (start .args .t) (old-of start) (mesh-of start) (at-if1 .before .is-sound .ensures) (at-if1 .if1 .left)
 
@@ -75,16 +82,16 @@ same-length-10 c = search needs
 
 returns-2 : tie.Need-returns-2
 returns-2 c =
-    let at-refine = c .before .before .before .before .before .before .before .before .before .before .before in
+    let at-refine = refine-of (c .before) in
     let at-if1 = sound-of at-refine in
     let start = start-of (at-if1 .before) in
     not-refined (start .args .t) (old-of start) (mesh-of start) (at-if1 .before .is-sound .ensures) (at-if1 .if1 .left)
-    (at-refine .refine .ensures) (λ z. omega (arith, c .if2 .taken))
+    (at-refine .refine .ensures .0) (λ z. omega (arith, c .if2 .taken))
 
 same-in-use-requires : tie.Need-same-in-use-requires
 same-in-use-requires c κs =
     let at-if2 = c .before .before .before .before .before in
-    let at-refine = at-if2 .before .before .before .before .before .before .before .before .before .before .before in
+    let at-refine = refine-of (at-if2 .before) in
     let start = start-of (sound-of at-refine .before) in
     let kept = at-refine .refine .kept in (
       start .pre .0,
@@ -110,11 +117,11 @@ same-length-15 c = search needs
 returns-3 : tie.Need-returns-3
 returns-3 c =
     let at-if2 = c .before .before .before .before .before .before in
-    let at-refine = at-if2 .before .before .before .before .before .before .before .before .before .before .before in
+    let at-refine = refine-of (at-if2 .before) in
     let at-if1 = sound-of at-refine in
     let start = start-of (at-if1 .before) in
     refined-compared (start .args .t) (old-of start) (mesh-of start) (at-if1 .before .is-sound .ensures)
-    (at-if1 .if1 .left) (at-refine .refine .ensures) (at-if2 .if2 .left) (c .same-in-use .ensures)
+    (at-if1 .if1 .left) (at-refine .refine .ensures .0) (at-if2 .if2 .left) (c .same-in-use .ensures)
 
 pub refines-to-spec : {M : Type 1} → statement M
 refines-to-spec =
@@ -127,6 +134,7 @@ refines-to-spec =
     same-length-4
     same-length-5
     returns
+    slice-aggregate-refine
     refine-requires
     same-length-6
     same-length-7

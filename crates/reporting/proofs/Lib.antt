@@ -1,0 +1,2 @@
+-- Laws that the proofs of reports use.
+pub mod Telling

@@ -1,0 +1,117 @@
+-- Reports told entry by entry.
+use mathlib.Core.Path.{_≡_, refl, sym, ap, _∙_, subst}
+use mathlib.Core.List.{List, [], _∷_, _++_, append-nil, append-assoc}
+use mathlib.Core.Logic.{_≢_}
+use Prim.Native.Nat.{ℕ, suc, _+_, _-_, _*_, _%_, _≤_, _<_, max}
+use native.Mathlib.Omega.{arith}
+use lib.ListN.{length, getD, set, length-append, length-set, List·getD-append}
+use Rattle.rules.proofs.Calls.Carried.{RefineFound}
+use Rattle.rules.proofs.Chains.Flipping.{refine-report-length}
+use Rattle.rules.proofs.Chains.Runs.{splitTold}
+use Rattle.rules.proofs.Numbers.Decide.{odd-test, even-test}
+use Rattle.rules.proofs.Numbers.Fill.{fill-more, fill-same}
+use Rattle.rules.proofs.Splits.Flipped.{pairAt}
+use Rattle.rules.specs.Calls.{splitsOf}
+use Rattle.rules.specs.Below.{fill}
+use Rattle.rules.specs.Reports.{reportIn}
+use Rattle.rules.specs.Split.{atFirst, refine}
+use Rattle.rules.specs.Tables.{Topology, Mesh, generation}
+use Rattle.split.specs.declared.Chain.{Chain}
+use Rattle.split.specs.Made.{BaseChain}
+use Rattle.reporting.specs.Told.{Tells}
+
+last-is : (l : List ℕ) (s : ℕ) → getD (l ++ s ∷ []) (length l) 0 ≡ s
+last-is [] s = refl
+last-is (x ∷ l) s = last-is l s
+
+pub tells-one : (s at : ℕ) (b : List ℕ) {i : ℕ} → i ≡ at → Tells (s ∷ []) b (set b i s) at (at + 1)
+tells-one s at b {i} p = rw p (record {
+  size = length-set b at s;
+  told = λ _. (
+    refl,
+    λ l buffer e q.
+        let f : ℕ → ℕ = λ i. getD (l ++ s ∷ []) i 0 in
+        let x : b ≡ fill at f buffer =
+        q ∙ ap (λ (k : ℕ). fill k (λ i. getD l i 0) buffer) e
+        ∙ fill-same at (λ i. getD l i 0) f buffer (λ h i. sym (List·getD-append l (s ∷ []) 0 h (omega arith))) in
+        let y : s ≡ f at = sym (last-is l s) ∙ ap f e in
+        let z : at + 1 ≡ length (l ++ s ∷ []) = omega (arith, length-append l (s ∷ [])) in
+        fill-more at f buffer x y ∙ ap (λ (k : ℕ). fill k f buffer) z,
+  );
+})
+
+pub tells-none : (at : ℕ) (b : List ℕ) → Tells [] b b at at
+tells-none at b = record {
+  size = refl;
+  told = λ _. (
+    omega arith,
+    λ l buffer e q. q ∙ ap (λ (k : List ℕ). reportIn k buffer) (sym (append-nil l)),
+  );
+}
+
+-- There is no room.
+pub tells-not : (more b : List ℕ) (at end : ℕ) → length b < at + length more → Tells more b b at end
+tells-not more b at end l = record { size = refl; told = λ i. absurd (omega arith) }
+
+pub tells-on : {m n : List ℕ} {a b c : List ℕ} {i j k : ℕ} → Tells m a b i j → Tells n b c j k → Tells (m ++ n) a c i k
+tells-on {m} {n} {a} {b} {c} {i} {j} {k} T U = record {
+  size = U .size ∙ T .size;
+  told = λ f.
+      let e = length-append m n in
+      let (p, x) = T .told (omega arith) in
+      let (q, y) = U .told (omega (arith, T .size)) in (
+        omega arith,
+        λ l buffer z r.
+            y (l ++ m) buffer (omega (arith, length-append l m)) (x l buffer z r)
+            ∙ ap (λ (h : List ℕ). reportIn h buffer) (append-assoc l m n),
+      );
+}
+
+-- Three entries, and two.
+pub tells-three : (s t u at : ℕ) (b : List ℕ)
+    → Tells (s ∷ t ∷ u ∷ []) b (set (set (set b at s) (at + 1) t) (at + 2) u) at (at + 3)
+tells-three s t u at b =
+    let e : at + 1 + 1 + 1 ≡ at + 3 = omega arith in
+    subst (Tells (s ∷ t ∷ u ∷ []) b (set (set (set b at s) (at + 1) t) (at + 2) u) at) e
+    (tells-on (tells-on (tells-one s at b refl) (tells-one t (at + 1) (set b at s) refl))
+    (tells-one u (at + 1 + 1) (set (set b at s) (at + 1) t) (omega arith)))
+
+pub tells-two : (s t at : ℕ) (b : List ℕ) → Tells (s ∷ t ∷ []) b (set (set b at s) (at + 1) t) at (at + 2)
+tells-two s t at b =
+    let e : at + 1 + 1 ≡ at + 2 = omega arith in
+    subst (Tells (s ∷ t ∷ []) b (set (set b at s) (at + 1) t) at) e
+    (tells-on (tells-one s at b refl) (tells-one t (at + 1) (set b at s) refl))
+
+-- ---- a split
+
+module _ (m : Topology) (v : ℕ) {f : ℕ} (e : f ≡ m .triangles) where
+  pub face-told : {a b c d g : List ℕ} {at i j k l : ℕ} → generation m v % 2 ≡ 0
+      → Tells (v ∷ f ∷ (f + 1) ∷ []) a b at i → Tells (pairAt m v (3 * v)) b c i j
+      → Tells (pairAt m f (3 * v + 1)) c d j k → Tells (pairAt m (f + 1) (3 * v + 2)) d g k l
+      → Tells (splitTold m v) a g at l
+  face-told z T U W X =
+      rw (even-test (generation m v) z, ← e) (tells-on T (tells-on U (tells-on W X)))
+
+  pub rim-told : {a b c d : List ℕ} {at i j k : ℕ} → generation m v % 2 ≢ 0
+      → Tells (v ∷ f ∷ (f + 1) ∷ []) a b at i → Tells (pairAt m v (3 * v + 2)) b c i j
+      → Tells (pairAt m (f + 1) (3 * v + 1)) c d j k → Tells (splitTold m v) a d at k
+  rim-told z T U W =
+      rw (odd-test (generation m v) (omega arith), ← e) (tells-on T (tells-on U W))
+
+-- ---- the length
+
+after-first : (l s a b c : ℕ) → 1 ≤ s → l + 2 ≡ 5 * s + a + b + c → 5 * s - 2 + a + b + c ≡ l
+after-first l s a b c i e = omega arith
+
+pub length-steps : {t : ℕ} {m : Mesh} {chain : Chain} {own second third splits : ℕ} → RefineFound t m
+    → BaseChain (m .topology) t chain
+    → let h = 3 * chain .end in
+    own ≡ length (pairAt (m .topology) 0 h) → second ≡ length (pairAt (m .topology) 0 (h + 1))
+    → third ≡ length (pairAt (m .topology) 0 (h + 2)) → splits ≡ max 1 (chain .odd - chain .rim)
+    → 5 * splits - 2 + own + second + third ≡ length (refine t (atFirst m) .report)
+length-steps {t} {m} {chain} R C p q r s =
+    let x : max 1 (chain .odd - chain .rim) ≡ splitsOf (m .topology) t = rw (C .odd, C .rim) refl in
+    rw (p, q, r, s, x, C .end) (after-first _ _ _ _ _ (some-split (m .topology) t) (refine-report-length R))
+  where
+    some-split : (m : Topology) (t : ℕ) → 1 ≤ splitsOf m t
+    some-split m t = omega arith

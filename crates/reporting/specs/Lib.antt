@@ -1,0 +1,2 @@
+-- What the contracts of reports cite beside the rules.
+pub mod Told
