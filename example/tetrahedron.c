@@ -1,8 +1,9 @@
 /* Loads a tetrahedron, refines a triangle, reads a ring, a position and all triangles in millimetres, locks a
-   triangle, and takes a refine back. */
+   triangle, takes a refine back, and redraws what refines report. */
 #include "rawplinth.h"
 
 #include <stdio.h>
+#include <string.h>
 
 enum { VERTEX_SLOTS = 64, TRIANGLE_SLOTS = 128 };
 
@@ -23,6 +24,13 @@ static const int32_t cage[] = {
     0, 0, 0,  9216, 0, 0,  0, 9216, 0,  0, 0, 9216,
     0, 1, 2,  0, 3, 1,  1, 3, 2,  2, 3, 0,
 };
+
+/* Draws a triangle in what a viewer shows: nine numbers, in millimetres. */
+static void draw(float *view, uint32_t triangle)
+{
+    for (uint32_t i = 0; i < 9; i++)
+        view[9 * triangle + i] = positions[3 * corners[3 * triangle + i / 3] + i % 3] / 1024.0f;
+}
 
 int main(void)
 {
@@ -92,5 +100,28 @@ int main(void)
     printf("taken back: %u vertices, %u triangles\n", counts.vertices, counts.triangles);
     done = rawplinth_take_back(TABLES, counts, note, RAWPLINTH_NOTE_ENTRIES);
     printf("taken back again: refused with %u\n", done.refusal);
+
+    /* A viewer is shown everything once. Then two refines are drawn by their reports alone. */
+    rawplinth_view_triangles(TABLES, counts, view, 9 * TRIANGLE_SLOTS);
+    uint32_t report[RAWPLINTH_REPORT_ENTRIES];
+    rawplinth_reported told;
+    for (int turn = 0; turn < 2; turn++) {
+        told = rawplinth_refine_reported(TABLES, counts, 0, report, RAWPLINTH_REPORT_ENTRIES);
+        if (told.worked.refusal != RAWPLINTH_OK)
+            return 1;
+        counts = told.worked.counts;
+        printf("reported and redrawn:");
+        for (uint32_t i = 0; i < told.reported; i++) {
+            draw(view, report[i]);
+            printf(" %u", report[i]);
+        }
+        printf("\n");
+    }
+    float afresh[9 * TRIANGLE_SLOTS];
+    rawplinth_view_triangles(TABLES, counts, afresh, 9 * TRIANGLE_SLOTS);
+    int same = memcmp(view, afresh, 9 * counts.triangles * sizeof *view) == 0;
+    printf("the view of %u triangles is %s\n", counts.triangles, same ? "right" : "wrong");
+    told = rawplinth_refine_reported(TABLES, counts, 0, report, 2);
+    printf("a report of 2 entries: refused with %u\n", told.worked.refusal);
     return 0;
 }

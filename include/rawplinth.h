@@ -14,7 +14,7 @@ extern "C" {
 
 /* Raised by every new call and every change of a signature, a struct or an answer; docs/changes/README.md has a line
    for each. */
-#define RAWPLINTH_VERSION 11
+#define RAWPLINTH_VERSION 12
 
 /* What a side without a partner links to. */
 #define RAWPLINTH_BOUNDARY UINT32_C(4294967295)
@@ -26,6 +26,9 @@ extern "C" {
 /* Entries that do for the note of every refine: it changes 25 of the slots in use at most. */
 #define RAWPLINTH_NOTE_ENTRIES 229
 
+/* Entries that do for the report of every refine: it makes 10 splits and 12 flips at most. */
+#define RAWPLINTH_REPORT_ENTRIES 54
+
 /* The rules by which whole step and limit round what lies half-way between two whole numbers. Rule 2 keeps mirror
    images: with one coordinate negated everywhere, in the tables, in other lent tables, in the cage of a load and in the
    corners of a box, where low and high then change places, a call leaves and answers the same but for this coordinate,
@@ -36,9 +39,9 @@ enum {
 };
 
 /* How many vertices and triangles are in use, and the rule that the mesh was loaded by. In a fresh store none are in
-   use, and the rule may be any number. Every call takes the counts, and every answer but those of preview and
-   view_point has those for the next call; after these two they are the same as before. Counts that were saved before
-   version 4 have no rule: their mesh goes on with RAWPLINTH_HALF_UP. */
+   use, and the rule may be any number. Every call takes the counts, and every answer but those of view_point and of
+   preview, with a report or without, has those for the next call; after these they are the same as before. Counts that
+   were saved before version 4 have no rule: their mesh goes on with RAWPLINTH_HALF_UP. */
 typedef struct {
     uint32_t vertices;
     uint32_t triangles;
@@ -53,7 +56,7 @@ typedef struct {
 /* The refusals. A refused call answers with the number, the counts that it was given and zeros, and writes nothing.
    There is one exception: refine_list and preview, where an entry fails, and refine_box, where a refine fails, leave
    the work that they have done in the spare tables, and answer how many entries they handled or refines they made and
-   the counts of what the spare tables hold. */
+   the counts of what the spare tables hold. So they do with a report, where 23 refuses, too. */
 enum {
     RAWPLINTH_OK = 0,
     RAWPLINTH_TABLES_DISAGREE = 1, /* lengths that do not fit each other, or more slots than allowed */
@@ -79,7 +82,8 @@ enum {
     RAWPLINTH_LOCKED = 19,         /* a locked triangle that would be split or flipped; in a whole step any */
     RAWPLINTH_VIEW_SHORT = 20,     /* a table for all triangles with fewer than nine entries for each in use */
     RAWPLINTH_NOTE = 21,           /* a note that take_back does not accept */
-    RAWPLINTH_NOTE_SHORT = 22      /* a note with fewer entries than the refine has to write */
+    RAWPLINTH_NOTE_SHORT = 22,     /* a note with fewer entries than the refine has to write */
+    RAWPLINTH_REPORT_SHORT = 23    /* a buffer with fewer entries than the report */
 };
 
 /* The answer of load, refine, refine_noted, take_back, whole step, lock and unlock. Splits and flips are 0 but for a
@@ -114,6 +118,25 @@ typedef struct {
     size_t handled;
     rawplinth_counts spares;
 } rawplinth_batch_foreseen;
+
+/* The answer of refine_reported and refine_noted_reported: that without a report, and the length of the report. */
+typedef struct {
+    rawplinth_worked worked;
+    uint32_t reported; /* entries of the report, 3*splits+2*flips; 0 on a refusal */
+} rawplinth_reported;
+
+/* The answer of refine_list_reported and refine_box_reported, likewise. Where 23 refuses, all entries are handled, or
+   all refines made. */
+typedef struct {
+    rawplinth_batch_worked worked;
+    uint32_t reported;
+} rawplinth_batch_reported;
+
+/* The answer of preview_reported: what refine_list_reported would answer. */
+typedef struct {
+    rawplinth_batch_foreseen foreseen;
+    uint32_t reported;
+} rawplinth_foreseen_reported;
 
 /* The answer of ring. */
 typedef struct {
@@ -192,7 +215,8 @@ rawplinth_worked rawplinth_load(
    ones whose base meets that: if one of these is locked, the call is refused with 19. Of other triangles at most links
    follow, be they locked or not.
    Refuses with 1, 7, 8, 9, 19, 11, in this order. Writes slots in use and those that it takes. Needs 0.14 MB of
-   stack, as do refine_noted, lock, unlock, ring, position, view_point and view_triangles. */
+   stack, as do refine_noted, refine_reported, refine_noted_reported, lock, unlock, ring, position, view_point and
+   view_triangles. */
 rawplinth_worked rawplinth_refine(
     int32_t *positions, size_t positions_length,
     uint32_t *corners, size_t corners_length,
@@ -308,6 +332,113 @@ rawplinth_batch_worked rawplinth_refine_box(
     uint8_t *locks, size_t locks_length,
     rawplinth_counts counts,
     rawplinth_point low, rawplinth_point high, uint32_t below,
+    int32_t *spare_positions, size_t spare_positions_length,
+    uint32_t *spare_corners, size_t spare_corners_length,
+    uint32_t *spare_links, size_t spare_links_length,
+    uint8_t *spare_generations, size_t spare_generations_length,
+    uint8_t *spare_locks, size_t spare_locks_length);
+
+/* Reports: which triangle slots changed. A call whose name ends in _reported does what the one without does, and
+   reports each slot whose corners or generation it wrote: a split its own slot and then the two new ones, a flip the
+   slot that the split has just written and then the one across its base. The reports are joined in the order of the
+   work, repeats kept, and written to the front of the buffer: 3*splits+2*flips entries, which `reported` of the answer
+   tells. Later entries keep their content.
+   A slot that is not reported keeps its corners, its generation and its links, save links that point at a reported
+   slot, before and after.
+   RAWPLINTH_REPORT_ENTRIES (54) do for every refine, and 3*T-2*F entries for every call, with T triangle slots and F
+   triangles in use before. A buffer that is shorter than the report is refused with 23, last of all: then the mesh
+   stands, and neither note nor report is written. One of no entries is too short for every refine, as each reports
+   three slots at least; the calls without a report take none.
+
+   What a viewer has to redraw, after
+
+     a refine, list or box       the slots reported; no old vertex has moved, and new ones come after the old
+     with a report
+     take_back                   the slots of the note, note[4+9*i] for i below note[3]; those from the restored number
+                                 of triangles on are gone
+     load, whole_step            everything, and so after a refine, a list or a box without a report
+     other calls, previews and   nothing
+     refused ones among them */
+
+/* Refines one triangle as refine does, with a report.
+   Refuses with 1, 7, 8, 9, 19, 11, 23, in this order. Writes what refine does, and the front of the report. */
+rawplinth_reported rawplinth_refine_reported(
+    int32_t *positions, size_t positions_length,
+    uint32_t *corners, size_t corners_length,
+    uint32_t *links, size_t links_length,
+    uint8_t *generations, size_t generations_length,
+    uint8_t *locks, size_t locks_length,
+    rawplinth_counts counts,
+    uint32_t triangle,
+    uint32_t *report, size_t report_length);
+
+/* Refines one triangle as refine_noted does, with a note and a report.
+   Refuses with 1, 7, 8, 9, 19, 11, 22, 23, in this order. Writes what refine_noted does, and the front of the
+   report. */
+rawplinth_reported rawplinth_refine_noted_reported(
+    int32_t *positions, size_t positions_length,
+    uint32_t *corners, size_t corners_length,
+    uint32_t *links, size_t links_length,
+    uint8_t *generations, size_t generations_length,
+    uint8_t *locks, size_t locks_length,
+    rawplinth_counts counts,
+    uint32_t triangle,
+    uint32_t *note, size_t note_length,
+    uint32_t *report, size_t report_length);
+
+/* Refines the triangles of a list as refine_list does, with a report. An entry that is passed over reports nothing, and
+   so does an empty list.
+   Refuses as refine_list does, and then with 23, which leaves the spare tables with the mesh that the list would make.
+   Writes what refine_list does, and if it is carried out the front of the report. It does the work twice, as the length
+   of the report is known only when it is done. Needs 0.14 MB of stack, as does preview_reported. */
+rawplinth_batch_reported rawplinth_refine_list_reported(
+    int32_t *positions, size_t positions_length,
+    uint32_t *corners, size_t corners_length,
+    uint32_t *links, size_t links_length,
+    uint8_t *generations, size_t generations_length,
+    uint8_t *locks, size_t locks_length,
+    rawplinth_counts counts,
+    const uint32_t *list, size_t list_length,
+    uint32_t *report, size_t report_length,
+    int32_t *spare_positions, size_t spare_positions_length,
+    uint32_t *spare_corners, size_t spare_corners_length,
+    uint32_t *spare_links, size_t spare_links_length,
+    uint8_t *spare_generations, size_t spare_generations_length,
+    uint8_t *spare_locks, size_t spare_locks_length);
+
+/* Does with the spare tables and the report what refine_list_reported would do with the same mesh and list and a
+   report of the same length, and answers what it would; but the mesh is only read, and keeps its counts. What is drawn
+   of the spare tables then differs from the mesh in reported slots alone.
+   Refuses as refine_list_reported does. Writes the spare tables, if it is carried out the front of the report, and
+   nothing else. */
+rawplinth_foreseen_reported rawplinth_preview_reported(
+    const int32_t *positions, size_t positions_length,
+    const uint32_t *corners, size_t corners_length,
+    const uint32_t *links, size_t links_length,
+    const uint8_t *generations, size_t generations_length,
+    const uint8_t *locks, size_t locks_length,
+    rawplinth_counts counts,
+    const uint32_t *list, size_t list_length,
+    uint32_t *report, size_t report_length,
+    int32_t *spare_positions, size_t spare_positions_length,
+    uint32_t *spare_corners, size_t spare_corners_length,
+    uint32_t *spare_links, size_t spare_links_length,
+    uint8_t *spare_generations, size_t spare_generations_length,
+    uint8_t *spare_locks, size_t spare_locks_length);
+
+/* Refines inside a box as refine_box does, with a report.
+   Refuses as refine_box does, and then with 23, which leaves the spare tables with the mesh that the box would make.
+   Writes what refine_box does, and if it is carried out the front of the report. It does the work twice, too. Needs
+   0.15 MB of stack. */
+rawplinth_batch_reported rawplinth_refine_box_reported(
+    int32_t *positions, size_t positions_length,
+    uint32_t *corners, size_t corners_length,
+    uint32_t *links, size_t links_length,
+    uint8_t *generations, size_t generations_length,
+    uint8_t *locks, size_t locks_length,
+    rawplinth_counts counts,
+    rawplinth_point low, rawplinth_point high, uint32_t below,
+    uint32_t *report, size_t report_length,
     int32_t *spare_positions, size_t spare_positions_length,
     uint32_t *spare_corners, size_t spare_corners_length,
     uint32_t *spare_links, size_t spare_links_length,

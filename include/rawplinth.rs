@@ -3,7 +3,7 @@
 
 /// Raised with that of the header. A program may go without it.
 #[allow(dead_code)]
-pub const RAWPLINTH_VERSION: u32 = 11;
+pub const RAWPLINTH_VERSION: u32 = 12;
 
 /// The rules by which a mesh rounds halves: up, or away from zero.
 pub const RAWPLINTH_HALF_UP: u32 = 1;
@@ -11,6 +11,10 @@ pub const RAWPLINTH_HALF_AWAY: u32 = 2;
 
 /// Entries that do for the note of every refine.
 pub const RAWPLINTH_NOTE_ENTRIES: usize = 229;
+
+/// Entries that do for the report of every refine. For every call 3T − 2F do, with T triangle slots and F triangles in
+/// use before.
+pub const RAWPLINTH_REPORT_ENTRIES: usize = 54;
 
 /// The vertices and triangles in use, and the mesh's rule. A mesh saved before version 4 goes on with rule 1.
 #[repr(C)]
@@ -113,6 +117,32 @@ pub struct BatchForeseen {
     pub foreseen_triangles: u32,
     pub handled: usize,
     pub spares: Counts,
+}
+
+/// The answer of a refine with a report, and with a note or without: also the length of the report, 3 slots for each
+/// split and 2 for each flip, 0 on a refusal.
+#[repr(C)]
+#[derive(Clone, Copy, Debug, Default, PartialEq, Eq)]
+pub struct Reported {
+    pub worked: Worked,
+    pub reported: u32,
+}
+
+/// The answer of a list or a box with a report. Where 23 refuses, the mesh stands, and the spare tables hold the mesh
+/// that the call would make.
+#[repr(C)]
+#[derive(Clone, Copy, Debug, Default, PartialEq, Eq)]
+pub struct BatchReported {
+    pub worked: BatchWorked,
+    pub reported: u32,
+}
+
+/// The answer of a preview with a report: what the list with one would be answered, and no counts of the mesh.
+#[repr(C)]
+#[derive(Clone, Copy, Debug, Default, PartialEq, Eq)]
+pub struct ForeseenReported {
+    pub foreseen: BatchForeseen,
+    pub reported: u32,
 }
 
 unsafe extern "C" {
@@ -382,4 +412,125 @@ unsafe extern "C" {
         spare_locks: *mut u8,
         spare_locks_length: usize,
     ) -> BatchWorked;
+
+    pub fn rawplinth_refine_reported(
+        positions: *mut i32,
+        positions_length: usize,
+        corners: *mut u32,
+        corners_length: usize,
+        links: *mut u32,
+        links_length: usize,
+        generations: *mut u8,
+        generations_length: usize,
+        locks: *mut u8,
+        locks_length: usize,
+        counts: Counts,
+        triangle: u32,
+        report: *mut u32,
+        report_length: usize,
+    ) -> Reported;
+
+    pub fn rawplinth_refine_noted_reported(
+        positions: *mut i32,
+        positions_length: usize,
+        corners: *mut u32,
+        corners_length: usize,
+        links: *mut u32,
+        links_length: usize,
+        generations: *mut u8,
+        generations_length: usize,
+        locks: *mut u8,
+        locks_length: usize,
+        counts: Counts,
+        triangle: u32,
+        note: *mut u32,
+        note_length: usize,
+        report: *mut u32,
+        report_length: usize,
+    ) -> Reported;
+
+    pub fn rawplinth_refine_list_reported(
+        positions: *mut i32,
+        positions_length: usize,
+        corners: *mut u32,
+        corners_length: usize,
+        links: *mut u32,
+        links_length: usize,
+        generations: *mut u8,
+        generations_length: usize,
+        locks: *mut u8,
+        locks_length: usize,
+        counts: Counts,
+        list: *const u32,
+        list_length: usize,
+        report: *mut u32,
+        report_length: usize,
+        spare_positions: *mut i32,
+        spare_positions_length: usize,
+        spare_corners: *mut u32,
+        spare_corners_length: usize,
+        spare_links: *mut u32,
+        spare_links_length: usize,
+        spare_generations: *mut u8,
+        spare_generations_length: usize,
+        spare_locks: *mut u8,
+        spare_locks_length: usize,
+    ) -> BatchReported;
+
+    pub fn rawplinth_preview_reported(
+        positions: *const i32,
+        positions_length: usize,
+        corners: *const u32,
+        corners_length: usize,
+        links: *const u32,
+        links_length: usize,
+        generations: *const u8,
+        generations_length: usize,
+        locks: *const u8,
+        locks_length: usize,
+        counts: Counts,
+        list: *const u32,
+        list_length: usize,
+        report: *mut u32,
+        report_length: usize,
+        spare_positions: *mut i32,
+        spare_positions_length: usize,
+        spare_corners: *mut u32,
+        spare_corners_length: usize,
+        spare_links: *mut u32,
+        spare_links_length: usize,
+        spare_generations: *mut u8,
+        spare_generations_length: usize,
+        spare_locks: *mut u8,
+        spare_locks_length: usize,
+    ) -> ForeseenReported;
+
+    pub fn rawplinth_refine_box_reported(
+        positions: *mut i32,
+        positions_length: usize,
+        corners: *mut u32,
+        corners_length: usize,
+        links: *mut u32,
+        links_length: usize,
+        generations: *mut u8,
+        generations_length: usize,
+        locks: *mut u8,
+        locks_length: usize,
+        counts: Counts,
+        low: Point,
+        high: Point,
+        below: u32,
+        report: *mut u32,
+        report_length: usize,
+        spare_positions: *mut i32,
+        spare_positions_length: usize,
+        spare_corners: *mut u32,
+        spare_corners_length: usize,
+        spare_links: *mut u32,
+        spare_links_length: usize,
+        spare_generations: *mut u8,
+        spare_generations_length: usize,
+        spare_locks: *mut u8,
+        spare_locks_length: usize,
+    ) -> BatchReported;
 }

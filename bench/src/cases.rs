@@ -2,7 +2,9 @@
 
 use crate::cages::{self, Cage, RADIUS};
 use crate::fast;
-use crate::tables::{Answer, BOUNDARY, Call, HALF_AWAY, HALF_UP, Lent, NOTE_ENTRIES, Panel, Point, Tables};
+use crate::tables::{
+    Answer, BOUNDARY, Call, HALF_AWAY, HALF_UP, Lent, NOTE_ENTRIES, Panel, Point, REPORT_ENTRIES, Tables,
+};
 
 /// The refine that makes the most splits.
 pub const LONGEST: &str = "refine, chain of 10";
@@ -32,18 +34,32 @@ pub const PREVIEWS: [&str; 4] = ["preview of 1", "preview of 100", "preview of 1
 /// all, which is refused with 11 when no slots are left.
 pub const BOXES: [&str; 3] = ["box of nothing", "box of a twentieth", "box of all, refused"];
 
-const NAMES: [&str; 36] = [
+/// What the name of a case ends in that has a report and else is the one without.
+const REPORTED: &str = ", reported";
+/// Such refines, and pairs of lists, previews and boxes, of few splits and of many.
+pub const REFINES_REPORTED: [&str; 3] =
+    ["refine even, reported", "refine, chain of 10, reported", "refine noted, chain of 10, reported"];
+pub const BATCHES_REPORTED: [[&str; 2]; 3] = [
+    ["list of 1, reported", "list of 10,000, reported"],
+    ["preview of 1, reported", "preview of 10,000, reported"],
+    ["box of nothing, reported", "box of a twentieth, reported"],
+];
+
+const NAMES: [&str; 45] = [
     "load",
     "soundness",
     "refine even",
+    REFINES_REPORTED[0],
     "refine odd",
     LONGEST,
+    REFINES_REPORTED[1],
     AT_BOUNDARY,
     LONGEST_AT_BOUNDARY,
     LONGEST_BESIDE_LOCKS,
     NOTED[0],
     NOTED[1],
     NOTED[2],
+    REFINES_REPORTED[2],
     BACKS[0],
     BACKS[1],
     BACKS[2],
@@ -59,20 +75,28 @@ const NAMES: [&str; 36] = [
     "view point",
     VIEW,
     LISTS[0],
+    BATCHES_REPORTED[0][0],
     LISTS[1],
     LISTS[2],
+    BATCHES_REPORTED[0][1],
     LISTS[3],
     PREVIEWS[0],
+    BATCHES_REPORTED[1][0],
     PREVIEWS[1],
     PREVIEWS[2],
+    BATCHES_REPORTED[1][1],
     PREVIEWS[3],
     BOXES[0],
+    BATCHES_REPORTED[2][0],
     BOXES[1],
+    BATCHES_REPORTED[2][1],
     BOXES[2],
 ];
 
 pub struct Case {
     pub name: &'static str,
+    /// The name of the case without a report; the same where it has none.
+    pub plain: &'static str,
     pub triangles: usize,
     pub shuffled: bool,
     pub lent: Lent,
@@ -87,12 +111,27 @@ impl Case {
         list.len()
     }
 
-    /// The splits that a box makes in the spare tables, be they undone: each takes two triangles.
-    pub fn splits_in_spares(&self) -> usize {
-        match fast::answer(&mut self.lent.clone(), self.call) {
-            Answer::List(worked) => (worked.spares.triangles - self.lent.counts.triangles) as usize / 2,
-            _ => 0,
+    /// The splits that a box, or a call with a report, makes, be they undone: each takes two triangles.
+    pub fn splits_made(&self) -> usize {
+        let after = match fast::answer(&mut self.lent.clone(), self.call) {
+            Answer::List(worked) => worked.spares,
+            Answer::Reported(told) => told.worked.counts,
+            Answer::ListReported(told) => told.worked.spares,
+            Answer::PreviewReported(told) => told.foreseen.spares,
+            _ => self.lent.counts,
+        };
+        (after.triangles - self.lent.counts.triangles) as usize / 2
+    }
+
+    /// The case by this name: itself, or with a report and entries enough for it.
+    fn named(mut self, name: &'static str) -> Case {
+        if name != self.plain {
+            let (slots, in_use) = (self.lent.tables.generations.len(), self.lent.counts.triangles as usize);
+            let entries = if REFINES_REPORTED.contains(&name) { REPORT_ENTRIES } else { 3 * slots - 2 * in_use };
+            self.lent.report = vec![u32::MAX; entries];
+            self.call = self.call.reported();
         }
+        Case { name, ..self }
     }
 
     /// A refine of a triangle not in use, which is refused once the tables are found sound.
@@ -110,8 +149,9 @@ pub fn all() -> Vec<Case> {
     let rooms = rooms.map(|(parts, triangles)| cages::sphere(parts).filled(triangles));
     let mut list = Vec::new();
     for name in NAMES {
-        let (small, large) = match name {
-            name if name == BACKS[2] => (&rooms[..5], &rooms[5]),
+        let plain = name.strip_suffix(REPORTED).unwrap_or(name);
+        let (small, large) = match plain {
+            plain if plain == BACKS[2] => (&rooms[..5], &rooms[5]),
             name if is_listed(name) || BOXES.contains(&name) => (&[] as &[Cage], &list_sphere),
             name if STEPS.contains(&name) || name == LOCKED_STEP => (&small[..], &step_sphere),
             _ => (&small[..], &sphere),
@@ -119,14 +159,14 @@ pub fn all() -> Vec<Case> {
         for cage in small.iter().chain([large]) {
             let open = name == AT_BOUNDARY || name == LONGEST_AT_BOUNDARY;
             let cage = if open { &cage.clone().opened() } else { cage };
-            list.push(case(name, cage, false));
-            list.push(case(name, &cage.clone().shuffled(), true));
+            list.push(case(plain, cage, false).named(name));
+            list.push(case(plain, &cage.clone().shuffled(), true).named(name));
         }
     }
     list
 }
 
-/// The middle triangle or vertex is taken, so that neither end of the tables is favoured.
+/// A case without a report. The middle triangle or vertex is taken, so that neither end of the tables is favoured.
 fn case(name: &'static str, cage: &Cage, shuffled: bool) -> Case {
     let mut lent = cage.lent();
     let rule = if name == STEPS[1] || name == LIMITS[1] { HALF_AWAY } else { HALF_UP };
@@ -196,7 +236,7 @@ fn case(name: &'static str, cage: &Cage, shuffled: bool) -> Case {
         name if BOXES.contains(&name) => boxed(name),
         _ => Call::Refine(triangle),
     };
-    Case { name, triangles: cage.triangles(), shuffled, lent, call }
+    Case { name, plain: name, triangles: cage.triangles(), shuffled, lent, call }
 }
 
 /// Whether a case has a list, made or previewed.

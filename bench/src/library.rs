@@ -1,7 +1,7 @@
 //! The library's calls, through its C interface.
 
 use crate::rawplinth::*;
-use crate::tables::{Answer, Call, Lent, Panel};
+use crate::tables::{Answer, Call, Lent, Panel, Refining};
 
 /// A call of the function named, with the five tables as pointers and lengths, then the counts, then what follows, and
 /// the spare tables after a semicolon.
@@ -69,5 +69,28 @@ pub fn answer(lent: &mut Lent, call: Call) -> Answer {
         Call::RefineBox(Panel { low, high, below }) => {
             Answer::List(call!(rawplinth_refine_box, lent, low, high, below; lent.spares))
         }
+        Call::Reported(refining) => reported(lent, refining),
+    }
+}
+
+/// The calls with a report.
+fn reported(lent: &mut Lent, refining: Refining) -> Answer {
+    let (list, list_length) = (lent.list.as_ptr(), lent.list.len());
+    let (note, note_length) = (lent.note.as_mut_ptr(), lent.note.len());
+    let (report, length) = (lent.report.as_mut_ptr(), lent.report.len());
+    match refining {
+        Refining::Triangle(t) => Answer::Reported(call!(rawplinth_refine_reported, lent, t, report, length)),
+        Refining::Noted(t) => {
+            Answer::Reported(call!(rawplinth_refine_noted_reported, lent, t, note, note_length, report, length))
+        }
+        Refining::List => Answer::ListReported(
+            call!(rawplinth_refine_list_reported, lent, list, list_length, report, length; lent.spares),
+        ),
+        Refining::Preview => Answer::PreviewReported(
+            call!(rawplinth_preview_reported, lent, list, list_length, report, length; lent.spares),
+        ),
+        Refining::Box(Panel { low, high, below }) => Answer::ListReported(
+            call!(rawplinth_refine_box_reported, lent, low, high, below, report, length; lent.spares),
+        ),
     }
 }

@@ -51,16 +51,19 @@ pub fn compare(case: &Case) {
     assert!(answer == other, "{}, {} triangles: {answer:?}, but fast {other:?}", case.name, case.triangles);
     assert!(ours == theirs, "{}, {} triangles: the tables differ", case.name, case.triangles);
     let (refusal, splits) = match answer {
-        Answer::Worked(worked) => (worked.refusal, worked.splits as usize),
+        Answer::Worked(worked) => (worked.refusal, worked.splits),
         Answer::Ring(read) => (read.refusal, 0),
         Answer::Position(read) => (read.refusal, 0),
         Answer::Limit(read) => (read.refusal, 0),
         Answer::Seen(seen) => (seen.refusal, 0),
         Answer::Shown(shown) => (shown.refusal, 0),
-        Answer::List(worked) => (worked.refusal, worked.splits as usize),
-        Answer::Preview(foreseen) => (foreseen.refusal, foreseen.splits as usize),
+        Answer::List(worked) => (worked.refusal, worked.splits),
+        Answer::Preview(foreseen) => (foreseen.refusal, foreseen.splits),
+        Answer::Reported(told) => (told.worked.refusal, told.worked.splits),
+        Answer::ListReported(told) => (told.worked.refusal, told.worked.splits),
+        Answer::PreviewReported(told) => (told.foreseen.refusal, told.foreseen.splits),
     };
-    let expected = match case.name {
+    let expected = match case.plain {
         "soundness" => (8, 0),
         "refine even" | "refine odd" | AT_BOUNDARY => (0, 1),
         LONGEST | LONGEST_BESIDE_LOCKS => (0, 10),
@@ -69,11 +72,11 @@ pub fn compare(case: &Case) {
         name if NOTED.contains(&name) => (0, if name == NOTED[2] { 10 } else { 1 }),
         name if STEPS.contains(&name) => (0, case.triangles),
         name if is_listed(name) => (0, case.listed_once()),
-        name if name == BOXES[1] => (0, case.splits_in_spares()),
+        name if name == BOXES[1] => (0, case.splits_made()),
         name if name == BOXES[2] => (11, 0),
         _ => (0, 0),
     };
-    assert!((refusal, splits) == expected, "{}, {} triangles: {answer:?}", case.name, case.triangles);
+    assert!((refusal, splits as usize) == expected, "{}, {} triangles: {answer:?}", case.name, case.triangles);
 }
 
 /// Callgrind writes what it has counted whenever this is entered.

@@ -1,6 +1,8 @@
 //! The table.
 
-use crate::cases::{BACKS, BOXES, Case, LIMITS, LISTS, NOTED, PREVIEWS, VIEW, is_listed};
+use crate::cases::{
+    BACKS, BATCHES_REPORTED, BOXES, Case, LIMITS, LISTS, NOTED, PREVIEWS, REFINES_REPORTED, VIEW, is_listed,
+};
 use crate::measure::{Counted, Timed};
 
 /// Instructions of a C program without proofs, written by an expert, for closed meshes in order.
@@ -30,6 +32,8 @@ const MOST_TO_HANDLE: u64 = 60;
 /// A box, beside the copies: for each triangle in use, to look at it, and for each split.
 const MOST_TO_LOOK: u64 = 40;
 const MOST_TO_SPLIT_IN_BOX: u64 = 1_200;
+/// How many instructions more a call with a report may take for each split. A list or a box may take the rest twice.
+const MOST_TO_REPORT: u64 = 60;
 
 const HEADS: [&str; 13] = [
     "call",
@@ -64,6 +68,7 @@ pub fn print(cases: &[Case], counts: Option<&[Counted]>, times: &[Timed]) {
         println!("{}", shares("Previews", PREVIEWS, cases, counts));
         println!("{}", shares_of_boxes(cases, counts));
         println!("{}", shares_of_view(cases, counts));
+        println!("{}", shares_of_reports(cases, counts));
     }
 }
 
@@ -82,7 +87,7 @@ fn shares(title: &str, names: [&str; 4], cases: &[Case], counts: &[Counted]) -> 
 /// a twentieth to it, in order.
 fn shares_of_boxes(cases: &[Case], counts: &[Counted]) -> String {
     let [(nothing, case), (some, boxed)] = [BOXES[0], BOXES[1]].map(|name| beyond(name, cases, counts));
-    let (triangle, split) = (nothing / case.triangles as f64, (some - nothing) / boxed.splits_in_spares() as f64);
+    let (triangle, split) = (nothing / case.triangles as f64, (some - nothing) / boxed.splits_made() as f64);
     format!("Boxes: {triangle:.1} for each triangle in use, {split:.1} for each split.")
 }
 
@@ -91,6 +96,26 @@ fn shares_of_view(cases: &[Case], counts: &[Counted]) -> String {
     let place = largest(VIEW, cases);
     let [library, soundness, ..] = counts[place].map(|count| count as f64 / cases[place].triangles as f64);
     format!("Views: {soundness:.1} for each triangle in use to find it sound, {:.1} to show it.", library - soundness)
+}
+
+/// What a report takes more, in order: of refines for each split; of lists, previews and boxes, by the differences of
+/// those with few splits to those with many, for each call and for each split.
+fn shares_of_reports(cases: &[Case], counts: &[Counted]) -> String {
+    let more = |name: &str| {
+        let (reported, case) = beyond(name, cases, counts);
+        (reported - beyond(case.plain, cases, counts).0, case.splits_made() as f64)
+    };
+    let [even, chain, noted] = REFINES_REPORTED.map(more).map(|(more, splits)| more / splits);
+    let batches = BATCHES_REPORTED.map(|names| {
+        let [(few, fewer), (many, splits)] = names.map(more);
+        let split = (many - few) / (splits - fewer);
+        format!("{:.0} and {split:.1}", few - fewer * split)
+    });
+    let [list, preview, panel] = batches;
+    format!(
+        "Reports: {even:.1} more for each split of an even triangle, {chain:.1} of a chain of 10, {noted:.1} with a \
+         note; for each call and each split, {list} more of a list, {preview} of a preview, {panel} of a box."
+    )
 }
 
 /// What a case takes in order beyond soundness, and the case.
@@ -128,7 +153,16 @@ fn expert(case: &Case) -> Option<u64> {
 
 /// What a call may take beyond soundness on the same tables, where its bound is stated by this.
 fn most_beyond(case: &Case, soundness: u64) -> Option<u64> {
-    match case.name {
+    let most = most_without_report(case, soundness)?;
+    if case.name == case.plain {
+        return Some(most);
+    }
+    let runs = if is_listed(case.plain) || BOXES.contains(&case.plain) { 2 } else { 1 };
+    Some(runs * most + MOST_TO_REPORT * case.splits_made() as u64)
+}
+
+fn most_without_report(case: &Case, soundness: u64) -> Option<u64> {
+    match case.plain {
         name if LIMITS.contains(&name) => match case.triangles {
             4 => Some(MOST_OF_SMALL.saturating_sub(soundness)),
             triangles => Some(MOST_FOR_EACH * triangles as u64),
@@ -138,7 +172,7 @@ fn most_beyond(case: &Case, soundness: u64) -> Option<u64> {
             Some(MOST_TO_COPY * case.triangles as u64 + MOST_TO_SPLIT * splits + MOST_TO_HANDLE * entries)
         }
         name if BOXES.contains(&name) => {
-            let splits = case.splits_in_spares() as u64;
+            let splits = case.splits_made() as u64;
             Some((MOST_TO_COPY + MOST_TO_LOOK) * case.triangles as u64 + MOST_TO_SPLIT_IN_BOX * splits)
         }
         VIEW => Some(MOST_TO_SHOW * case.triangles as u64),

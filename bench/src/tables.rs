@@ -1,9 +1,9 @@
 //! What a call is lent and what it answers.
 
-pub use crate::rawplinth::RAWPLINTH_NOTE_ENTRIES as NOTE_ENTRIES;
-pub use crate::rawplinth::{BatchForeseen, BatchWorked, Counts, LimitRead, Point, PointSeen, PositionRead};
+pub use crate::rawplinth::{BatchForeseen, BatchReported, BatchWorked, Counts, ForeseenReported, LimitRead};
+pub use crate::rawplinth::{Point, PointSeen, PositionRead, Reported, RingRead, Shown, Worked};
 pub use crate::rawplinth::{RAWPLINTH_HALF_AWAY as HALF_AWAY, RAWPLINTH_HALF_UP as HALF_UP};
-pub use crate::rawplinth::{RingRead, Shown, Worked};
+pub use crate::rawplinth::{RAWPLINTH_NOTE_ENTRIES as NOTE_ENTRIES, RAWPLINTH_REPORT_ENTRIES as REPORT_ENTRIES};
 
 /// The link of a boundary side.
 pub const BOUNDARY: u32 = u32::MAX;
@@ -36,6 +36,8 @@ pub struct Lent {
     pub view: Vec<f32>,
     /// The note that a refine writes, and that it is taken back by.
     pub note: Vec<u32>,
+    /// The buffer for the slots that a call reports.
+    pub report: Vec<u32>,
     /// A list of triangles, and the tables that it or a box is worked off in.
     pub list: Vec<u32>,
     pub spares: Tables,
@@ -59,6 +61,17 @@ pub enum Call {
     RefineList,
     Preview,
     RefineBox(Panel),
+    Reported(Refining),
+}
+
+/// A call that has a report.
+#[derive(Clone, Copy, Debug)]
+pub enum Refining {
+    Triangle(u32),
+    Noted(u32),
+    List,
+    Preview,
+    Box(Panel),
 }
 
 /// A box by its low and its high corner, and the generation to which it is refined.
@@ -80,6 +93,23 @@ pub enum Answer {
     Shown(Shown),
     List(BatchWorked),
     Preview(BatchForeseen),
+    Reported(Reported),
+    ListReported(BatchReported),
+    PreviewReported(ForeseenReported),
+}
+
+impl Call {
+    /// The same call with a report.
+    pub fn reported(self) -> Call {
+        Call::Reported(match self {
+            Call::Refine(triangle) => Refining::Triangle(triangle),
+            Call::RefineNoted(triangle) => Refining::Noted(triangle),
+            Call::RefineList => Refining::List,
+            Call::Preview => Refining::Preview,
+            Call::RefineBox(panel) => Refining::Box(panel),
+            other => panic!("{other:?} has no report"),
+        })
+    }
 }
 
 impl Tables {
@@ -107,6 +137,7 @@ impl Lent {
             table: Vec::new(),
             view: Vec::new(),
             note: Vec::new(),
+            report: Vec::new(),
             list: Vec::new(),
             spares: Tables::with_slots(0, 0),
         }

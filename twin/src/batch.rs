@@ -3,6 +3,7 @@
 use crate::conditions::Twin;
 use crate::fault::{Fault, Seeded};
 use crate::refine::{Handled, handle, refine_inside};
+use crate::report::Made;
 use crate::split::Work;
 use crate::tables::{Answer, Bounds, Counts, FARTHEST, LAST_GENERATION, Tables, refuse_unless};
 
@@ -15,13 +16,7 @@ pub enum Job<'a> {
 impl Twin {
     /// Refine list and refine box: 1, 17, for a box 18, 7, then what the first entry or refine that fails fails with.
     /// The mesh is written if none does.
-    pub fn refine_each(
-        &self,
-        tables: &mut Tables,
-        counts: Counts,
-        job: Job,
-        spares: &mut Tables,
-    ) -> Result<Answer, u32> {
+    pub fn refine_each(&self, tables: &mut Tables, counts: Counts, job: Job, spares: &mut Tables) -> Result<Made, u32> {
         let done = self.work_in_spares(tables, counts, job, spares)?;
         let failed = done.refusal != 0;
         if !failed || self.fault.has(Fault::FailedListWrites) {
@@ -35,16 +30,18 @@ impl Twin {
         let handled = done.entries + usize::from(failed && self.fault.has(Fault::FailingEntryCounted));
         let counts = if failed { counts } else { done.mesh.counts() };
         let spares = self.fault.unless(Fault::SparesCountedAsMesh, done.mesh.counts(), counts);
-        Ok(Answer { refusal: done.refusal, splits, flips, counts, handled, spares, ..Answer::default() })
+        let answer = Answer { refusal: done.refusal, splits, flips, counts, handled, spares, ..Answer::default() };
+        Ok(Made { answer, report: done.mesh.report() })
     }
 
     /// Preview: what refine list would answer, with its V and F as foreseen, and the spare tables as it would leave
     /// them. The mesh stands, and its counts.
-    pub fn preview(&self, tables: &mut Tables, counts: Counts, list: &[u32], spares: &mut Tables) -> Answer {
+    pub fn preview(&self, tables: &mut Tables, counts: Counts, list: &[u32], spares: &mut Tables) -> Made {
         let (mut meanwhile, lent) = (tables.clone(), spares.clone());
         let made = self.in_preview().refine_each(&mut meanwhile, counts, Job::List(list), spares);
         let worked = made.is_ok();
-        let made = made.unwrap_or_else(|refusal| Answer { refusal, counts, ..Answer::default() });
+        let refused = |refusal| Made::from(Answer { refusal, counts, ..Answer::default() });
+        let Made { answer: made, report } = made.unwrap_or_else(refused);
         if self.fault.has(Fault::PreviewWrites) {
             *tables = meanwhile;
         }
@@ -53,7 +50,7 @@ impl Twin {
         }
         let Counts { vertices, triangles, .. } = self.fault.unless(Fault::PreviewOfOldCounts, made.counts, counts);
         let counts = self.fault.unless(Fault::PreviewCountsTaken, counts, made.counts);
-        Answer { foreseen: [vertices, triangles], counts, ..made }
+        Made { answer: Answer { foreseen: [vertices, triangles], counts, ..made }, report }
     }
 
     /// The twin that lists are previewed with: the same, but for faults of previews alone.
@@ -75,6 +72,7 @@ impl Twin {
             Some(Fault::FailedBoxReports) => Some(Fault::FailedListReports),
             Some(Fault::FailingRefineCounted) => Some(Fault::FailingEntryCounted),
             Some(Fault::EmptyBoxKeepsSpares) => Some(Fault::EmptyListKeepsSpares),
+            Some(Fault::BoxReportsLastAlone) => Some(Fault::ListReportsLastAlone),
             fault => fault,
         };
         Twin { fault: Seeded(fault) }

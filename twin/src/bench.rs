@@ -11,6 +11,7 @@ use crate::coverage::Coverage;
 use crate::locked::violated_by_lock;
 use crate::mirror;
 use crate::noted::{violated_beside_plain, violated_by_note, violated_by_repeat, violated_by_return};
+use crate::reported::{violated_beside_unreported, violated_by_report};
 use crate::tables::{Answer, Call, Counts, HALF_AWAY, HALF_UP, Service, Store, Tables};
 use crate::viewed::violated_by_view;
 
@@ -41,36 +42,54 @@ impl<'a> Bench<'a> {
     }
 
     /// Runs one call on both services and leaves the store as the call leaves it. A list is previewed first, a refine
-    /// with a note is taken back in a copy, and what is taken back is made again there.
+    /// with a note is taken back in a copy, what is taken back is made again there, and what is made with a report is
+    /// made without one there.
     pub fn compare(&mut self, store: &mut Store, call: &Call) -> Outcome<Answer> {
         match call {
-            Call::RefineList { list } => self.compare_previewed(store, list),
+            Call::RefineList { list } => self.compare_previewed(store, call, &Call::Preview { list: list.clone() }),
             Call::RefineNoted { triangle } => self.compare_noted(store, *triangle),
             Call::TakeBack => self.compare_taken_back(store),
+            Call::Reported(plain) => self.compare_reported(store, call, plain),
             _ => self.compare_once(store, call),
         }
     }
 
     /// Previews a list, and previews it again, which has to give the same again. Then carries it out, with the spare
     /// tables as the previews left them, and as they are lent.
-    fn compare_previewed(&mut self, store: &mut Store, list: &[u32]) -> Outcome<Answer> {
-        let preview = Call::Preview { list: list.to_vec() };
+    fn compare_previewed(&mut self, store: &mut Store, call: &Call, preview: &Call) -> Outcome<Answer> {
         let mut previewed = store.clone();
-        let foreseen = self.compare_once(&mut previewed, &preview)?;
+        let foreseen = self.compare_once(&mut previewed, preview)?;
         let mut again = previewed.clone();
-        if (self.compare_once(&mut again, &preview)?, &again) != (foreseen, &previewed) {
-            return Err(difference("a preview again is another".to_string(), previewed, &preview));
+        if (self.compare_once(&mut again, preview)?, &again) != (foreseen, &previewed) {
+            return Err(difference("a preview again is another".to_string(), previewed, preview));
         }
-        self.compare_foreseen(&mut again, list, (&foreseen, &previewed))?;
-        self.compare_foreseen(store, list, (&foreseen, &previewed))
+        self.compare_foreseen(&mut again, call, (&foreseen, &previewed))?;
+        self.compare_foreseen(store, call, (&foreseen, &previewed))
     }
 
     /// Carries a list out, and compares what comes of it with what was foreseen, too.
-    fn compare_foreseen(&mut self, store: &mut Store, list: &[u32], previewed: (&Answer, &Store)) -> Outcome<Answer> {
-        let (before, call) = (store.clone(), Call::RefineList { list: list.to_vec() });
-        let answer = self.compare_once(store, &call)?;
+    fn compare_foreseen(&mut self, store: &mut Store, call: &Call, previewed: (&Answer, &Store)) -> Outcome<Answer> {
+        let before = store.clone();
+        let answer = self.compare_once(store, call)?;
         match violated_by_preview(previewed, (&answer, store)) {
-            Some(what) => Err(difference(what, before, &call)),
+            Some(what) => Err(difference(what, before, call)),
+            None => Ok(answer),
+        }
+    }
+
+    /// Makes a call with a report, a list with one after previews with the same, and in a copy without one, which has
+    /// to be the same.
+    fn compare_reported(&mut self, store: &mut Store, call: &Call, plain: &Call) -> Outcome<Answer> {
+        let (before, mut unreported) = (store.clone(), store.clone());
+        let answer = match plain {
+            Call::RefineList { list } => {
+                self.compare_previewed(store, call, &Call::Preview { list: list.clone() }.reported())?
+            }
+            _ => self.compare_once(store, call)?,
+        };
+        let without = self.compare_once(&mut unreported, plain)?;
+        match violated_beside_unreported(&before, plain, (&without, &unreported), (&answer, store)) {
+            Some(what) => Err(difference(what, before, call)),
             None => Ok(answer),
         }
     }
@@ -192,6 +211,7 @@ impl Apart {
             .or_else(|| Apart::entry("", "limit tables", &room.table, &other_room.table))
             .or_else(|| Apart::entry("", "view tables", &room.view, &other_room.view))
             .or_else(|| Apart::entry("", "notes", &room.note, &other_room.note))
+            .or_else(|| Apart::entry("", "report buffers", &room.report, &other_room.report))
     }
 
     fn tables(which: &str, one: &Tables, other: &Tables) -> Option<Apart> {
@@ -223,10 +243,11 @@ pub fn difference(what: String, store: Store, call: &Call) -> Box<Difference> {
 }
 
 /// The fourth claim of demand 3, for every refine that is carried out; what every list and every box that is carried
-/// out adds; that a box leaves none; that locked triangles stay as they are; that what is seen is exact; and what is
-/// noted and taken back.
+/// out adds; that a box leaves none; that locked triangles stay as they are; that what is seen is exact; what is noted
+/// and taken back; and what is reported.
 fn claim_violated(before: &Store, call: &Call, answer: &Answer, after: &Store) -> Option<String> {
-    let violated = match (call, answer.refusal) {
+    let plain = call.plain();
+    let violated = match (plain, answer.refusal) {
         (&Call::Refine { triangle } | &Call::RefineNoted { triangle }, 0) => {
             violated_by_refine(before, triangle as usize, answer, after)
         }
@@ -236,7 +257,8 @@ fn claim_violated(before: &Store, call: &Call, answer: &Answer, after: &Store) -
         }
         _ => None,
     };
-    let violated = violated.or_else(|| violated_by_lock(before, call, answer, after));
-    let violated = violated.or_else(|| violated_by_view(before, call, answer, after));
-    violated.or_else(|| violated_by_note(before, call, answer, after))
+    let violated = violated.or_else(|| violated_by_lock(before, plain, answer, after));
+    let violated = violated.or_else(|| violated_by_view(before, plain, answer, after));
+    let violated = violated.or_else(|| violated_by_note(before, plain, answer, after));
+    violated.or_else(|| violated_by_report(before, call, answer, after))
 }

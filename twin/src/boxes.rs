@@ -18,7 +18,7 @@ fn compare_box(bench: &mut Bench, store: &Store, bounds: Bounds, below: u32) -> 
 }
 
 /// Closed meshes and shells, refined here and there.
-fn some_stores(spare: usize, rng: &mut Rng) -> Vec<Store> {
+pub fn some_stores(spare: usize, rng: &mut Rng) -> Vec<Store> {
     let closed = [cages::tetrahedron(), cages::foil(), cages::torus(3, 4)];
     let open = [cages::strip(1), cages::disc(5), cages::sheet(2, 2)];
     let cages = closed.into_iter().chain(open);

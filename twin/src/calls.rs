@@ -6,15 +6,21 @@ use crate::coverage::LONGEST_LIST;
 use crate::locked::locked_triangles;
 use crate::rng::Rng;
 use crate::tables::{
-    BOUNDARY, Bounds, Call, Counts, FARTHEST, HALF_AWAY, HALF_UP, LAST_GENERATION, NO_RULES, NOTE_ENTRIES, Store,
-    Tables,
+    BOUNDARY, Bounds, Call, Counts, FARTHEST, HALF_AWAY, HALF_UP, LAST_GENERATION, NO_RULES, NOTE_ENTRIES, Service,
+    Store, Tables,
 };
+use crate::twin::Twin;
 
 /// Three times this number is 2 in 32 bits.
 pub const WRAPPING: u32 = 0x5555_5556;
 
 /// One call of any kind but load, for which the store gets room.
 pub fn random_call(store: &mut Store, rng: &mut Rng) -> Call {
+    let call = without_report(store, rng);
+    if call.refines() && rng.percent(25) { with_report(store, call, rng) } else { call }
+}
+
+fn without_report(store: &mut Store, rng: &mut Rng) -> Call {
     match rng.below(100) {
         0..30 => Call::Refine { triangle: some_triangle(store, rng) },
         30..36 => noted(store, rng),
@@ -39,13 +45,13 @@ pub fn random_call(store: &mut Store, rng: &mut Rng) -> Call {
 }
 
 /// One call of each kind but load, for which the store gets room, its spare tables of fitting sizes. It keeps its note,
-/// if it has one.
-pub fn one_of_each(store: &mut Store, rng: &mut Rng) -> [Call; 12] {
+/// if it has one. A refine, a list, a preview or a box is there a second time, with a report.
+pub fn one_of_each(store: &mut Store, rng: &mut Rng) -> Vec<Call> {
     store.room.spares = fitting_spares(store, rng);
     if store.room.note.is_empty() {
         store.room.note = some_note(store, rng);
     }
-    [
+    let mut calls = vec![
         Call::Refine { triangle: some_triangle(store, rng) },
         Call::WholeStep,
         limit(store, rng),
@@ -58,7 +64,12 @@ pub fn one_of_each(store: &mut Store, rng: &mut Rng) -> [Call; 12] {
         Call::TakeBack,
         Call::RefineList { list: some_list(store, rng) },
         Call::RefineBox { bounds: some_bounds(store, rng), below: some_generation(store, rng) },
-    ]
+    ];
+    let preview = Call::Preview { list: some_list(store, rng) };
+    let refining: Vec<&Call> = calls.iter().filter(|call| call.refines()).chain([&preview]).collect();
+    let one = rng.pick(&refining).clone();
+    calls.push(with_report(store, one, rng));
+    calls
 }
 
 /// Runs a list of random calls, each on the tables as the one before left them.
@@ -190,6 +201,25 @@ pub fn other_numbers(entry: u32) -> [u32; 8] {
     [entry.wrapping_add(1), entry.wrapping_sub(1), 0, 1, entry ^ 256, entry ^ 1 << 16, 1 << 31, u32::MAX]
 }
 
+/// The entries that the report of a call takes, none where it is refused.
+pub fn report_wanted(store: &Store, call: &Call) -> usize {
+    let answer = Twin::UNBROKEN.answer(&mut store.clone(), call).expect("the twin stays inside");
+    (3 * answer.splits + 2 * answer.flips) as usize
+}
+
+/// The lengths of a report buffer that are tried: none, one, two and one short, the length wanted, one over and long.
+pub fn report_lengths(wanted: usize) -> [usize; 7] {
+    [0, 1, wanted.saturating_sub(2), wanted.saturating_sub(1), wanted, wanted + 1, 2 * wanted + 60]
+}
+
+/// The same call with a report, in a buffer of any content, mostly of a length that goes.
+pub fn with_report(store: &mut Store, call: Call, rng: &mut Rng) -> Call {
+    let lengths = report_lengths(report_wanted(store, &call));
+    let length = if rng.percent(60) { rng.pick(&lengths[4..]) } else { rng.pick(&lengths) };
+    store.room.report = some_entries(length, rng);
+    call.reported()
+}
+
 /// Spare tables of the mesh's sizes, with any content.
 pub fn fitting_spares(store: &Store, rng: &mut Rng) -> Tables {
     Tables::junk(store.tables.lengths(), rng)
@@ -220,7 +250,7 @@ pub fn other_lengths(wanted: usize) -> [usize; 4] {
 
 /// A list of any length up to the longest: triangles in use, anywhere or close together, so that some are listed again;
 /// in many lists one entry that may fail.
-fn some_list(store: &Store, rng: &mut Rng) -> Vec<u32> {
+pub fn some_list(store: &Store, rng: &mut Rng) -> Vec<u32> {
     let length = rng.below(LONGEST_LIST + 1);
     let mut list = entries_in_use(store, length, rng);
     if length > 0 && rng.percent(40) {
@@ -242,7 +272,7 @@ pub fn entries_in_use(store: &Store, length: usize, rng: &mut Rng) -> Vec<u32> {
 }
 
 /// A box; some with a low corner above the high one, or with no generation.
-fn some_box(store: &Store, rng: &mut Rng) -> Call {
+pub fn some_box(store: &Store, rng: &mut Rng) -> Call {
     let (mut bounds, mut below) = (some_bounds(store, rng), some_generation(store, rng));
     match rng.below(20) {
         0 => below = rng.pick(&NO_GENERATIONS),
@@ -318,7 +348,7 @@ pub fn all_numbers(count: u32, slots: usize) -> impl Iterator<Item = u32> {
 }
 
 /// A triangle: anywhere, or the deepest that a few tries find.
-fn some_triangle(store: &Store, rng: &mut Rng) -> u32 {
+pub fn some_triangle(store: &Store, rng: &mut Rng) -> u32 {
     let in_use = store.triangles();
     if in_use == 0 || rng.percent(50) {
         return some_number(store.counts.triangles, rng);

@@ -7,6 +7,9 @@ use std::str::FromStr;
 
 use crate::tables::{Bounds, Call, Counts, Room, Store, Tables};
 
+/// What stands before the word of a call that is given a buffer for its report.
+const REPORTED: &str = "reported-";
+
 #[derive(Clone, Debug, PartialEq, Eq)]
 pub struct Case {
     pub store: Store,
@@ -22,25 +25,34 @@ impl Display for Case {
         writeln!(out, "limit-table{}", numbers(&room.table))?;
         writeln!(out, "view-table{}", numbers(&room.view))?;
         writeln!(out, "note{}", numbers(&room.note))?;
+        writeln!(out, "report-buffer{}", numbers(&room.report))?;
         write_tables(out, "spare-", &room.spares)?;
-        match &self.call {
-            Call::Load { rule, cage } => writeln!(out, "load {rule}{}", numbers(cage)),
-            Call::Refine { triangle } => writeln!(out, "refine {triangle}"),
-            Call::RefineNoted { triangle } => writeln!(out, "refine-noted {triangle}"),
-            Call::TakeBack => writeln!(out, "take-back"),
-            Call::WholeStep => writeln!(out, "whole-step"),
-            Call::SetLock { triangle, on: true } => writeln!(out, "lock {triangle}"),
-            Call::SetLock { triangle, on: false } => writeln!(out, "unlock {triangle}"),
-            Call::Ring { vertex } => writeln!(out, "ring {vertex}"),
-            Call::Position { vertex } => writeln!(out, "position {vertex}"),
-            Call::Limit => writeln!(out, "limit"),
-            Call::ViewPoint { vertex } => writeln!(out, "view-point {vertex}"),
-            Call::ViewTriangles => writeln!(out, "view-triangles"),
-            Call::RefineList { list } => writeln!(out, "refine-list{}", numbers(list)),
-            Call::Preview { list } => writeln!(out, "preview{}", numbers(list)),
-            Call::RefineBox { bounds: Bounds { low, high }, below } => {
-                writeln!(out, "refine-box {below}{}{}", numbers(low), numbers(high))
-            }
+        write_call(out, &self.call)
+    }
+}
+
+fn write_call(out: &mut fmt::Formatter<'_>, call: &Call) -> fmt::Result {
+    match call {
+        Call::Load { rule, cage } => writeln!(out, "load {rule}{}", numbers(cage)),
+        Call::Refine { triangle } => writeln!(out, "refine {triangle}"),
+        Call::RefineNoted { triangle } => writeln!(out, "refine-noted {triangle}"),
+        Call::TakeBack => writeln!(out, "take-back"),
+        Call::WholeStep => writeln!(out, "whole-step"),
+        Call::SetLock { triangle, on: true } => writeln!(out, "lock {triangle}"),
+        Call::SetLock { triangle, on: false } => writeln!(out, "unlock {triangle}"),
+        Call::Ring { vertex } => writeln!(out, "ring {vertex}"),
+        Call::Position { vertex } => writeln!(out, "position {vertex}"),
+        Call::Limit => writeln!(out, "limit"),
+        Call::ViewPoint { vertex } => writeln!(out, "view-point {vertex}"),
+        Call::ViewTriangles => writeln!(out, "view-triangles"),
+        Call::RefineList { list } => writeln!(out, "refine-list{}", numbers(list)),
+        Call::Preview { list } => writeln!(out, "preview{}", numbers(list)),
+        Call::RefineBox { bounds: Bounds { low, high }, below } => {
+            writeln!(out, "refine-box {below}{}{}", numbers(low), numbers(high))
+        }
+        Call::Reported(call) => {
+            write!(out, "{REPORTED}")?;
+            write_call(out, call)
         }
     }
 }
@@ -93,6 +105,7 @@ impl FromStr for Case {
             table: parsed(words_of(&lines, "limit-table")?)?,
             view: parsed(words_of(&lines, "view-table")?)?,
             note: parsed(words_of(&lines, "note")?)?,
+            report: parsed(words_of(&lines, "report-buffer")?)?,
             spares: parsed_tables(&lines, "spare-")?,
         };
         let call = parsed_call(lines.last().expect("there are lines"))?;
@@ -118,6 +131,10 @@ fn parsed_tables(lines: &[Vec<&str>], which: &str) -> Result<Tables, String> {
 }
 
 fn parsed_call(words: &[&str]) -> Result<Call, String> {
+    if let Some(plain) = words[0].strip_prefix(REPORTED) {
+        let call = parsed_call(&[&[plain], &words[1..]].concat())?;
+        return if call.refines() { Ok(call.reported()) } else { Err(format!("`{plain}` has no report")) };
+    }
     let number = || -> Result<u32, String> {
         let word = words.get(1).ok_or("a number is missing")?;
         word.parse().map_err(|_| format!("not a number: {word}"))

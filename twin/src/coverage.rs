@@ -1,6 +1,6 @@
 //! What a run has met: each refusal of each call, each rule, each kind of linked pair, each chain length over an even
 //! triangle and over the boundary, each ring length of a whole step and of a limit query, halves in these, sides linked
-//! to themselves, what becomes of the entries of lists, foils, boxes, locks, views, and notes.
+//! to themselves, what becomes of the entries of lists, foils, boxes, locks, views, notes, and reports.
 
 use std::collections::{BTreeMap, BTreeSet};
 use std::fmt::{self, Display};
@@ -13,6 +13,7 @@ use crate::lock_coverage::LockCoverage;
 use crate::mesh::Mesh;
 use crate::note_coverage::NoteCoverage;
 use crate::refine::handle;
+use crate::report_coverage::ReportCoverage;
 use crate::smooth::{Fraction, fractions};
 use crate::sound::{has_one_fan_each, kind};
 use crate::tables::{Answer, BOUNDARY, Call, HALF_UP, Store};
@@ -35,6 +36,11 @@ const CALLS: &[(&str, &[u32])] = &[
     ("view all", &[0, 1, 7, 20]),
     ("with note", &[0, 1, 7, 8, 9, 11, 19, 22]),
     ("take back", &[0, 1, 7, 21]),
+    ("with report", &[0, 1, 7, 8, 9, 11, 19, 23]),
+    ("with both", &[0, 1, 7, 8, 9, 11, 19, 22, 23]),
+    ("list report", &[0, 1, 7, 8, 9, 11, 17, 19, 23]),
+    ("preview rep.", &[0, 1, 7, 8, 9, 11, 17, 19, 23]),
+    ("box report", &[0, 1, 7, 9, 11, 17, 18, 19, 23]),
 ];
 
 /// The longest of the lists that have to be met in every length.
@@ -84,6 +90,7 @@ pub struct Coverage {
     locks: LockCoverage,
     views: ViewCoverage,
     notes: NoteCoverage,
+    pub reports: ReportCoverage,
 }
 
 /// What a load is refused with 6 for.
@@ -129,6 +136,13 @@ fn row(call: &Call) -> usize {
         Call::ViewTriangles => 12,
         Call::RefineNoted { .. } => 13,
         Call::TakeBack => 14,
+        Call::Reported(plain) => match **plain {
+            Call::Refine { .. } => 15,
+            Call::RefineNoted { .. } => 16,
+            Call::RefineList { .. } => 17,
+            Call::Preview { .. } => 18,
+            _ => 19,
+        },
     }
 }
 
@@ -176,6 +190,7 @@ impl Coverage {
         self.locks.note(before, call, answer);
         self.views.note(before, call, answer);
         self.notes.note(before, call, answer);
+        self.reports.note(before, call, answer);
         match (call, answer.refusal) {
             (&Call::Refine { triangle }, 0) => self.note_refine(before, triangle as usize, answer),
             (&Call::Refine { triangle }, 9) => {
@@ -313,6 +328,8 @@ impl Coverage {
         expect("side linked to itself, number", &self.self_linked, 0);
         expect("box carried out, generation", &self.boxes.generations, 0);
         expect("note written, slots", &self.notes.slots, 1);
+        expect("report of a refine, splits", &self.reports.splits, 1);
+        expect("report of a refine, flips", &self.reports.flips, 0);
         expect("list carried out, length", &first_of(&self.list_lengths, LONGEST_LIST + 1), 0);
         expect("entry of a list that fails, place", &first_of(&self.failing_places, LONGEST_LIST), 0);
         for (title, names, met) in self.named() {
@@ -336,6 +353,7 @@ impl Coverage {
         named.extend(self.locks.named());
         named.extend(self.views.named());
         named.extend(self.notes.named());
+        named.extend(self.reports.named());
         named
     }
 }
@@ -343,7 +361,7 @@ impl Coverage {
 impl Display for Coverage {
     fn fmt(&self, out: &mut fmt::Formatter<'_>) -> fmt::Result {
         write!(out, "{:<12}", "refusal")?;
-        CALLS.iter().try_for_each(|(call, _)| write!(out, "{call:>12}"))?;
+        CALLS.iter().try_for_each(|(call, _)| write!(out, "{call:>13}"))?;
         writeln!(out)?;
         for refusal in self.refusals() {
             let name = if refusal == 0 { "none".to_string() } else { refusal.to_string() };
@@ -352,7 +370,7 @@ impl Display for Coverage {
                 let met = self.answers.get(&(number, refusal)).copied().unwrap_or(0);
                 let counted = met > 0 || possible.contains(&refusal) || refusal == NEVER_GIVEN;
                 let shown = if counted { met.to_string() } else { "-".to_string() };
-                write!(out, "{shown:>12}")?;
+                write!(out, "{shown:>13}")?;
             }
             writeln!(out)?;
         }
@@ -373,6 +391,8 @@ impl Display for Coverage {
         list("sides linked to themselves in tables refused with 7", &self.self_linked, 0)?;
         list("boxes carried out by generation", &self.boxes.generations, 0)?;
         list("slots of notes written", &self.notes.slots, 1)?;
+        list("splits in reports of refines", &self.reports.splits, 1)?;
+        list("flips in reports of refines", &self.reports.flips, 0)?;
         for (title, names, met) in self.named() {
             let shown: Vec<String> = names.iter().zip(met).map(|(name, met)| format!("{name}: {met}")).collect();
             writeln!(out, "{title}  {}", shown.join("  "))?;

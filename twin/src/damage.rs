@@ -175,7 +175,8 @@ fn compare_lengths(bench: &mut Bench, store: &Store, lengths: [usize; 5], rng: &
     for call in of_each.iter().chain([&load]) {
         bench.compare_only(&changed, call)?;
     }
-    // Spare tables that agree, or do not, with each other, but not with the mesh's: for the list and the box.
+    // Spare tables that agree, or do not, with each other, but not with the mesh's: for the list, the box and what has
+    // a report.
     changed.room.spares = store.tables.clone();
     for call in &of_each[10..] {
         bench.compare_only(&changed, call)?;

@@ -1,7 +1,7 @@
 //! The library under test, through its C interface.
 
 use crate::rawplinth::*;
-use crate::tables::{Answer, Bounds, Call, Service, Store, Tables};
+use crate::tables::{Answer, Bounds, Call, Room, Service, Store, Tables};
 
 /// Entries on each side of a lent buffer that the library must not write.
 const GUARD: usize = 64;
@@ -166,6 +166,63 @@ impl From<BatchForeseen> for Answer {
     }
 }
 
+impl From<Reported> for Answer {
+    fn from(Reported { worked, reported }: Reported) -> Answer {
+        Answer { reported, ..worked.into() }
+    }
+}
+
+impl From<BatchReported> for Answer {
+    fn from(BatchReported { worked, reported }: BatchReported) -> Answer {
+        Answer { reported, ..worked.into() }
+    }
+}
+
+impl From<ForeseenReported> for Answer {
+    fn from(ForeseenReported { foreseen, reported }: ForeseenReported) -> Answer {
+        Answer { reported, ..foreseen.into() }
+    }
+}
+
+/// The answer of a call with a report.
+fn reported(lent: &mut LentTables, counts: Counts, plain: &Call, room: &mut Room) -> Result<Answer, String> {
+    let mut report = Lent::new("report buffer", &room.report, 0x6262_6262);
+    let (buffer, entries) = (report.pointer(), report.length);
+    let mut spares = LentTables::new(SPARES, &room.spares);
+    let answer = match plain {
+        &Call::Refine { triangle } => call!(rawplinth_refine_reported, lent, counts, triangle, buffer, entries).into(),
+        &Call::RefineNoted { triangle } => {
+            let mut note = Lent::new("note", &room.note, 0x6060_6060);
+            let (first, length) = (note.pointer(), note.length);
+            let made = call!(rawplinth_refine_noted_reported, lent, counts, triangle, first, length, buffer, entries);
+            note.give_back(&mut room.note)?;
+            made.into()
+        }
+        Call::RefineList { list } => {
+            let mut listed = Lent::new("list", list, !0);
+            let (first, length) = (listed.pointer(), listed.length);
+            let made = call!(rawplinth_refine_list_reported, lent, counts, first, length, buffer, entries; spares);
+            listed.unwritten(list)?;
+            made.into()
+        }
+        Call::Preview { list } => {
+            let mut listed = Lent::new("list", list, !0);
+            let (first, length) = (listed.pointer(), listed.length);
+            let foreseen = call!(rawplinth_preview_reported, lent, counts, first, length, buffer, entries; spares);
+            listed.unwritten(list)?;
+            Answer { counts, ..foreseen.into() }
+        }
+        &Call::RefineBox { bounds: Bounds { low, high }, below } => {
+            let [low, high] = [low, high].map(|[x, y, z]| Point { x, y, z });
+            call!(rawplinth_refine_box_reported, lent, counts, low, high, below, buffer, entries; spares).into()
+        }
+        other => panic!("{other:?} has no report"),
+    };
+    spares.give_back(&mut room.spares)?;
+    report.give_back(&mut room.report)?;
+    Ok(answer)
+}
+
 /// The library under test. Its calls get copies of what is lent, with guard entries around them.
 pub struct Library;
 
@@ -245,6 +302,7 @@ impl Service for Library {
                 spares.give_back(&mut room.spares)?;
                 worked.into()
             }
+            Call::Reported(plain) => reported(&mut lent, *counts, plain, room)?,
         };
         lent.give_back(tables)?;
         *counts = answer.counts;

@@ -8,6 +8,7 @@ use crate::damage;
 use crate::handmade;
 use crate::malformed;
 use crate::random_cages::random_cage;
+use crate::reports;
 use crate::rng::Rng;
 use crate::tables::{BOUNDARY, Bounds, Call, Counts, LAST_GENERATION, NOTE_ENTRIES, Store};
 use crate::views;
@@ -274,8 +275,8 @@ fn all_lists_from(bench: &mut Bench, store: &Store, length: usize) -> Outcome {
     Ok(())
 }
 
-/// Cages that fill the largest tables, a whole step that nearly does, and rings, lists, boxes and views of tens of
-/// thousands, with a refine taken back.
+/// Cages that fill the largest tables, a whole step that nearly does, and rings, lists, boxes, reports and views of
+/// tens of thousands, with a refine taken back.
 pub fn largest(bench: &mut Bench, rng: &mut Rng) -> Outcome {
     let fans = [cages::double_pyramid(32_700), cages::open_fan(32_766)];
     for cage in [cages::torus(128, 256), cages::torus(106, 103)].into_iter().chain(fans) {
@@ -290,6 +291,9 @@ pub fn largest(bench: &mut Bench, rng: &mut Rng) -> Outcome {
             bench.compare_only(&history.store, &Call::RefineList { list: list.clone() })?;
             bench.compare_only(&history.store, &Call::RefineBox { bounds, below: 1 })?;
         }
+        let far = (0..4).map(|_| history.store.point(rng.below(cage.points.len()))[0]).max();
+        let slab = Bounds { low: [far.unwrap_or(0), i32::MIN, i32::MIN], ..Bounds::EVERYWHERE };
+        reports::of_all(bench, &history.store, slab, rng)?;
         for _ in 0..2 {
             history.store.room.table = vec![7; 3 * history.store.vertices()];
             bench.compare(&mut history.store, &Call::Limit)?;

@@ -1,9 +1,8 @@
 //! What stays of a locked triangle: its corners with their positions, its generation, its lock, and the sides that its
 //! links name, each in the place that splits and flips have moved it to.
 
-use crate::fault::Seeded;
-use crate::mesh::{Mesh, Operation};
-use crate::refine::{handle, refine_inside};
+use crate::mesh::Operation;
+use crate::refine::operations;
 use crate::tables::{Answer, BOUNDARY, Call, Store, Tables};
 
 /// What a call has changed of locked triangles, or of locks, that it must not: in the mesh, and in spare tables that it
@@ -16,7 +15,7 @@ pub fn violated_by_lock(before: &Store, call: &Call, answer: &Answer, after: &St
         return violated_by_lock(after, &refine, answer, before);
     }
     let in_spares = matches!(call, Call::RefineList { .. } | Call::Preview { .. } | Call::RefineBox { .. })
-        && matches!(answer.refusal, 0 | 8 | 9 | 11 | 19);
+        && matches!(answer.refusal, 0 | 8 | 9 | 11 | 19 | 23);
     if !carried_out && !in_spares {
         return (before.tables != after.tables).then(|| "a refused call changed a table".to_string());
     }
@@ -27,7 +26,8 @@ pub fn violated_by_lock(before: &Store, call: &Call, answer: &Answer, after: &St
         Call::SetLock { triangle, on } => due[*triangle as usize] = u8::from(*on),
         _ => {}
     }
-    let (none, all) = (Vec::new(), operations(before, call));
+    let all = if locked_triangles(before).is_empty() { Vec::new() } else { operations(before, call) };
+    let none = Vec::new();
     let made = if carried_out && !matches!(call, Call::Preview { .. }) { &all } else { &none };
     let in_mesh = altered(before, &after.tables, made);
     let wrong = in_mesh.or_else(|| wrong_lock(&due, after.triangles(), &after.tables));
@@ -42,25 +42,6 @@ pub fn violated_by_lock(before: &Store, call: &Call, answer: &Answer, after: &St
 pub fn locked_triangles(store: &Store) -> Vec<usize> {
     let locks = store.tables.locks.iter().take(store.triangles()).enumerate();
     locks.filter(|(_, lock)| **lock == 1).map(|(slot, _)| slot).collect()
-}
-
-/// The splits and flips that a call makes on sound tables, up to where it fails. They are not asked for where nothing
-/// is locked.
-fn operations(before: &Store, call: &Call) -> Vec<Operation> {
-    if locked_triangles(before).is_empty() {
-        return Vec::new();
-    }
-    let mut start = Mesh::read(&before.tables, before.counts, Seeded(None));
-    let slots = before.tables.slots();
-    match call {
-        Call::Refine { triangle } | Call::RefineNoted { triangle } => {
-            start.refine(*triangle as usize);
-            start.operations
-        }
-        Call::RefineList { list } | Call::Preview { list } => handle(&start, list, slots).mesh.operations,
-        Call::RefineBox { bounds, below } => refine_inside(&start, bounds, *below, slots).mesh.operations,
-        _ => Vec::new(),
-    }
 }
 
 /// A lock other than it ought to be: those given, and 0 in all slots that come into use.

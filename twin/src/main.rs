@@ -40,7 +40,13 @@ mod random_cages;
 #[path = "../../include/rawplinth.rs"]
 #[cfg_attr(not(linked), allow(dead_code))]
 mod rawplinth;
+mod redraw;
 mod refine;
+mod report;
+mod report_coverage;
+mod report_examples;
+mod reported;
+mod reports;
 mod rng;
 mod smooth;
 mod sound;

@@ -57,6 +57,14 @@ impl Operation {
             Operation::Flip { s, u } => vec![s, u],
         }
     }
+
+    /// The slots whose corners or generation it writes: a split its own and then the new ones, a flip s and then u.
+    pub fn written(self) -> Vec<usize> {
+        match self {
+            Operation::FaceSplit { t, f } | Operation::RimSplit { t, f } => vec![t, f, f + 1],
+            Operation::Flip { s, u } => vec![s, u],
+        }
+    }
 }
 
 #[derive(Clone, Debug, PartialEq, Eq)]

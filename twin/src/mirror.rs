@@ -29,6 +29,7 @@ pub fn of_call(call: &Call, axis: usize) -> Option<Call> {
             (low[axis], high[axis]) = (high[axis].checked_neg()?, low[axis].checked_neg()?);
             Some(Call::RefineBox { bounds, below })
         }
+        Call::Reported(call) => Some(of_call(call, axis)?.reported()),
         other => Some(other.clone()),
     }
 }

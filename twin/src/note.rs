@@ -3,6 +3,7 @@
 use crate::conditions::Twin;
 use crate::fault::Fault;
 use crate::mesh::{Mesh, Side, Triangle};
+use crate::report::Made;
 use crate::split::Work;
 use crate::tables::{Answer, BOUNDARY, Counts, HALF_UP, NOTE_ENTRIES, Tables, refuse_unless};
 
@@ -77,7 +78,7 @@ pub struct Restored {
 
 impl Twin {
     /// Refine with a note: 1, 7, 8, 9, 19, 11, 22.
-    pub fn refine_noted(&self, tables: &mut Tables, counts: Counts, t: u32, note: &mut [u32]) -> Result<Answer, u32> {
+    pub fn refine_noted(&self, tables: &mut Tables, counts: Counts, t: u32, note: &mut [u32]) -> Result<Made, u32> {
         let has_head = note.len() >= 4;
         refuse_unless(has_head || !self.fault.has(Fault::NoteBeforeTables), 22)?;
         let made = self.made_with_note(tables, counts, t, note.len());
@@ -99,7 +100,8 @@ impl Twin {
             Some(Fault::NotePastLast) => rest.iter_mut().take(1).for_each(|entry| *entry = 0),
             _ => {}
         }
-        Ok(Answer { splits: work.splits, flips: work.flips, counts: mesh.counts(), ..Answer::default() })
+        let answer = Answer { splits: work.splits, flips: work.flips, counts: mesh.counts(), ..Answer::default() };
+        Ok(Made { answer, report: mesh.report() })
     }
 
     /// The mesh refined, and the entries of its note.

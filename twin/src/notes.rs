@@ -44,7 +44,7 @@ pub fn standing(store: &Store, slot: usize) -> Nine {
 }
 
 /// Small sound tables with room for any refine.
-fn roomy_stores(rng: &mut Rng) -> Vec<Store> {
+pub fn roomy_stores(rng: &mut Rng) -> Vec<Store> {
     let mut stores = small_stores(rng);
     for store in &mut stores {
         let [vertex_slots, triangle_slots] = store.tables.slots().map(|slots| slots + 24);

@@ -6,7 +6,7 @@ use crate::bench::{Bench, Outcome};
 use crate::rng::Rng;
 use crate::{
     boxes, damage, examples, halves, handmade, histories, limits, lists, locks, malformed, note_examples, notes,
-    surgery, unsound, views,
+    report_examples, reports, surgery, unsound, views,
 };
 
 type Part = fn(&mut Bench, &mut Rng) -> Outcome;
@@ -22,6 +22,13 @@ const PARTS: &[(&str, Part)] = &[
     ("views with all refusals", views::orders),
     ("coordinates in views", views::coordinates),
     ("views of hand-made tables", |bench, rng| views::random(bench, 2_000, rng)),
+    ("reports as they are told", report_examples::as_told),
+    ("reports of all lengths", reports::lengths),
+    ("reports with all refusals", reports::orders),
+    ("reports of chains", reports::chains),
+    ("reports of lists", reports::of_lists),
+    ("reports of boxes", reports::of_boxes),
+    ("redraws by reports", |bench, rng| reports::redraws(bench, 500, rng)),
     ("notes as they are told", note_examples::as_told),
     ("notes of all lengths", notes::lengths),
     ("notes with all refusals", notes::orders),
@@ -96,6 +103,7 @@ pub fn soak_round(bench: &mut Bench, rng: &mut Rng) -> Outcome {
     views::random(bench, 20, rng)?;
     notes::late(bench, 4, rng)?;
     notes::back_to_load(bench, 1, rng)?;
+    reports::redraws(bench, 4, rng)?;
     histories::shells(bench, 1, rng)?;
     histories::deep(bench, 1, rng)?;
     histories::random(bench, 20, rng)

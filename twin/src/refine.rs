@@ -1,9 +1,9 @@
 //! Refining with its conditions: one triangle, the triangles of a list, and those with a corner in a box.
 
-use crate::fault::Fault;
-use crate::mesh::{Mesh, Side, Triangle};
+use crate::fault::{Fault, Seeded};
+use crate::mesh::{Mesh, Operation, Side, Triangle};
 use crate::split::Work;
-use crate::tables::{Bounds, LAST_GENERATION, refuse_unless};
+use crate::tables::{Bounds, Call, LAST_GENERATION, Store, refuse_unless};
 
 /// A list of triangles or a box, as far as it was handled.
 pub struct Handled {
@@ -77,6 +77,22 @@ pub fn refine_inside(start: &Mesh, bounds: &Bounds, below: u32, slots: [usize; 2
     done
 }
 
+/// The splits and flips that a call makes on sound tables, up to where it fails; a refine of one triangle as if nothing
+/// refused it.
+pub fn operations(before: &Store, call: &Call) -> Vec<Operation> {
+    let mut start = Mesh::read(&before.tables, before.counts, Seeded(None));
+    let slots = before.tables.slots();
+    match call {
+        Call::Refine { triangle } | Call::RefineNoted { triangle } => {
+            start.refine(*triangle as usize);
+            start.operations
+        }
+        Call::RefineList { list } | Call::Preview { list } => handle(&start, list, slots).mesh.operations,
+        Call::RefineBox { bounds, below } => refine_inside(&start, bounds, *below, slots).mesh.operations,
+        _ => Vec::new(),
+    }
+}
+
 impl Mesh {
     /// Whether a triangle is below a generation and has a corner in a box.
     fn is_inside(&self, t: usize, bounds: &Bounds, below: u32) -> bool {
@@ -144,6 +160,9 @@ impl Mesh {
         let triangles_needed = self.fault.unless(Fault::SlotsOffByOne, triangles_needed, triangles_needed + 1);
         refuse_unless(self.leaves_free(slots, vertices_needed, triangles_needed), 11)?;
         refuse_unless(!alters_locked, 19)?;
+        if self.fault.has(Fault::ListReportsLastAlone) {
+            self.operations.clear();
+        }
         let mut work = self.refine(t);
         let flipped = generation % 2 == 1 && !self.triangles[t].is_odd();
         if self.fault.has(Fault::SplitWhenFlipped) && flipped && self.leaves_free(slots, 1, 2) {

@@ -1,7 +1,7 @@
 //! What a call is lent, the calls and their answers.
 
-pub use crate::rawplinth::RAWPLINTH_NOTE_ENTRIES as NOTE_ENTRIES;
 pub use crate::rawplinth::{Counts, RAWPLINTH_HALF_AWAY as HALF_AWAY, RAWPLINTH_HALF_UP as HALF_UP};
+pub use crate::rawplinth::{RAWPLINTH_NOTE_ENTRIES as NOTE_ENTRIES, RAWPLINTH_REPORT_ENTRIES as REPORT_ENTRIES};
 use crate::rng::Rng;
 
 /// The link of a boundary side; the paper's rim.
@@ -86,6 +86,8 @@ pub struct Room {
     pub view: Vec<u32>,
     /// The note that a refine writes, and that it is taken back by.
     pub note: Vec<u32>,
+    /// The buffer of a report.
+    pub report: Vec<u32>,
     /// The tables that a list or a box is worked off in.
     pub spares: Tables,
 }
@@ -218,6 +220,36 @@ pub enum Call {
         bounds: Bounds,
         below: u32,
     },
+    /// One that refines, given a buffer for its report.
+    Reported(Box<Call>),
+}
+
+impl Call {
+    /// Whether it refines, and so may be given a buffer for its report.
+    pub fn refines(&self) -> bool {
+        matches!(
+            self,
+            Call::Refine { .. }
+                | Call::RefineNoted { .. }
+                | Call::RefineList { .. }
+                | Call::Preview { .. }
+                | Call::RefineBox { .. }
+        )
+    }
+
+    /// The same with a report.
+    pub fn reported(self) -> Call {
+        assert!(self.refines(), "{self:?} has no report");
+        Call::Reported(Box::new(self))
+    }
+
+    /// The same without a report.
+    pub fn plain(&self) -> &Call {
+        match self {
+            Call::Reported(call) => call,
+            call => call,
+        }
+    }
 }
 
 /// What a call answers, with zeros for what it does not speak of.
@@ -239,6 +271,8 @@ pub struct Answer {
     pub spares: Counts,
     /// The vertices and triangles that a preview foresees, while the counts stand.
     pub foreseen: [u32; 2],
+    /// The entries written to the buffer of a report.
+    pub reported: u32,
 }
 
 /// Refuses with a number where its condition holds.

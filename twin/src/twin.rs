@@ -6,6 +6,7 @@ use crate::conditions::{is_closed_and_even, rings_have_weights};
 use crate::fault::Fault;
 use crate::load::mesh_of_cage;
 use crate::mesh::Mesh;
+use crate::report::Made;
 use crate::smooth::{limit_points, whole_step};
 use crate::sound::is_rule;
 use crate::tables::{Answer, Call, Counts, HALF_UP, LAST_GENERATION, Service, Store, Tables, refuse_unless};
@@ -20,34 +21,43 @@ impl Service for Twin {
 
     /// A refusal: its number, zeros, and the counts as they were.
     fn answer(&self, store: &mut Store, call: &Call) -> Result<Answer, String> {
-        let Store { tables, counts, room } = store;
-        let answered = match call {
-            Call::Load { rule, cage } => self.load(tables, *counts, *rule, cage),
-            Call::Refine { triangle } => self.refine(tables, *counts, *triangle as usize),
-            Call::RefineNoted { triangle } => self.refine_noted(tables, *counts, *triangle, &mut room.note),
-            Call::TakeBack => self.take_back(tables, *counts, &room.note),
-            Call::WholeStep => self.whole_step(tables, *counts),
-            Call::SetLock { triangle, on } => self.set_lock(tables, *counts, *triangle as usize, *on),
-            Call::Ring { vertex } => self.ring(tables, *counts, *vertex as usize, &mut room.ring),
-            Call::Position { vertex } => self.position(tables, *counts, *vertex as usize),
-            Call::Limit => self.limit(tables, *counts, &mut room.table),
-            Call::ViewPoint { vertex } => self.view_point(tables, *counts, *vertex as usize),
-            Call::ViewTriangles => self.view_triangles(tables, *counts, &mut room.view),
-            Call::RefineList { list } => self.refine_each(tables, *counts, Job::List(list), &mut room.spares),
-            Call::Preview { list } => Ok(self.preview(tables, *counts, list, &mut room.spares)),
-            Call::RefineBox { bounds, below } => {
-                self.in_box().refine_each(tables, *counts, Job::Box(bounds, *below), &mut room.spares)
-            }
-        };
-        let rule = self.fault.unless(Fault::RefusedWithoutRule, counts.rule, 0);
-        let kept = Counts { rule, ..*counts };
-        let answer = answered.unwrap_or_else(|refusal| Answer { refusal, counts: kept, ..Answer::default() });
-        *counts = answer.counts;
+        let made = self.make(store, call);
+        let rule = self.fault.unless(Fault::RefusedWithoutRule, store.counts.rule, 0);
+        let kept = Counts { rule, ..store.counts };
+        let refused = |refusal| Answer { refusal, counts: kept, ..Answer::default() };
+        let answer = made.map_or_else(refused, |made| made.answer);
+        store.counts = answer.counts;
         Ok(answer)
     }
 }
 
 impl Twin {
+    /// Makes a call, but for the counts, which are in its answer, or refuses it by a number.
+    pub fn make(&self, store: &mut Store, call: &Call) -> Result<Made, u32> {
+        let Store { tables, counts, room } = store;
+        let counts = *counts;
+        let answered = match call {
+            Call::Refine { triangle } => return self.refine(tables, counts, *triangle as usize),
+            Call::RefineNoted { triangle } => return self.refine_noted(tables, counts, *triangle, &mut room.note),
+            Call::RefineList { list } => return self.refine_each(tables, counts, Job::List(list), &mut room.spares),
+            Call::Preview { list } => return Ok(self.preview(tables, counts, list, &mut room.spares)),
+            Call::RefineBox { bounds, below } => {
+                return self.in_box().refine_each(tables, counts, Job::Box(bounds, *below), &mut room.spares);
+            }
+            Call::Load { rule, cage } => self.load(tables, counts, *rule, cage),
+            Call::TakeBack => self.take_back(tables, counts, &room.note),
+            Call::WholeStep => self.whole_step(tables, counts),
+            Call::SetLock { triangle, on } => self.set_lock(tables, counts, *triangle as usize, *on),
+            Call::Ring { vertex } => self.ring(tables, counts, *vertex as usize, &mut room.ring),
+            Call::Position { vertex } => self.position(tables, counts, *vertex as usize),
+            Call::Limit => self.limit(tables, counts, &mut room.table),
+            Call::ViewPoint { vertex } => self.view_point(tables, counts, *vertex as usize),
+            Call::ViewTriangles => self.view_triangles(tables, counts, &mut room.view),
+            Call::Reported(call) => self.reported(store, call),
+        };
+        answered.map(Made::from)
+    }
+
     /// Load: 1, 16, 2 to 6, whatever the tables held. The counts of before are what a refusal answers, and no more.
     fn load(&self, tables: &mut Tables, before: Counts, rule: u32, cage: &[u8]) -> Result<Answer, u32> {
         let good_rule = is_rule(rule) || self.fault.has(Fault::RuleZeroLoaded) && rule == 0;
@@ -77,7 +87,7 @@ impl Twin {
     }
 
     /// Refine: 1, 7, 8, 9, 19, 11.
-    fn refine(&self, tables: &mut Tables, counts: Counts, t: usize) -> Result<Answer, u32> {
+    fn refine(&self, tables: &mut Tables, counts: Counts, t: usize) -> Result<Made, u32> {
         refuse_unless(self.tables_agree(tables), 1)?;
         if self.fault.has(Fault::UseBeforeSound) {
             refuse_unless(t < counts.triangles as usize, 8)?;
@@ -86,7 +96,8 @@ impl Twin {
         let work = mesh.refine_in(tables.slots(), t)?;
         mesh.rule = self.fault.unless(Fault::RefinedByRuleOne, mesh.rule, HALF_UP);
         self.write(&mesh, tables, Fault::NewLocksKept, counts.triangles as usize);
-        Ok(Answer { splits: work.splits, flips: work.flips, counts: mesh.counts(), ..Answer::default() })
+        let answer = Answer { splits: work.splits, flips: work.flips, counts: mesh.counts(), ..Answer::default() };
+        Ok(Made { answer, report: mesh.report() })
     }
 
     /// Whole step: 1, 7, 12, 9, 13, 19, 11.

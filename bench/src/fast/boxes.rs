@@ -2,7 +2,7 @@
 //! lowest.
 
 use super::list::make;
-use super::split::refine;
+use super::split::{Wrote, refine};
 use super::{LAST_GENERATION, triple};
 use crate::tables::{BatchWorked, Counts, MOST_TRIANGLE_SLOTS, Panel, Tables};
 
@@ -47,11 +47,16 @@ impl Levels {
 
 /// Refines inside a box. What is done in the spare tables is copied back if no refine fails.
 pub fn refine_box(tables: &mut Tables, counts: Counts, panel: Panel, spares: &mut Tables) -> BatchWorked {
-    make(tables, counts, spares, |_, spares, done| refine_inside(panel, spares, done))
+    make(tables, counts, spares, |_, spares, done| refine_inside(panel, spares, done, &mut |_| ()))
 }
 
 /// Refines up to the first refine that fails.
-fn refine_inside(panel: Panel, spares: &mut Tables, mut done: BatchWorked) -> BatchWorked {
+pub fn refine_inside(
+    panel: Panel,
+    spares: &mut Tables,
+    mut done: BatchWorked,
+    tell: &mut impl FnMut(&Wrote),
+) -> BatchWorked {
     let mut inside = Vec::with_capacity(spares.positions.len() / 3);
     let mut wanted = Levels::new();
     let mut touched: Vec<usize> = (0..done.spares.triangles as usize).collect();
@@ -66,7 +71,15 @@ fn refine_inside(panel: Panel, spares: &mut Tables, mut done: BatchWorked) -> Ba
         let Some(t) = wanted.lowest() else {
             return done;
         };
-        match refine(spares, done.spares, t as u32, &mut |slot| touched.push(slot)) {
+        let mut touch = |wrote: Wrote| {
+            tell(&wrote);
+            match wrote {
+                Wrote::Split(slots) => touched.extend(slots),
+                // The split has told of the other.
+                Wrote::Flip([_, u]) => touched.push(u),
+            }
+        };
+        match refine(spares, done.spares, t as u32, &mut touch) {
             Ok(worked) => done.add(worked),
             Err(refusal) => return BatchWorked { refusal, ..done },
         }

@@ -1,6 +1,6 @@
 //! Work in spare tables, and a list of triangles so worked off.
 
-use super::split::refine;
+use super::split::{Wrote, refine};
 use crate::tables::{BatchForeseen, BatchWorked, Counts, Tables, Worked};
 
 /// Whether the spare tables are as long as the mesh's.
@@ -14,12 +14,13 @@ pub fn sizes_fit(tables: &Tables, spares: &Tables) -> bool {
 
 /// Refines the triangles of a list in order. What is done in the spare tables is copied back if no entry fails.
 pub fn refine_list(tables: &mut Tables, counts: Counts, list: &[u32], spares: &mut Tables) -> BatchWorked {
-    make(tables, counts, spares, |tables, spares, done| refine_each(tables, list, spares, done))
+    make(tables, counts, spares, |tables, spares, done| refine_each(tables, list, spares, done, &mut |_| ()))
 }
 
 /// What a list would be answered, with the mesh that it would make in the spare tables.
 pub fn preview(tables: &Tables, counts: Counts, list: &[u32], spares: &mut Tables) -> BatchForeseen {
-    let worked = work_off(tables, counts, spares, |tables, spares, done| refine_each(tables, list, spares, done));
+    let work = |tables: &Tables, spares: &mut Tables, done| refine_each(tables, list, spares, done, &mut |_| ());
+    let worked = work_off(tables, counts, spares, work);
     let BatchWorked { refusal, splits, flips, counts, handled, spares } = worked;
     BatchForeseen { refusal, splits, flips, handled, spares, ..standing(counts) }
 }
@@ -64,7 +65,7 @@ pub fn make(
 }
 
 /// Works in the spare tables, all that is in use being copied there first, and answers for it.
-fn work_off(
+pub fn work_off(
     tables: &Tables,
     start: Counts,
     spares: &mut Tables,
@@ -79,13 +80,19 @@ fn work_off(
 }
 
 /// Refines up to the first entry that fails. An entry that has risen since the start is passed over.
-fn refine_each(tables: &Tables, list: &[u32], spares: &mut Tables, mut done: BatchWorked) -> BatchWorked {
+pub fn refine_each(
+    tables: &Tables,
+    list: &[u32],
+    spares: &mut Tables,
+    mut done: BatchWorked,
+    tell: &mut impl FnMut(Wrote),
+) -> BatchWorked {
     for &t in list {
         if done.counts.triangles <= t {
             return BatchWorked { refusal: 8, ..done };
         }
         if spares.generations[t as usize] == tables.generations[t as usize] {
-            match refine(spares, done.spares, t, &mut |_| ()) {
+            match refine(spares, done.spares, t, tell) {
                 Ok(worked) => done.add(worked),
                 Err(refusal) => return BatchWorked { refusal, ..done },
             }

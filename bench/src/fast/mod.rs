@@ -5,6 +5,7 @@ mod boxes;
 mod list;
 mod load;
 mod note;
+mod report;
 mod sound;
 mod split;
 mod step;
@@ -17,7 +18,7 @@ use crate::tables::{
 const LAST_GENERATION: u8 = 20;
 
 pub fn answer(lent: &mut Lent, call: Call) -> Answer {
-    let Lent { tables, counts, cage, buffer, table, view, note, list, spares } = lent;
+    let Lent { tables, counts, cage, buffer, table, view, note, list, spares, .. } = lent;
     match call {
         Call::Load(rule) => Answer::Worked(fast_load(tables, *counts, rule, cage)),
         Call::Refine(triangle) => Answer::Worked(fast_refine(tables, *counts, triangle)),
@@ -34,6 +35,7 @@ pub fn answer(lent: &mut Lent, call: Call) -> Answer {
         Call::RefineList => Answer::List(fast_refine_list(tables, *counts, list, spares)),
         Call::Preview => Answer::Preview(fast_preview(tables, *counts, list, spares)),
         Call::RefineBox(panel) => Answer::List(fast_refine_box(tables, *counts, panel, spares)),
+        Call::Reported(refining) => report::answer(lent, refining),
     }
 }
 

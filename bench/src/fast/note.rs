@@ -1,6 +1,6 @@
 //! A refine with a note, and a refine taken back.
 
-use super::split::{Plan, carry_out, planned, refine};
+use super::split::{Plan, carry_out, planned, refine, with_base};
 use super::{starts, triple};
 use crate::tables::{BOUNDARY, Counts, Tables, Worked};
 
@@ -9,32 +9,32 @@ pub fn refine_noted(tables: &mut Tables, counts: Counts, t: u32, note: &mut [u32
     let plan = planned(tables, counts, t)?;
     let slots = changing(tables, t as usize, &plan);
     let note = note.get_mut(..4 + 9 * slots.len()).ok_or(22u32)?;
+    write(tables, counts, t, &slots, note);
+    Ok(carry_out(tables, counts, t, &plan, &mut |_| ()))
+}
+
+/// Writes the note of these slots.
+pub fn write(tables: &Tables, counts: Counts, t: u32, slots: &[usize], note: &mut [u32]) {
     note[..4].copy_from_slice(&[t, counts.vertices, counts.triangles, slots.len() as u32]);
-    for (nine, &slot) in note[4..].chunks_exact_mut(9).zip(&slots) {
+    for (nine, &slot) in note[4..].chunks_exact_mut(9).zip(slots) {
         nine[0] = slot as u32;
         nine[1..4].copy_from_slice(&triple(&tables.corners, slot));
         nine[4..7].copy_from_slice(&triple(&tables.links, slot));
         nine[7] = u32::from(tables.generations[slot]);
         nine[8] = u32::from(tables.locks[slot]);
     }
-    Ok(carry_out(tables, counts, t, &plan, &mut |_| ()))
 }
 
 /// The slots that a refine changes, in rising order: those that are split or flipped, and those across the sides that
 /// move, which are side 1 of each of them, and side 2 of the one that is split first.
-fn changing(tables: &Tables, t: usize, plan: &Plan) -> Vec<usize> {
+pub fn changing(tables: &Tables, t: usize, plan: &Plan) -> Vec<usize> {
     let mut slots = vec![plan.end];
     let mut at = t;
     while at != plan.end {
         slots.push(at);
         at = tables.links[3 * at] as usize / 3;
     }
-    for across in triple(&tables.links, plan.end) {
-        let (slot, side) = (across as usize / 3, across % 3);
-        if side == 0 && tables.generations.get(slot).is_some_and(|generation| generation % 2 == 1) {
-            slots.push(slot);
-        }
-    }
+    slots.extend(triple(&tables.links, plan.end).into_iter().filter_map(|side| with_base(tables, side)));
     for side in (0..slots.len()).map(|i| 3 * slots[i] + 1).chain([3 * plan.end + 2]).collect::<Vec<_>>() {
         if tables.links[side] != BOUNDARY {
             slots.push(tables.links[side] as usize / 3);

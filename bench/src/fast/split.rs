@@ -10,11 +10,25 @@ pub struct Plan {
     splits: usize,
 }
 
-/// Refines a triangle of sound tables, or refuses with 8, 9, 19 or 11. Each slot whose corners or generation change is
-/// touched.
-pub fn refine(tables: &mut Tables, counts: Counts, t: u32, touch: &mut impl FnMut(usize)) -> Result<Worked, u32> {
+impl Plan {
+    /// The length of the report: three slots for each split and two for each flip. The first split flips with each base
+    /// that meets its triangle, and every other one once.
+    pub fn report_length(&self, tables: &Tables) -> usize {
+        let first = triple(&tables.links, self.end).into_iter().filter(|&side| with_base(tables, side).is_some());
+        3 * self.splits + 2 * (first.count() + self.splits - 1)
+    }
+}
+
+/// The slots that a split or a flip has written: its own and the new ones; s and u.
+pub enum Wrote {
+    Split([usize; 3]),
+    Flip([usize; 2]),
+}
+
+/// Refines a triangle of sound tables, or refuses with 8, 9, 19 or 11. Each split and each flip tells what it wrote.
+pub fn refine(tables: &mut Tables, counts: Counts, t: u32, tell: &mut impl FnMut(Wrote)) -> Result<Worked, u32> {
     let plan = planned(tables, counts, t)?;
-    Ok(carry_out(tables, counts, t, &plan, touch))
+    Ok(carry_out(tables, counts, t, &plan, tell))
 }
 
 /// The plan of a refine, or its refusal.
@@ -45,19 +59,26 @@ pub fn carry_out(
     counts: Counts,
     t: u32,
     &Plan { end, rim_splits, splits }: &Plan,
-    touch: &mut impl FnMut(usize),
+    tell: &mut impl FnMut(Wrote),
 ) -> Worked {
     let mut worked = Worked { counts, ..Worked::default() };
     if rim_splits == 0 {
-        face_split(tables, &mut worked, end, touch);
+        face_split(tables, &mut worked, end, tell);
     } else {
-        rim_split(tables, &mut worked, end, touch);
+        rim_split(tables, &mut worked, end, tell);
     }
     for _ in 1..splits {
         let (_, end) = base_chain(tables, t as usize);
-        face_split(tables, &mut worked, end, touch);
+        face_split(tables, &mut worked, end, tell);
     }
     worked
+}
+
+/// The odd triangle that has this side as its base.
+pub fn with_base(tables: &Tables, side: u32) -> Option<usize> {
+    let side = side as usize;
+    let slot = side / 3;
+    (side.is_multiple_of(3) && tables.generations.get(slot).is_some_and(|g| g % 2 == 1)).then_some(slot)
 }
 
 /// The odd triangles of the base chain, and its last triangle, which is odd where the chain ends at the boundary.
@@ -83,8 +104,7 @@ fn chain_is_locked(tables: &Tables, t: usize, end: usize) -> bool {
         at = tables.links[3 * at] as usize / 3;
     }
     for across in triple(&tables.links, end) {
-        let (slot, side) = (across as usize / 3, across % 3);
-        if side == 0 && tables.generations.get(slot).is_some_and(|generation| generation % 2 == 1) {
+        if let Some(slot) = with_base(tables, across) {
             locked |= tables.locks[slot];
         }
     }
@@ -97,7 +117,7 @@ pub fn third(sum: i32) -> i32 {
 }
 
 /// The face split of t, with its flips.
-fn face_split(tables: &mut Tables, worked: &mut Worked, t: usize, touch: &mut impl FnMut(usize)) {
+fn face_split(tables: &mut Tables, worked: &mut Worked, t: usize, tell: &mut impl FnMut(Wrote)) {
     let (p, f) = (worked.counts.vertices, worked.counts.triangles as usize);
     let (corners, links) = (triple(&tables.corners, t), triple(&tables.links, t));
     let [x, y, z] = corners.map(|corner| triple(&tables.positions, corner as usize));
@@ -115,12 +135,12 @@ fn face_split(tables: &mut Tables, worked: &mut Worked, t: usize, touch: &mut im
     tables.locks[f..f + 2].fill(0);
     worked.counts = Counts { vertices: p + 1, triangles: f as u32 + 2, ..worked.counts };
     worked.splits += 1;
-    slots.into_iter().for_each(&mut *touch);
-    settle(tables, worked, &slots, touch);
+    tell(Wrote::Split(slots));
+    settle(tables, worked, &slots, tell);
 }
 
 /// The rim split of t = (A,B,P) with its flips: A' is vertex v, B' is v + 1.
-fn rim_split(tables: &mut Tables, worked: &mut Worked, t: usize, touch: &mut impl FnMut(usize)) {
+fn rim_split(tables: &mut Tables, worked: &mut Worked, t: usize, tell: &mut impl FnMut(Wrote)) {
     let (v, f) = (worked.counts.vertices, worked.counts.triangles as usize);
     let e = f + 1;
     let ([a, b, p], [_, bp, pa]) = (triple(&tables.corners, t), triple(&tables.links, t));
@@ -143,8 +163,8 @@ fn rim_split(tables: &mut Tables, worked: &mut Worked, t: usize, touch: &mut imp
     relink(tables, bp, 3 * e);
     worked.counts = Counts { vertices: v + 2, triangles: f as u32 + 2, ..worked.counts };
     worked.splits += 1;
-    [t, f, e].into_iter().for_each(&mut *touch);
-    settle(tables, worked, &[t, e], touch);
+    tell(Wrote::Split([t, f, e]));
+    settle(tables, worked, &[t, e], tell);
 }
 
 /// Places a vertex at the nearest third of three points.
@@ -154,12 +174,11 @@ fn place(tables: &mut Tables, vertex: u32, [x, y, z]: [[i32; 3]; 3]) {
 }
 
 /// Flips each of these triangles whose base meets a base.
-fn settle(tables: &mut Tables, worked: &mut Worked, slots: &[usize], touch: &mut impl FnMut(usize)) {
+fn settle(tables: &mut Tables, worked: &mut Worked, slots: &[usize], tell: &mut impl FnMut(Wrote)) {
     for &s in slots {
-        let across = tables.links[3 * s] as usize;
-        if across.is_multiple_of(3) && tables.generations.get(across / 3).is_some_and(|g| g % 2 == 1) {
-            flip(tables, s, across / 3);
-            touch(across / 3);
+        if let Some(u) = with_base(tables, tables.links[3 * s]) {
+            flip(tables, s, u);
+            tell(Wrote::Flip([s, u]));
             worked.flips += 1;
         }
     }

@@ -1,7 +1,5 @@
 //! The harness against itself: what it makes is what it says, and what is broken is caught.
 
-use std::thread;
-
 use crate::bench::Bench;
 use crate::calls::{fitting_spares, some_numbers};
 use crate::case::Case;
@@ -78,6 +76,7 @@ fn cases_are_read_back_as_they_were_written() {
     store.room.table = vec![-1, -1, i32::MAX];
     store.room.view = vec![0, 1 << 31, 0x7FA0_0001, u32::MAX];
     store.room.note = vec![0, 4, 4, u32::MAX, 7, 7];
+    store.room.report = vec![3, 3, u32::MAX];
     store.room.spares = fitting_spares(&store, rng);
     let calls = [
         Call::Load { rule: 1, cage: vec![1, 1, 1, 255, 0] },
@@ -99,6 +98,11 @@ fn cases_are_read_back_as_they_were_written() {
         Call::Preview { list: vec![1, 0] },
         Call::RefineBox { bounds: Bounds::EVERYWHERE, below: 20 },
         Call::RefineBox { bounds: Bounds { low: [1, -2, 3], high: [3, 0, i32::MIN] }, below: u32::MAX },
+        Call::Refine { triangle: 7 }.reported(),
+        Call::RefineNoted { triangle: u32::MAX }.reported(),
+        Call::RefineList { list: vec![3, 3, 3, u32::MAX] }.reported(),
+        Call::Preview { list: vec![] }.reported(),
+        Call::RefineBox { bounds: Bounds::EVERYWHERE, below: 20 }.reported(),
     ];
     for call in calls {
         let case = Case { store: store.clone(), call };
@@ -140,26 +144,12 @@ fn mirror_images_tell_what_spoils_them() {
     let boxed = |low, high| Call::RefineBox { bounds: Bounds { low, high }, below: 3 };
     assert_eq!(mirror::of_call(&boxed([1, 2, 3], [3, 5, 9]), 1), Some(boxed([1, -5, 3], [3, -2, 9])));
     assert_eq!(mirror::of_call(&boxed([1, 2, i32::MIN], [3, 5, 9]), 2), None);
+    let image = mirror::of_call(&boxed([1, 2, 3], [3, 5, 9]).reported(), 1);
+    assert_eq!(image, Some(boxed([1, -5, 3], [3, -2, 9]).reported()));
     // A twin beside itself: what both do wrong shows in the mirror alone.
     for fault in [Fault::HalfUpByRuleTwo, Fault::StepByRuleOne, Fault::LimitByRuleOne, Fault::HalvesDown] {
         let twin = Twin { fault: Seeded(Some(fault)) };
         let found = parts::run_all(&mut Bench::new(&twin, &twin), 1, false).expect_err("a fault is found");
         assert!(found.what.starts_with("coordinate"), "{fault:?}: {}", found.what);
     }
-}
-
-#[test]
-fn every_seeded_fault_is_caught() {
-    let catch = |faults: &[(Fault, &str)]| {
-        for &(fault, meaning) in faults {
-            let twin = Twin { fault: Seeded(Some(fault)) };
-            let outcome = parts::run_all(&mut Bench::new(&twin, &Twin::UNBROKEN), 1, false);
-            assert!(outcome.is_err(), "{meaning}");
-        }
-    };
-    let (first, second) = Fault::ALL.split_at(Fault::ALL.len() / 2);
-    thread::scope(|scope| {
-        scope.spawn(|| catch(first));
-        catch(second);
-    });
 }

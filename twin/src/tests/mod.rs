@@ -7,6 +7,7 @@ mod locks;
 mod modules;
 mod notes;
 mod plain_sound;
+mod reports;
 mod rules;
 mod runs;
 mod version;

@@ -2,6 +2,14 @@
 
 use crate::rawplinth::RAWPLINTH_VERSION;
 
+/// The version that has the calls of the twin.
+const VERSION_OF_TWIN: u32 = 12;
+
+#[test]
+fn the_declarations_have_the_version_of_the_twin() {
+    assert_eq!(RAWPLINTH_VERSION, VERSION_OF_TWIN);
+}
+
 #[test]
 fn header_and_changes_have_the_version_of_the_declarations() {
     let header = include_str!("../../../include/rawplinth.h");
