@@ -1,5 +1,5 @@
 -- Laws that the proofs of a refine with a note use.
-pub mod Rising
+pub mod Inserting
 pub mod Passing
 pub mod Listing
 pub mod Writing

@@ -158,29 +158,29 @@ module _ (t : ℕ) (note : List ℕ) (m : Mesh) (buffer : List ℕ) where
         ap (λ (n : ℕ). withReport buffer 0 (refusedWith n m (bufferRoom note))) e
         ∙ as-short told buffer (notedCall t note m) short (none q) i
 
-    module _ (r : ℕ) {n : ℕ} {left : List ℕ} (N : Notes t m note (leb n (length buffer)) r left) (e : n ≡ length told)
-      where
-        abbrev test : Bool
-        test = ltb (length note) (length (noteOf t m (refined t m)))
+    module _ (r : ℕ) {fits : Bool} {left : List ℕ} (N : Notes t m note fits r left)
+        (f : fits ≡ leb (length told) (length buffer)) where
+      abbrev test : Bool
+      test = ltb (length note) (length (noteOf t m (refined t m)))
 
-        pub reported-short : r ≢ 0
-            → withReport buffer 0 (refusedWith r m (bufferRoom left)) ≡ reportedCall (withNote t note) buffer m
-        reported-short x =
-            ap (λ (l : List ℕ). withReport buffer 0 (refusedWith r m (bufferRoom l))) (N .short x)
-            ∙ go (which-refused test (leb n (length buffer)) (N .refusal) x)
-          where
-            go : (r ≡ noteRefusal t note m) ⊎ ((r ≡ 23) × (0 ≡ noteRefusal t note m) × (leb n (length buffer) ≡ false))
-                → withReport buffer 0 (refusedWith r m (bufferRoom note)) ≡ reportedCall (withNote t note) buffer m
-            go (inl q) = as-plain x (noted-short t note m r z q x refl)
-            go (inr (p, q, f)) = as-unfit p q (omega (arith, leb-false n (length buffer) f))
+      pub reported-short : r ≢ 0
+          → withReport buffer 0 (refusedWith r m (bufferRoom left)) ≡ reportedCall (withNote t note) buffer m
+      reported-short x =
+          ap (λ (l : List ℕ). withReport buffer 0 (refusedWith r m (bufferRoom l))) (N .short x)
+          ∙ go (which-refused test fits (N .refusal) x)
+        where
+          go : (r ≡ noteRefusal t note m) ⊎ ((r ≡ 23) × (0 ≡ noteRefusal t note m) × (fits ≡ false))
+              → withReport buffer 0 (refusedWith r m (bufferRoom note)) ≡ reportedCall (withNote t note) buffer m
+          go (inl q) = as-plain x (noted-short t note m r z q x refl)
+          go (inr (p, q, e)) = as-unfit p q (leb-false (length told) (length buffer) (sym f ∙ e))
 
-        pub reported-written : {after : List ℕ} (o : Outcome) → o ≡ worked (refine t (atFirst m)) → r ≡ 0
-            → Told told buffer after 0
-            → withReport after n (outcomeOf (o .answer) (o .mesh) (bufferRoom left))
-            ≡ reportedCall (withNote t note) buffer m
-        unfolding reportedCall
-        reported-written {after} o p x T =
-            let F = none-refused test (leb n (length buffer)) (N .refusal) x in
-            let j : length told ≤ length buffer = omega (arith, leb-true n (length buffer) (F .1)) in
-            ap (withReport after n) (noted-carried t note m r z (F .0) o p x (N .written x))
-            ∙ rw (e, told-all T j) (as-written told buffer (notedCall t note m) short (none (sym x ∙ F .0)) j)
+      pub reported-written : {n : ℕ} {after : List ℕ} (o : Outcome) → o ≡ worked (refine t (atFirst m)) → r ≡ 0
+          → n ≡ length told → Told told buffer after 0
+          → withReport after n (outcomeOf (o .answer) (o .mesh) (bufferRoom left))
+          ≡ reportedCall (withNote t note) buffer m
+      unfolding reportedCall
+      reported-written {n} {after} o p x e T =
+          let F = none-refused test fits (N .refusal) x in
+          let j = leb-true (length told) (length buffer) (sym f ∙ F .1) in
+          ap (withReport after n) (noted-carried t note m r z (F .0) o p x (N .written x))
+          ∙ rw (e, told-all T j) (as-written told buffer (notedCall t note m) short (none (sym x ∙ F .0)) j)

@@ -9,7 +9,15 @@ use lib.Dec.{T}
 use lib.ListN.{length, getD, length-append, List·getD-append}
 use lib.Seq.{getD-append-seam}
 use Rattle.rules.specs.Below.{those}
-use Rattle.noting.specs.Changed.{Rising, Among, FrontIs}
+use Rattle.noting.specs.Changed.{FrontIs}
+
+-- The first n entries rise.
+abbrev Rising : List ℕ → ℕ → Type 0
+Rising l n = (i : ℕ) → suc i < n → getD l i 0 < getD l (suc i) 0
+
+-- y is one of the first n entries.
+abbrev Among : List ℕ → ℕ → ℕ → Type 0
+Among l n y = (i : ℕ) × (i < n) × (getD l i 0 ≡ y)
 
 -- Entries that rise differ by their place.
 rises-far : (l : List ℕ) (n : ℕ) → Rising l n → (i j : ℕ) → i < j → j < n → getD l i 0 < getD l j 0

@@ -36,31 +36,16 @@ write-fill (suc n) f l = let e : 0 + n ≡ n = omega arith in rw (e, write-fill 
 
 -- ---- what a slot holds
 
-pub three-written : (t : List ℕ) (s a : ℕ) (l : List ℕ)
-    → set (set (set l a (getD t (3 * s) 0)) (a + 1) (getD t (3 * s + 1) 0)) (a + 2) (getD t (3 * s + 2) 0)
-    ≡ writeFrom a 3 (λ j. getD t (3 * s + j) 0) l
-unfolding writeFrom
-three-written t s a l =
-    let e : a + 0 ≡ a = omega arith in
-    let d : 3 * s + 0 ≡ 3 * s = omega arith in
-    rw (e, d) refl
-
-pub nine-written : (m : Mesh) (s a : ℕ) (l : List ℕ) {k j : List ℕ}
-    → k ≡ writeFrom (a + 1) 3 (λ i. origin (m .topology) (3 * s + i)) (set l a s)
-    → j ≡ writeFrom (a + 4) 3 (λ i. link (m .topology) (3 * s + i)) k
-    → set (set j (a + 7) (generation (m .topology) s)) (a + 8) (lock m s)
+pub nine-written : (m : Mesh) (s a : ℕ) (l : List ℕ)
+    → let h = 3 * s in
+    let corners = set (set (set (set l a s) (a + 1) (origin (m .topology) h)) (a + 2) (origin (m .topology) (h + 1)))
+    (a + 3) (origin (m .topology) (h + 2)) in
+    let links = set (set (set corners (a + 4) (link (m .topology) h)) (a + 5) (link (m .topology) (h + 1))) (a + 6)
+    (link (m .topology) (h + 2)) in
+    set (set links (a + 7) (generation (m .topology) s)) (a + 8) (lock m s)
     ≡ writeFrom a 9 (λ i. getD (nineOf m s) i 0) l
 unfolding writeFrom
-nine-written m s a l p q =
-    let b₀ : a + 0 ≡ a = omega arith in
-    let c₀ : a + 1 + 0 ≡ a + 1 = omega arith in
-    let c₁ : a + 1 + 1 ≡ a + 2 = omega arith in
-    let c₂ : a + 1 + 2 ≡ a + 3 = omega arith in
-    let d₀ : a + 4 + 0 ≡ a + 4 = omega arith in
-    let d₁ : a + 4 + 1 ≡ a + 5 = omega arith in
-    let d₂ : a + 4 + 2 ≡ a + 6 = omega arith in
-    let e₀ : 3 * s + 0 ≡ 3 * s = omega arith in
-    rw (q, p, b₀, c₀, c₁, c₂, d₀, d₁, d₂, e₀) refl
+nine-written m s a l = let e : a + 0 ≡ a = omega arith in rw e refl
 
 -- ---- one slot after the other
 

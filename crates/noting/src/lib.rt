@@ -1,5 +1,6 @@
 // The refine with a note of the old slots that it changes, and of what they hold.
 mod changed;
+mod rising;
 
 use refining::Reported;
 use split::Chain;
@@ -21,18 +22,6 @@ ghost use Rattle.refining.specs.Standing.{standing};
 ghost use Rattle.noting.specs.Changed.{FrontIs};
 ghost use Rattle.noting.specs.Noting.{writeFrom, headOf, Notes, notedOutcome};
 
-// Writes the three entries that a table has for slot s.
-fn write_three(table: &[u32], s: u32, note: &mut [u32], at: usize)
-    requires { ⌜ (3 * s + 2 < length (now table)) × (at + 2 < length (now note)) ⌝ }
-    ensures { λ r. ⌜ now (note .exit)
-        ≡ writeFrom at 3 (λ j. getD (now (table .entry)) (3 * s + j) 0) (now (note .entry)) ⌝ }
-{
-    let first = 3 * (s as usize);
-    note[at] = table[first];
-    note[at + 1] = table[first + 1];
-    note[at + 2] = table[first + 2];
-}
-
 // Writes what slot s holds.
 fn write_nine(
     corners: &[u32],
@@ -52,11 +41,24 @@ fn write_nine(
         now (note .exit) ≡ writeFrom at 9 (λ j. getD (nineOf m s) j 0) (now (note .entry))) ⌝ }
 {
     let slot = s as usize;
+    let first = 3 * slot;
+    let corner_0 = corners[first];
+    let corner_1 = corners[first + 1];
+    let corner_2 = corners[first + 2];
+    let link_0 = links[first];
+    let link_1 = links[first + 1];
+    let link_2 = links[first + 2];
+    let generation = generations[slot] as u32;
+    let lock = locks[slot] as u32;
     note[at] = s;
-    write_three(corners, s, note, at + 1);
-    write_three(links, s, note, at + 4);
-    note[at + 7] = generations[slot] as u32;
-    note[at + 8] = locks[slot] as u32;
+    note[at + 1] = corner_0;
+    note[at + 2] = corner_1;
+    note[at + 3] = corner_2;
+    note[at + 4] = link_0;
+    note[at + 5] = link_1;
+    note[at + 6] = link_2;
+    note[at + 7] = generation;
+    note[at + 8] = lock;
 }
 
 // Writes what stands in a note before its k slots.
@@ -129,8 +131,9 @@ fn note_changes(
         (now (locks .entry)) in
         Goes t m chain → Notes t m (now (note .entry)) «report_fits» r (now (note .exit))) ⌝ }
 {
-    let mut slots: [u32; 32] = [0; 32];
-    let k = changed::list_changed(links, generations, chain, &mut slots);
+    let mut slots: [u32; 40] = [tables::BOUNDARY; 40];
+    let from = changed::list_changed(links, generations, chain, &mut slots);
+    let k = 32 - from;
     if note.len() < 4 + 9 * k {
         return 22;
     }
@@ -144,7 +147,7 @@ fn note_changes(
         locks,
         counts,
         t,
-        &slots,
+        &slots[from..],
         k,
         note,
     );
@@ -211,7 +214,7 @@ pub fn refine_noted(
         t,
         chain,
         &mut none,
-        0,
+        1,
     )
 }
 
@@ -242,7 +245,7 @@ pub fn refine_noted_reported(
         return Reported::refused(finding.refusal, counts);
     }
     let chain = finding.chain;
-    let length = reporting::report_length(links, generations, chain);
+    let report_fits = reporting::fits(links, generations, chain, report.len());
     let refusal = note_changes(
         corners,
         links,
@@ -252,12 +255,12 @@ pub fn refine_noted_reported(
         t,
         chain,
         note,
-        length <= report.len(),
+        report_fits,
     );
     if refusal != 0 {
         return Reported::refused(refusal, counts);
     }
-    let done = refining::carry_out(
+    Reported::carried(refining::carry_out(
         positions,
         corners,
         links,
@@ -268,9 +271,5 @@ pub fn refine_noted_reported(
         chain,
         report,
         0,
-    );
-    Reported {
-        worked: done,
-        reported: length as u32,
-    }
+    ))
 }

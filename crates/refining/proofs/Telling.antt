@@ -10,7 +10,7 @@ use lib.Dec.{ltb}
 use lib.ListN.{length}
 use Rattle.reporting.specs.Told.{Tells, Told, toldUnless}
 use Rattle.reporting.proofs.Telling.{tells-none}
-use Rattle.rules.proofs.Calls.ReportedCalls.{refine-report-bound}
+use Rattle.rules.proofs.Calls.ReportedCalls.{report-tells, refine-report-bound}
 use Rattle.rules.specs.Below.{fill}
 use Rattle.rules.specs.Calls.{Outcome, withReport, worked, noRoom, refusedWith, refineRefusal, refineCall}
 use Rattle.rules.specs.Reports.{one, reportIn, reportedAs, reportedCall}
@@ -85,8 +85,13 @@ module _ (t : ℕ) (m : Mesh) (buffer : List ℕ) (r : ℕ) (e : r ≡ refineRef
     none : refineCall t m .answer .refusal ≡ 0
     none = ap (λ (o : Outcome). o .answer .refusal) (sym carried)
 
-    pub few-reported : length (refine t (atFirst m) .report) ≤ 54
-    few-reported = refine-report-bound t m none
+    -- What is answered, too.
+    pub told-length : {o : Outcome} → o ≡ worked (refine t (atFirst m)) →
+        let n = 3 * o .answer .splits + 2 * o .answer .flips in
+        (n ≡ length (refine t (atFirst m) .report)) × (n ≤ 54)
+    told-length p =
+        let e = report-tells (one t) m none .0 in
+        rw p (sym e, omega (arith, e, refine-report-bound t m none))
 
     pub report-short : length buffer < length (refine t (atFirst m) .report)
         → withReport buffer 0 (refusedWith 23 m noRoom) ≡ reportedCall (one t) buffer m

@@ -9,7 +9,7 @@ use tables::Worked;
 ghost use mathlib.Core.Path.{_≡_};
 ghost use mathlib.Core.List.{List, [], _∷_};
 ghost use mathlib.Core.Bool.{not};
-ghost use Prim.Native.Nat.{ℕ, _+_, _-_, _*_, max};
+ghost use Prim.Native.Nat.{ℕ, _+_, _-_, _*_, _≤_, max};
 ghost use lib.Dec.{leb};
 ghost use lib.IntN.{ℤ};
 ghost use Rattle.rules.specs.Calls.{firstOf, _if_, roomFor, tooOld, altersLocked, worked, refineCall, withReport};
@@ -52,6 +52,20 @@ impl Reported {
                 counts,
             },
             reported: 0,
+        }
+    }
+
+    // The answer of one that is carried out: three slots for each split, and two for each flip.
+    pub fn carried(worked: Worked) -> Self
+        requires { ⌜ 3 * worked .splits + 2 * worked .flips ≤ 54 ⌝ }
+        ensures { λ r. ⌜ r ≡ record {
+          worked = worked;
+          reported = 3 * worked .splits + 2 * worked .flips;
+        } ⌝ }
+    {
+        Self {
+            worked,
+            reported: 3 * worked.splits + 2 * worked.flips,
         }
     }
 }
@@ -265,11 +279,10 @@ pub fn refine_reported(
         return Reported::refused(found.refusal, counts);
     }
     let chain = found.chain;
-    let length = reporting::report_length(links, generations, chain);
-    if report.len() < length {
+    if !reporting::fits(links, generations, chain, report.len()) {
         return Reported::refused(23, counts);
     }
-    let done = carry_out(
+    Reported::carried(carry_out(
         positions,
         corners,
         links,
@@ -280,9 +293,5 @@ pub fn refine_reported(
         chain,
         report,
         0,
-    );
-    Reported {
-        worked: done,
-        reported: length as u32,
-    }
+    ))
 }

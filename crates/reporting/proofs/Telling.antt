@@ -1,12 +1,17 @@
 -- Reports told entry by entry.
+use borrow.Author.Tests.{le-leb}
+use mathlib.Core.Bool.{true}
 use mathlib.Core.Path.{_≡_, refl, sym, ap, _∙_, subst}
 use mathlib.Core.List.{List, [], _∷_, _++_, append-nil, append-assoc}
 use mathlib.Core.Logic.{_≢_}
 use Prim.Native.Nat.{ℕ, suc, _+_, _-_, _*_, _%_, _≤_, _<_, max}
+use native.Mathlib.Nat.{le-trans}
 use native.Mathlib.Omega.{arith}
+use lib.Dec.{leb}
 use lib.ListN.{length, getD, set, length-append, length-set, List·getD-append}
-use Rattle.rules.proofs.Calls.Carried.{RefineFound}
-use Rattle.rules.proofs.Chains.Flipping.{refine-report-length}
+use Rattle.rules.proofs.Calls.Carried.{RefineFound, found-refined}
+use Rattle.rules.proofs.Chains.Flipping.{refine-report-length, refine-flips}
+use Rattle.rules.proofs.Chains.RefineLoop.{few-splits}
 use Rattle.rules.proofs.Chains.Runs.{splitTold}
 use Rattle.rules.proofs.Numbers.Decide.{odd-test, even-test}
 use Rattle.rules.proofs.Numbers.Fill.{fill-more, fill-same}
@@ -115,3 +120,12 @@ length-steps {t} {m} {chain} R C p q r s =
   where
     some-split : (m : Topology) (t : ℕ) → 1 ≤ splitsOf m t
     some-split m t = omega arith
+
+-- A refine splits at most ten times, and flips at most twice more than it splits.
+pub few-reported : {t : ℕ} {m : Mesh} → RefineFound t m → length (refine t (atFirst m) .report) ≤ 54
+few-reported R =
+    let G = found-refined R in
+    omega (arith, ap length (G .telling .report), G .telling .size, G .splits, refine-flips R, few-splits R)
+
+pub always-fits : {t n : ℕ} {m : Mesh} → RefineFound t m → 54 ≤ n → true ≡ leb (length (refine t (atFirst m) .report)) n
+always-fits R i = sym (le-leb _ _ (le-trans (few-reported R) i))

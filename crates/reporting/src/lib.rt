@@ -5,6 +5,7 @@ use tables::Counts;
 ghost use mathlib.Core.List.{List, [], _∷_};
 ghost use mathlib.Core.Path.{_≡_};
 ghost use Prim.Native.Nat.{ℕ, _+_, _-_, _*_, _/_, _≤_, _<_};
+ghost use lib.Dec.{leb};
 ghost use lib.IntN.{ℤ};
 ghost use lib.ListN.{length, getD};
 ghost use Rattle.rules.proofs.Calls.Carried.{RefineFound};
@@ -57,8 +58,33 @@ fn tell_flip(
     at + 2
 }
 
-// Tells the split of v that is to be made, and its flips, where the report has room.
+// Tells the split of v that is to be made, and its flips, where the report has room for them.
 fn tell_split(
+    links: &[u32],
+    generations: &[u8],
+    f: u32,
+    v: u32,
+    report: &mut [u32],
+    at: usize,
+) -> usize
+    requires { ⌜ (3 * v + 2 < length (now links)) × (f < 4294967295) × (at < length (now report)) ⌝ }
+    ensures { λ r. ⌜ ((n : Counts) (corners : List ℕ) → f ≡ n .triangles →
+        let m = topologyNow n corners (now (links .entry)) (now (generations .entry)) in
+        Tells (splitTold m v) (now (report .entry)) (now (report .exit)) at r) ⌝ }
+{
+    let first = 3 * (v as usize);
+    let slots = tell_slots(report, at, v, f);
+    if tables::generation_at(generations, v) % 2 == 0 {
+        let own = tell_flip(links, generations, v, first, report, slots);
+        let second = tell_flip(links, generations, f, first + 1, report, own);
+        return tell_flip(links, generations, f + 1, first + 2, report, second);
+    }
+    let own = tell_flip(links, generations, v, first + 2, report, slots);
+    tell_flip(links, generations, f + 1, first + 1, report, own)
+}
+
+// The same where the report may have no room at all, as for a call without one.
+fn tell_next(
     links: &[u32],
     generations: &[u8],
     f: u32,
@@ -74,15 +100,7 @@ fn tell_split(
     if report.len() <= at {
         return at;
     }
-    let first = 3 * (v as usize);
-    let slots = tell_slots(report, at, v, f);
-    if tables::generation_at(generations, v) % 2 == 0 {
-        let own = tell_flip(links, generations, v, first, report, slots);
-        let second = tell_flip(links, generations, f, first + 1, report, own);
-        return tell_flip(links, generations, f + 1, first + 2, report, second);
-    }
-    let own = tell_flip(links, generations, v, first + 2, report, slots);
-    tell_flip(links, generations, f + 1, first + 1, report, own)
+    tell_split(links, generations, f, v, report, at)
 }
 
 // How much of a report the flip at side h takes, if there is one.
@@ -99,7 +117,7 @@ fn flip_length(links: &[u32], generations: &[u8], h: usize) -> usize
 }
 
 // The length of the report of a refine along this chain: after the first split each flips once.
-pub fn report_length(links: &[u32], generations: &[u8], chain: Chain) -> usize
+fn report_length(links: &[u32], generations: &[u8], chain: Chain) -> usize
     requires { ⌜ (3 * chain .end + 2 < length (now links)) ⌝ }
     ensures { λ r. ⌜ ((t : ℕ) (n : Counts) (p : List ℤ) (c k : List ℕ) →
         let m = meshNow n p c (now (links .entry)) (now (generations .entry)) k in
@@ -110,6 +128,20 @@ pub fn report_length(links: &[u32], generations: &[u8], chain: Chain) -> usize
     let second = flip_length(links, generations, first + 1);
     let third = flip_length(links, generations, first + 2);
     5 * (chain.splits() as usize) - 2 + own + second + third
+}
+
+// Whether the report of a refine along this chain has at most so many entries. 54 do for every refine.
+pub fn fits(links: &[u32], generations: &[u8], chain: Chain, entries: usize) -> bool
+    requires { ⌜ 3 * chain .end + 2 < length (now links) ⌝ }
+    ensures { λ r. ⌜ ((t : ℕ) (n : Counts) (p : List ℤ) (c k : List ℕ) →
+        let m = meshNow n p c (now (links .entry)) (now (generations .entry)) k in
+        RefineFound t m → BaseChain (m .topology) t chain
+        → r ≡ leb (length (refine t (atFirst m) .report)) entries) ⌝ }
+{
+    if 54 <= entries {
+        return true;
+    }
+    report_length(links, generations, chain) <= entries
 }
 
 // The triangle across the base of the last of so many odd triangles of a chain.
@@ -157,7 +189,7 @@ pub fn refine(
     let mut end = chain.end;
     let mut told = at;
     while 0 < left {
-        told = tell_split(links, generations, work.triangles, end, report, told);
+        told = tell_next(links, generations, work.triangles, end, report, told);
         work = split::split_at(positions, corners, links, generations, locks, work, end);
         left -= 1;
         if 0 < left {

@@ -10,7 +10,7 @@ use Rattle.noting.specs.Noting.{Notes}
 use Rattle.noting.proofs.Noted.{reported-refused, reported-short, reported-written}
 use Rattle.refining.proofs.Locking.{follows}
 use Rattle.refining.proofs.Refusing.{finds-goes}
-use Rattle.refining.proofs.Telling.{few-reported}
+use Rattle.refining.proofs.Telling.{told-length}
 use Rattle.refining.specs.Finding.{Finds}
 use borrow.Author.Needs.{needs}
 use Rattle.noting.proofs.refine_noted_reported.Statement.{statement}
@@ -30,36 +30,36 @@ module _ (c : tie.After-find) where
   finds : Finds (start .args .t) (mesh-of start) (c .find .result)
   finds = c .find .ensures (start .args .corners .now) (start .pre)
 
--- And the length of the report, where nothing refuses.
-module _ (c : tie.After-report-length) where
+-- And whether the report fits, where nothing refuses.
+module _ (c : tie.After-fits2) where
   abbrev at-if1 : tie.Else1
   at-if1 = c .before .before .before .before
 
   abbrev at-find : tie.After-find
   at-find = at-if1 .before .before
 
-  length-is : c .report-length .result
-      ≡ length (refine (start at-find .args .t) (atFirst (mesh-of (start at-find))) .report)
-  length-is =
+  fits-is :
+      let args = start at-find .args in
+      c .fits2 .result
+      ≡ leb (length (refine (args .t) (atFirst (mesh-of (start at-find))) .report)) (length (args .report .now))
+  fits-is =
       let args = start at-find .args in
       let G = finds-goes (finds at-find) (at-if1 .if1 .left) in
-      c .report-length .ensures (args .t) (args .counts) (args .positions .now) (args .corners .now) (args .locks .now)
+      c .fits2 .ensures (args .t) (args .counts) (args .positions .now) (args .corners .now) (args .locks .now)
       (G .found) (G .chain)
 
 -- And what came of the note.
 module _ (c : tie.After-note-changes) where
-  abbrev at-length : tie.After-report-length
-  at-length = c .before .before .before .before .before .before
+  abbrev at-fits : tie.After-fits2
+  at-fits = c .before .before .before .before .before .before
 
   noted :
-      let start = start (at-find at-length) in
-      Notes (start .args .t) (mesh-of start) (start .args .note .now)
-      (leb (at-length .report-length .result) (length (start .args .report .now))) (c .note-changes .result)
-      (c .note-changes .last .1 .1 .1 .1 .1 .1 .1 .0)
+      let start = start (at-find at-fits) in
+      Notes (start .args .t) (mesh-of start) (start .args .note .now) (at-fits .fits2 .result)
+      (c .note-changes .result) (c .note-changes .last .1 .1 .1 .1 .1 .1 .1 .0)
   noted =
-      let at = at-find at-length in
-      c .note-changes .ensures (start at .args .positions .now)
-      (finds-goes (finds at) (at-if1 at-length .if1 .left))
+      let at = at-find at-fits in
+      c .note-changes .ensures (start at .args .positions .now) (finds-goes (finds at) (at-if1 at-fits .if1 .left))
 
 find-requires : tie.Need-find-requires
 find-requires c κs = search needs
@@ -87,17 +87,17 @@ returns c =
     (reported-refused (start at .args .t) (start at .args .note .now) (mesh-of (start at)) (start at .args .report .now)
     _ (finds at .refusal) (at-if1 .if1 .taken))
 
-report-length-requires : tie.Need-report-length-requires
-report-length-requires c κs =
+fits-requires : tie.Need-fits-requires
+fits-requires c κs =
     let at-if1 = c .before .before .before in
     let G = finds-goes (finds (at-if1 .before .before)) (at-if1 .if1 .left) in
     follows (G .found .sound) (G .found .inUse) (G .chain) .end
 
 note-changes-requires : tie.Need-note-changes-requires
 note-changes-requires c κs =
-    let at-length = c .before .before .before .before .before in
-    let at = at-find at-length in
-    (start at .args .positions .now, finds-goes (finds at) (at-if1 at-length .if1 .left))
+    let at-fits = c .before .before .before .before .before in
+    let at = at-find at-fits in
+    (start at .args .positions .now, finds-goes (finds at) (at-if1 at-fits .if1 .left))
 
 refused-requires-2 : tie.Need-refused-requires-2
 refused-requires-2 c κs = search needs
@@ -124,31 +124,27 @@ returns-2 : tie.Need-returns-2
 returns-2 c =
     let at-if2 = c .before in
     let at-noted = at-if2 .before .before .before in
-    let at-length = at-length at-noted in
-    let at = at-find at-length in
+    let at-fits = at-fits at-noted in
+    let at = at-find at-fits in
     rw (c .refused2 .ensures)
     (reported-short (start at .args .t) (start at .args .note .now) (mesh-of (start at)) (start at .args .report .now)
-    (sym (finds at .refusal) ∙ at-if1 at-length .if1 .left) _ (noted at-noted) (length-is at-length)
+    (sym (finds at .refusal) ∙ at-if1 at-fits .if1 .left) _ (noted at-noted) (fits-is at-fits)
     (at-if2 .if2 .taken))
 
 carry-out-requires : tie.Need-carry-out-requires
 carry-out-requires c κs =
     let at-noted = c .before .before .before .before .before .before .before .before .before in
-    let at-length = at-length at-noted in
-    finds-goes (finds (at-find at-length)) (at-if1 at-length .if1 .left)
+    let at-fits = at-fits at-noted in
+    finds-goes (finds (at-find at-fits)) (at-if1 at-fits .if1 .left)
 
-cast-t52 : tie.Need-cast-t52
-cast-t52 c =
+carried-requires : tie.Need-carried-requires
+carried-requires c κs =
     let at-carried = c .before .before .before .before .before .before .before .before .before .before .before in
     let at-noted = at-carried .before .before .before .before .before .before .before .before .before .before in
-    let at-length = at-length at-noted in
-    let at = at-find at-length in
-    omega (
-      arith,
-      length-is at-length,
-      few-reported (start at .args .t) (mesh-of (start at)) (start at .args .report .now) _ (finds at .refusal)
-          (at-if1 at-length .if1 .left),
-    )
+    let at-fits = at-fits at-noted in
+    let at = at-find at-fits in
+    told-length (start at .args .t) (mesh-of (start at)) (start at .args .report .now) _ (finds at .refusal)
+    (at-if1 at-fits .if1 .left) (at-carried .carry-out .ensures .0) .1
 
 same-length-11 : tie.Need-same-length-11
 same-length-11 c = search needs
@@ -173,14 +169,18 @@ same-length-17 c = search needs
 
 returns-3 : tie.Need-returns-3
 returns-3 c =
-    let at-carried = c .before .before .before .before .before .before .before .before .before .before .before in
+    let at-carried = c .before .before .before .before .before .before .before .before .before .before .before .before in
     let at-if2 = at-carried .before .before .before .before .before .before .before in
     let at-noted = at-if2 .before .before .before in
-    let at-length = at-length at-noted in
-    let at = at-find at-length in
-    reported-written (start at .args .t) (start at .args .note .now) (mesh-of (start at)) (start at .args .report .now)
-    (sym (finds at .refusal) ∙ at-if1 at-length .if1 .left) _ (noted at-noted) (length-is at-length) _
-    (at-carried .carry-out .ensures .0) (at-if2 .if2 .left) (at-carried .carry-out .ensures .1)
+    let at-fits = at-fits at-noted in
+    let at = at-find at-fits in
+    let args = start at .args in
+    let e = told-length (args .t) (mesh-of (start at)) (args .report .now) _ (finds at .refusal)
+    (at-if1 at-fits .if1 .left) (at-carried .carry-out .ensures .0) .0 in
+    rw (c .carried .ensures)
+    (reported-written (args .t) (args .note .now) (mesh-of (start at)) (args .report .now)
+    (sym (finds at .refusal) ∙ at-if1 at-fits .if1 .left) _ (noted at-noted) (fits-is at-fits) _
+    (at-carried .carry-out .ensures .0) (at-if2 .if2 .left) e (at-carried .carry-out .ensures .1))
 
 pub refine-noted-reported-spec : {M : Type 1} → statement M
 refine-noted-reported-spec =
@@ -193,7 +193,7 @@ refine-noted-reported-spec =
     same-length-3
     same-length-4
     returns
-    report-length-requires
+    fits-requires
     note-changes-requires
     refused-requires-2
     same-length-5
@@ -204,7 +204,7 @@ refine-noted-reported-spec =
     same-length-10
     returns-2
     carry-out-requires
-    cast-t52
+    carried-requires
     same-length-11
     same-length-12
     same-length-13

@@ -65,7 +65,7 @@ module _ (c : tie.In-loop Inv-loop μ-loop) where
 
 -- With the split told and made.
 module _ (c : tie.After-split-at Inv-loop μ-loop) where
-  abbrev at-tell : tie.After-tell-split Inv-loop μ-loop
+  abbrev at-tell : tie.After-tell-next Inv-loop μ-loop
   at-tell = c .before .before .before .before .before .before .before .before
 
   abbrev at : tie.In-loop Inv-loop μ-loop
@@ -85,14 +85,14 @@ module _ (c : tie.After-split-at Inv-loop μ-loop) where
       (args .locks .now) .mesh in
       RefineFound (args .t) m
       → (report : List ℕ) × Refining (args .t) m (args .chain .slots) (loop-head at .loop .left - 1) (next rule report)
-      × Tells report (args .report .now) (at-tell .tell-split .last .1 .1 .1 .1 .0) (args .at) (at-tell .tell-split .result)
+      × Tells report (args .report .now) (at-tell .tell-next .last .1 .1 .1 .1 .0) (args .at) (at-tell .tell-next .result)
   turned rule R =
       let (before, N, T) = loop-head at .loop .inv .0 rule R in
       let (report, e) = c .split-at .ensures rule before in (
         report,
         turn-on R N (more at) (at-end at) (next rule report) e,
         turn-told R N (more at) (at-end at) (next rule report) e T
-            (at-tell .tell-split .ensures (countsOf rule (loop-head at .loop .work)) (loop-head at .loop .corners) refl),
+            (at-tell .tell-next .ensures (countsOf rule (loop-head at .loop .work)) (loop-head at .loop .corners) refl),
       )
 
 splits-requires : tie.Need-splits-requires Inv-loop μ-loop
@@ -111,8 +111,8 @@ loop-holds c =
       λ _. chain .end,
     )
 
-tell-split-requires : tie.Need-tell-split-requires Inv-loop μ-loop
-tell-split-requires c κs =
+tell-next-requires : tie.Need-tell-next-requires Inv-loop μ-loop
+tell-next-requires c κs =
     let at = c .before .before .before in
     turn-may-tell (start at .pre .0) (so-far at .1) (more at) (at-end at)
 
@@ -223,7 +223,7 @@ refine-spec =
     μ-loop
     splits-requires
     loop-holds
-    tell-split-requires
+    tell-next-requires
     split-at-requires
     sub-left
     across-last-requires

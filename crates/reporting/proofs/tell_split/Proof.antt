@@ -1,15 +1,9 @@
 -- `reporting::tell_split` meets its contract.
-use native.Mathlib.Omega.{arith}
 use Rattle.tables.specs.Lent.{topologyNow}
-use Rattle.reporting.proofs.Telling.{tells-not, face-told, rim-told}
+use Rattle.reporting.proofs.Telling.{face-told, rim-told}
 use borrow.Author.Needs.{needs}
 use Rattle.reporting.proofs.tell_split.Statement.{statement}
 use Rattle.reporting.proofs.tell_split.Tie as tie
-
-returns : tie.Need-returns
-returns c n corners e =
-    let args = c .before .before .before .before .args in
-    tells-not _ (args .report .now) (args .at) _ (omega (arith, c .if1 .taken))
 
 mul-first : tie.Need-mul-first
 mul-first c = search needs
@@ -41,19 +35,18 @@ tell-flip-requires-3 c κs = search needs
 same-length : tie.Need-same-length
 same-length c = search needs
 
-returns-2 : tie.Need-returns-2
-returns-2 c n corners e =
+returns : tie.Need-returns
+returns c n corners e =
     let at-third = c .before .before in
     let at-second = at-third .before .before .before .before in
     let at-own = at-second .before .before .before .before in
-    let at-if2 = at-own .before .before in
-    let at-generation = at-if2 .before in
+    let at-if1 = at-own .before .before in
+    let at-generation = at-if1 .before in
     let at-slots = at-generation .before .before .before in
-    let even = rw (at-generation .generation-at .ensures) at (at-if2 .if2 .taken) in
-    let args = at-slots .before .before .before .before .before .before .args in
+    let even = rw (at-generation .generation-at .ensures) at (at-if1 .if1 .taken) in
+    let args = at-slots .before .before .before .before .before .args in
     let m = topologyNow n corners (args .links .now) (args .generations .now) in
-    face-told m (args .v) e even (at-slots .tell-slots .ensures .0)
-    (at-own .tell-flip .ensures .0 n corners)
+    face-told m (args .v) e even (at-slots .tell-slots .ensures .0) (at-own .tell-flip .ensures .0 n corners)
     (at-second .tell-flip2 .ensures .0 n corners) (at-third .tell-flip3 .ensures .0 n corners)
 
 add-tell-flip-4 : tie.Need-add-tell-flip-4
@@ -74,25 +67,23 @@ tell-flip-requires-5 c κs = search needs
 same-length-2 : tie.Need-same-length-2
 same-length-2 c = search needs
 
-returns-3 : tie.Need-returns-3
-returns-3 c n corners e =
+returns-2 : tie.Need-returns-2
+returns-2 c n corners e =
     let at-second = c .before .before in
     let at-own = at-second .before .before .before .before in
-    let at-if2 = at-own .before .before in
-    let at-generation = at-if2 .before in
+    let at-if1 = at-own .before .before in
+    let at-generation = at-if1 .before in
     let at-slots = at-generation .before .before .before in
-    let odd = rw (at-generation .generation-at .ensures) at (at-if2 .if2 .left) in
-    let args = at-slots .before .before .before .before .before .before .args in
+    let odd = rw (at-generation .generation-at .ensures) at (at-if1 .if1 .left) in
+    let args = at-slots .before .before .before .before .before .args in
     let m = topologyNow n corners (args .links .now) (args .generations .now) in
-    rim-told m (args .v) e odd (at-slots .tell-slots .ensures .0)
-    (at-own .tell-flip4 .ensures .0 n corners)
+    rim-told m (args .v) e odd (at-slots .tell-slots .ensures .0) (at-own .tell-flip4 .ensures .0 n corners)
     (at-second .tell-flip5 .ensures .0 n corners)
 
 pub tell-split-spec : {M : Type 1} → statement M
 tell-split-spec =
     tie.close
     (tie.spec
-    returns
     mul-first
     tell-slots-requires
     generation-at-requires
@@ -103,11 +94,11 @@ tell-split-spec =
     add-tell-flip-3
     tell-flip-requires-3
     same-length
-    returns-2
+    returns
     add-tell-flip-4
     tell-flip-requires-4
     add-tell-flip-5
     add-tell-flip-6
     tell-flip-requires-5
     same-length-2
-    returns-3)
+    returns-2)
