@@ -14,7 +14,7 @@ extern "C" {
 
 /* Raised by every new call and every change of a signature, a struct or an answer; docs/changes/README.md has a line
    for each. */
-#define RAWPLINTH_VERSION 12
+#define RAWPLINTH_VERSION 13
 
 /* What a side without a partner links to. */
 #define RAWPLINTH_BOUNDARY UINT32_C(4294967295)
@@ -83,7 +83,9 @@ enum {
     RAWPLINTH_VIEW_SHORT = 20,     /* a table for all triangles with fewer than nine entries for each in use */
     RAWPLINTH_NOTE = 21,           /* a note that take_back does not accept */
     RAWPLINTH_NOTE_SHORT = 22,     /* a note with fewer entries than the refine has to write */
-    RAWPLINTH_REPORT_SHORT = 23    /* a buffer with fewer entries than the report */
+    RAWPLINTH_REPORT_SHORT = 23,   /* a buffer with fewer entries than the report */
+    RAWPLINTH_NOT_ON_RIM = 24,     /* a vertex in use that is not on the boundary */
+    RAWPLINTH_CURVE_SHORT = 25     /* a table for a curve with fewer than nine entries for each vertex of the rim */
 };
 
 /* The answer of load, refine, refine_noted, take_back, whole step, lock and unlock. Splits and flips are 0 but for a
@@ -158,6 +160,13 @@ typedef struct {
     rawplinth_counts counts;
 } rawplinth_limit_read;
 
+/* The answer of rim_curve. */
+typedef struct {
+    uint32_t refusal;
+    uint32_t length; /* vertices of the rim, each with three points in the table; 0 on a refusal */
+    rawplinth_counts counts;
+} rawplinth_rim_read;
+
 /* The answer of view_point, in millimetres. It has no counts of the mesh: those stand and go on to the next call. */
 typedef struct {
     uint32_t refusal;
@@ -215,8 +224,8 @@ rawplinth_worked rawplinth_load(
    ones whose base meets that: if one of these is locked, the call is refused with 19. Of other triangles at most links
    follow, be they locked or not.
    Refuses with 1, 7, 8, 9, 19, 11, in this order. Writes slots in use and those that it takes. Needs 0.14 MB of
-   stack, as do refine_noted, refine_reported, refine_noted_reported, lock, unlock, ring, position, view_point and
-   view_triangles. */
+   stack, as do refine_noted, refine_reported, refine_noted_reported, lock, unlock, ring, position, rim_curve,
+   view_point and view_triangles. */
 rawplinth_worked rawplinth_refine(
     int32_t *positions, size_t positions_length,
     uint32_t *corners, size_t corners_length,
@@ -516,6 +525,27 @@ rawplinth_limit_read rawplinth_limit(
     const uint8_t *generations, size_t generations_length,
     const uint8_t *locks, size_t locks_length,
     rawplinth_counts counts,
+    int32_t *table, size_t table_length);
+
+/* Reads the rim of a vertex as a smooth curve, which a saw can follow. The rim is the closed way along the boundary on
+   which the vertex lies: from each vertex it goes on along the side out of it that is on the boundary, which runs as
+   its triangle has it, until it is back at the first. It has n vertices, two at least, and each of them once.
+   Three points are written for each vertex, in this order, so that the first three belong to the given one. They are
+   those of Kobbelt's formula (9): of 27 parts the vertex before has 10, 4 and 1, the vertex itself 16, 19 and 16, and
+   the vertex after 1, 4 and 10, going round. A point is three coordinates, each to the nearest, which is never
+   half-way, so that the mesh's rule does not matter; and each lies within the least and the greatest of its three
+   sources. Two meshes whose rims have equal points in this order have equal curves, whatever else they have.
+   The curve takes 9n entries. 9 for each vertex in use always do. Later entries keep their content. The table is none
+   of the mesh's own.
+   Refuses with 1, 7, 8, 24, 25, in this order. Writes the front of the table, and nothing else. */
+rawplinth_rim_read rawplinth_rim_curve(
+    const int32_t *positions, size_t positions_length,
+    const uint32_t *corners, size_t corners_length,
+    const uint32_t *links, size_t links_length,
+    const uint8_t *generations, size_t generations_length,
+    const uint8_t *locks, size_t locks_length,
+    rawplinth_counts counts,
+    uint32_t vertex,
     int32_t *table, size_t table_length);
 
 /* Reads where a vertex is in millimetres: its coordinates divided by 1024. That is exact for every coordinate, and each

@@ -3,7 +3,7 @@
 
 /// Raised with that of the header. A program may go without it.
 #[allow(dead_code)]
-pub const RAWPLINTH_VERSION: u32 = 12;
+pub const RAWPLINTH_VERSION: u32 = 13;
 
 /// The rules by which a mesh rounds halves: up, or away from zero.
 pub const RAWPLINTH_HALF_UP: u32 = 1;
@@ -70,6 +70,16 @@ pub struct PositionRead {
 #[derive(Clone, Copy, Debug, Default, PartialEq, Eq)]
 pub struct LimitRead {
     pub refusal: u32,
+    pub counts: Counts,
+}
+
+/// The answer of a rim read as a curve, without the table: how many vertices the rim has, each with three points in the
+/// table, so 9 entries for each of them; 0 on a refusal. 9V entries do for every rim.
+#[repr(C)]
+#[derive(Clone, Copy, Debug, Default, PartialEq, Eq)]
+pub struct RimRead {
+    pub refusal: u32,
+    pub length: u32,
     pub counts: Counts,
 }
 
@@ -302,6 +312,23 @@ unsafe extern "C" {
         table: *mut i32,
         table_length: usize,
     ) -> LimitRead;
+
+    pub fn rawplinth_rim_curve(
+        positions: *const i32,
+        positions_length: usize,
+        corners: *const u32,
+        corners_length: usize,
+        links: *const u32,
+        links_length: usize,
+        generations: *const u8,
+        generations_length: usize,
+        locks: *const u8,
+        locks_length: usize,
+        counts: Counts,
+        vertex: u32,
+        table: *mut i32,
+        table_length: usize,
+    ) -> RimRead;
 
     pub fn rawplinth_view_point(
         positions: *const i32,

@@ -1,7 +1,7 @@
 -- The ring of a vertex is found: what each test tells.
-use Prim.Native.Nat.{ℕ, suc, _-_, _≤_, _<_}
+use Prim.Native.Nat.{ℕ, _-_, _≤_, _<_}
 use native.Mathlib.Omega.{arith}
-use mathlib.Core.Bool.{Bool, true, false}
+use mathlib.Core.Bool.{true, false}
 use mathlib.Core.List.{List}
 use mathlib.Core.Logic.{_≢_}
 use mathlib.Core.Path.{_≡_, refl, sym, ap, _∙_}
@@ -16,6 +16,7 @@ use Rattle.rules.specs.Sound.{OneFan, Sound, isSound}
 use Rattle.rules.specs.Tables.{Topology, Mesh, tablesAgree, sides}
 use Rattle.rings.proofs.Walk.{ring-from}
 use Rattle.rings.specs.Rings.{ringFrom, Walkable}
+use Rattle.soundness.proofs.Answers.{start-none, start-some}
 use Rattle.soundness.specs.Walks.{startIf}
 use Rattle.mesh.specs.Answers.{noRing, Found, FoundFor}
 use Rattle.mesh.specs.declared.FoundRing.{FoundRing}
@@ -33,23 +34,15 @@ module _ (v room : ℕ) (m : Mesh) where
   finds-one a = refuses 1 (λ z. omega arith) (λ b _. ring-one v b m a)
 
   module _ (a : tablesAgree m ≡ true) (start : ℕ) (s : start ≡ startIf (isSound m) t v) where
-    untold : (b : Bool) → start ≡ startIf b t v → start ≡ 0 → b ≡ false
-    untold true e z = absurd (omega arith)
-    untold false e z = refl
-
     pub finds-seven : start ≡ 0 → FoundFor v room m (noRing 7)
-    finds-seven z = refuses 7 (λ z. omega arith) (λ b _. ring-seven v b m a (untold (isSound m) s z))
+    finds-seven z = refuses 7 (λ z. omega arith) (λ b _. ring-seven v b m a (start-none (isSound m) t v s z))
 
     module _ (some : start ≢ 0) where
-      told : (b : Bool) → start ≡ startIf b t v → (b ≡ true) × (start ≡ suc (firstSide t v))
-      told true e = (refl, e)
-      told false e = absurd (some e)
-
       sound : isSound m ≡ true
-      sound = told (isSound m) s .0
+      sound = start-some (isSound m) t v s some .0
 
       first : start - 1 ≡ firstSide t v
-      first = let e = told (isSound m) s .1 in omega arith
+      first = let e = start-some (isSound m) t v s some .1 in omega arith
 
       pub finds-eight : t .vertices ≤ v → FoundFor v room m (noRing 8)
       finds-eight l = refuses 8 (λ z. omega arith) (λ b _. ring-eight v b m a sound l)

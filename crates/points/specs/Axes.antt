@@ -1,11 +1,11 @@
 -- Points, axis by axis: a rule on coordinates is said once, for axis k.
 use Prim.Native.Nat.{ℕ, zero, suc, _*_, _≤_}
 use mathlib.Core.Bool.{Bool, _&&_}
-use lib.IntN.{ℤ, pos, negℤ, _+ℤ_}
+use lib.IntN.{ℤ, pos, negℤ, _+ℤ_, _*ℤ_}
 use lib.Signed.{_≤ℤ_}
 use Rattle.rules.proofs.Numbers.Rounding.{mean}
 use Rattle.rules.specs.Boxes.{Box, between}
-use Rattle.rules.specs.Numbers.{nearestThird, moved, limit}
+use Rattle.rules.specs.Numbers.{nearestThird, halfUp, moved, limit}
 use Rattle.points.specs.declared.Point.{Point}
 
 -- Which of three numbers stands on axis k: axes 0, 1 and 2 are x, y and z.
@@ -27,6 +27,11 @@ eachAxis f = at (f 0) (f 1) (f 2)
 -- The nearest third of the sum of three points.
 abbrev pub thirds : Point → Point → Point → Point
 thirds a b c = eachAxis (λ k. nearestThird (coordinate a k +ℤ coordinate b k +ℤ coordinate c k))
+
+-- The mean of x parts at a, y at b and z at c, 27 in all, to the nearest.
+abbrev pub smoothedPoint : ℕ → ℕ → ℕ → Point → Point → Point → Point
+smoothedPoint x y z a b c =
+    eachAxis (λ k. halfUp (pos x *ℤ coordinate a k +ℤ pos y *ℤ coordinate b k +ℤ pos z *ℤ coordinate c k) 27)
 
 -- A point lies in the box between two points, the faces included.
 abbrev pub inBox : Point → Point → Point → Bool

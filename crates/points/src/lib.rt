@@ -3,13 +3,13 @@ ghost use mathlib.Core.Path.{_≡_};
 ghost use Prim.Native.Nat.{_+_, _*_, _≤_, _<_};
 ghost use mathlib.Core.Bool.{_&&_, _||_};
 ghost use lib.Dec.{eqb, ltb};
-ghost use lib.IntN.{pos, _+ℤ_, _-ℤ_};
+ghost use lib.IntN.{pos, _+ℤ_, _-ℤ_, _*ℤ_};
 ghost use lib.ListN.{length};
 ghost use Rattle.rules.proofs.Numbers.Rounding.{mean};
 ghost use Rattle.rules.specs.Boxes.{between, boxFits};
-ghost use Rattle.rules.specs.Numbers.{inRange, nearestThird, knownRule, rounded, weight, numberAt, signed};
+ghost use Rattle.rules.specs.Numbers.{inRange, nearestThird, halfUp, knownRule, rounded, weight, numberAt, signed};
 ghost use Rattle.points.specs.Axes.{at, inBox, boxOf, thirds, Parts, meanPoint, movedPoint, limitPoint, plus};
-ghost use Rattle.points.specs.Axes.{SumOf, Fits};
+ghost use Rattle.points.specs.Axes.{SumOf, Fits, smoothedPoint};
 
 // A point, in units of 1/1024 mm.
 #[repr(C)]
@@ -39,6 +39,18 @@ impl Point {
             x: third(a.x, b.x, c.x),
             y: third(a.y, b.y, c.y),
             z: third(a.z, b.z, c.z),
+        }
+    }
+
+    // The mean of x parts at a, y at b and z at c, 27 in all, to the nearest: a point of a smoothed rim.
+    pub fn smoothed(x: u64, y: u64, z: u64, a: Point, b: Point, c: Point) -> Self
+        requires { ⌜ x + y + z ≡ 27 ⌝ }
+        ensures { λ r. ⌜ r ≡ smoothedPoint x y z a b c ⌝ }
+    {
+        Self {
+            x: twenty_seventh(x, y, z, a.x, b.x, c.x),
+            y: twenty_seventh(x, y, z, a.y, b.y, c.y),
+            z: twenty_seventh(x, y, z, a.z, b.z, c.z),
         }
     }
 
@@ -159,6 +171,15 @@ fn third(a: i32, b: i32, c: i32) -> i32
 {
     let sum = raised(a) + raised(b) + raised(c);
     lowered((sum + 1) / 3)
+}
+
+// The mean of x parts at a, y at b and z at c, 27 in all, to the nearest.
+fn twenty_seventh(x: u64, y: u64, z: u64, a: i32, b: i32, c: i32) -> i32
+    requires { ⌜ x + y + z ≡ 27 ⌝ }
+    ensures { λ r. ⌜ r ≡ halfUp (pos x *ℤ a +ℤ pos y *ℤ b +ℤ pos z *ℤ c) 27 ⌝ }
+{
+    let sum = x * raised(a) + y * raised(b) + z * raised(c);
+    lowered((sum + 13) / 27)
 }
 
 // Whether there is such a rule of rounding.

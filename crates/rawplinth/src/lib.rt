@@ -8,6 +8,7 @@ use refining::lists::BatchForeseen;
 use refining::lists::ForeseenReported;
 use refining::spares::BatchReported;
 use refining::spares::BatchWorked;
+use rim::RimRead;
 use tables::Counts;
 use tables::Worked;
 use viewer::Seen;
@@ -23,11 +24,13 @@ ghost use Rattle.rules.specs.Calls.{viewCall, withReport};
 ghost use Rattle.rules.specs.Lists.{listCall, previewCall};
 ghost use Rattle.rules.specs.Notes.{notedCall, takeBackCall};
 ghost use Rattle.rules.specs.Reports.{one, withNote, each, inBox, reportedCall, reportForeseen};
+ghost use Rattle.rules.specs.Rim.{curveCall};
 ghost use Rattle.tables.specs.Answers.{workedOutcome};
 ghost use Rattle.tables.specs.Lent.{meshNow, sparesNow};
 ghost use Rattle.refining.specs.Batches.{batchOutcome, foreseenOutcome};
 ghost use Rattle.noting.specs.Noting.{notedOutcome};
 ghost use Rattle.mesh.specs.Answers.{limitOutcome, ringOutcome, positionOutcome};
+ghost use Rattle.rim.specs.Traced.{curveOutcome};
 ghost use Rattle.viewer.specs.View.{tableAfter, shownOutcome};
 ghost use Rattle.rawplinth.specs.Seeing.{pointTold};
 
@@ -609,6 +612,35 @@ pub extern "C" fn rawplinth_position(
         locks,
         counts,
         vertex,
+    )
+}
+
+// Writes the curve of a vertex's rim.
+#[no_mangle]
+pub extern "C" fn rawplinth_rim_curve(
+    positions: &[i32],
+    corners: &[u32],
+    links: &[u32],
+    generations: &[u8],
+    locks: &[u8],
+    counts: Counts,
+    vertex: u32,
+    table: &mut [i32],
+) -> RimRead
+    ensures { λ r. ⌜ curveOutcome r (now (positions .entry)) (now (corners .entry)) (now (links .entry))
+        (now (generations .entry)) (now (locks .entry)) (now (table .exit))
+        ≡ curveCall vertex (now (table .entry)) (meshNow counts (now (positions .entry)) (now (corners .entry))
+        (now (links .entry)) (now (generations .entry)) (now (locks .entry))) ⌝ }
+{
+    rim::curve(
+        positions,
+        corners,
+        links,
+        generations,
+        locks,
+        counts,
+        vertex,
+        table,
     )
 }
 

@@ -18,6 +18,7 @@ use Rattle.rules.specs.Notes.{differs, ninesOf, notedRefusal, notedCall,
 use Rattle.rules.specs.Notes.{accepted, takeBackRefusal, takeBackCall}
 use Rattle.rules.specs.Numbers.{numberAt, signed, floorDiv, nearestThird, halfUp, rounded, weights, weight, moved}
 use Rattle.rules.specs.Numbers.{limit}
+use Rattle.rules.specs.Rim.{onRim, rimFrom, rim, smoothed, curveAt, curveRefusal, curveCall}
 use Rattle.rules.specs.Ring.{firstSide, fanFrom, fan, neighbours, ring}
 use Rattle.rules.specs.Sound.{isLinked, soundSide, hasOneFan, isSound}
 use Rattle.rules.specs.Spares.{Spares, copied, sameSizes}
@@ -40,7 +41,7 @@ unfolding all any lowest total fill cageOf partner loaded sizesFit cornersFit co
     sparesRefusal listCall previewCall wanted refineWanted boxRefusal boxCall chainAt
     altersLocked someLocked lockRefusal lockCall viewRefusal viewCall
     those differs ninesOf notedRefusal notedCall putBackAll restored sameInUse accepted takeBackRefusal takeBackCall
-    reportedCall reportForeseen
+    reportedCall reportForeseen onRim rimFrom rim smoothed curveAt curveRefusal curveCall
 computing = tt
 
 -- The mesh after these changes, and the outcome of each.

@@ -4,6 +4,7 @@ pub mod Links
 pub mod Splits
 pub mod Chains
 pub mod Rings
+pub mod Rims
 pub mod Soundness
 pub mod Loads
 pub mod Steps

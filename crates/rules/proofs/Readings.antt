@@ -4,22 +4,24 @@ use mathlib.Core.Bool.{true, false}
 use mathlib.Core.List.{List, [], _∷_, _++_, map}
 use mathlib.Core.Path.{_≡_, refl}
 use lib.IntN.{ℤ, pos, negsuc}
-use lib.ListN.{replicate, drop, getD, set}
+use lib.ListN.{replicate, take, drop, getD, set}
 use Rattle.rules.proofs.Computing.{computing, made, madeEach, fresh, sevens, boxOf, bytes, tetrahedron}
 use Rattle.rules.proofs.Examples.{lineOf, triangleOf, pointOf, oneTriangle}
-use Rattle.rules.proofs.Refusals.{refusalAfter, cageAtOrigin, triangle, hinge, firstNote}
+use Rattle.rules.proofs.Refusals.{refusalAfter, cageAtOrigin, triangle, hinge, cutAtBoundary, firstNote}
 use Rattle.rules.specs.Below.{those}
 use Rattle.rules.specs.Boxes.{Box}
 use Rattle.rules.specs.Calls.{Outcome}
 use Rattle.rules.specs.History.{Change, loads, refines, steps, refinesEach, refinesInBox, setsLock, ringOf}
 use Rattle.rules.specs.History.{positionOf, limitsOf, asked, changes, asks, previewOf, outcome, outcomes}
-use Rattle.rules.specs.History.{refinesNoted, takesBack, reports, previewReported, nothing, cage, lastLoad, edges}
+use Rattle.rules.specs.History.{refinesNoted, takesBack, reports, previewReported, curveOf, nothing, cage}
+use Rattle.rules.specs.History.{lastLoad, edges}
 use Rattle.rules.specs.Mirror.{mirror, mirrorTable}
 use Rattle.rules.specs.Numbers.{nearestThird, rounded}
 use Rattle.rules.specs.Reports.{one, each, inBox}
+use Rattle.rules.specs.Rim.{rim}
 use Rattle.rules.specs.Sound.{isSound}
 use Rattle.rules.specs.Tables.{Mesh, topologyOf, meshOf, withLocks, sides, origin, link, generation, coordinate}
-use Rattle.rules.specs.Tables.{triangleSlots}
+use Rattle.rules.specs.Tables.{triangleSlots, boundary}
 
 unfoldable pub store : Mesh
 unfolding fresh
@@ -224,6 +226,31 @@ twelve =
 unfoldable pub notedBy : List Change → ℕ → ℕ → List ℕ
 unfolding store
 notedBy cs t n = outcome (changes (refinesNoted t (replicate n 7))) (made cs store) .room .buffer
+
+-- Stored tables of one triangle alone, with its vertices at (0,0,1), (27,0,-5) and (0,27,3), and its curve from vertex
+-- 0 on. (Request n)
+unfoldable pub pane : Mesh
+pane =
+    meshOf (topologyOf 3 1 (0 ∷ 1 ∷ 2 ∷ []) (replicate 3 boundary) (0 ∷ []))
+    (pos 0 ∷ pos 0 ∷ pos 1 ∷ pos 27 ∷ pos 0 ∷ negsuc 4 ∷ pos 0 ∷ pos 27 ∷ pos 3 ∷ []) (0 ∷ []) 1
+
+unfoldable pub paneCurve : List ℤ
+paneCurve =
+    pos 1 ∷ pos 10 ∷ pos 2 ∷ pos 4 ∷ pos 4 ∷ pos 0 ∷ pos 10 ∷ pos 1 ∷ negsuc 0
+    ∷ pos 16 ∷ pos 1 ∷ negsuc 1 ∷ pos 19 ∷ pos 4 ∷ negsuc 2 ∷ pos 16 ∷ pos 10 ∷ negsuc 1
+    ∷ pos 10 ∷ pos 16 ∷ pos 0 ∷ pos 4 ∷ pos 19 ∷ pos 2 ∷ pos 1 ∷ pos 16 ∷ pos 2
+    ∷ []
+
+-- Stored tables of two triangles that share two of their three sides: the rim is vertex 0 at (0,54,-2) and vertex 1 at
+-- (27,0,3). (Request n)
+unfoldable pub pocket : Mesh
+pocket =
+    meshOf (topologyOf 3 2 (0 ∷ 1 ∷ 2 ∷ 1 ∷ 0 ∷ 2 ∷ []) (boundary ∷ 5 ∷ 4 ∷ boundary ∷ 2 ∷ 1 ∷ []) (0 ∷ 0 ∷ []))
+    (pos 0 ∷ pos 54 ∷ negsuc 1 ∷ pos 27 ∷ pos 0 ∷ pos 3 ∷ replicate 3 (pos 9)) (0 ∷ 0 ∷ []) 1
+
+-- The table of n entries, 77 in each, after the curve of the rim of v.
+unfoldable pub curveIn : ℕ → ℕ → Mesh → List ℤ
+curveIn n v m = asked (curveOf v (replicate n (pos 77))) m .room .table
 
 -- The corners of all sides, and their links.
 unfoldable pub sidesOf : Mesh → List ℕ
@@ -446,12 +473,33 @@ pub record Table : Type 0 where
   pub boxReported :
       outcome (changes (reports (inBox (everywhere 1) (sevens 12 20)) (replicate 24 77))) solid .room .report ≡
       0 ∷ 4 ∷ 5 ∷ 1 ∷ 6 ∷ 7 ∷ 7 ∷ 0 ∷ 2 ∷ 8 ∷ 9 ∷ 2 ∷ 6 ∷ 9 ∷ 4 ∷ 3 ∷ 10 ∷ 11 ∷ 3 ∷ 8 ∷ 10 ∷ 1 ∷ 11 ∷ 5 ∷ []
+  -- The rim runs as the sides of its triangles do, and of the three points of a vertex the first is towards the vertex
+  -- before. From another vertex on it is the same curve, begun there; later entries of the table stay. (Request n)
+  pub curveAlone : curveIn 29 0 pane ≡ paneCurve ++ (pos 77 ∷ pos 77 ∷ [])
+  pub curveBegunAt : map (λ v. curveIn 27 v pane) (1 ∷ 2 ∷ [])
+      ≡ (drop 9 paneCurve ++ take 9 paneCurve) ∷ (drop 18 paneCurve ++ take 18 paneCurve) ∷ []
+  -- It has no halves, so that its mirror image is the curve of the mirror image by rule 1 too.
+  pub curveMirrored : curveIn 27 0 (mirror 2 pane) ≡ mirrorTable 2 paneCurve
+  -- In a rim of two vertices each is before and after the other; 2 is answered, and 0 on a refusal.
+  pub pocketSound : isSound pocket ≡ true
+  pub curveOfTwo : curveIn 19 0 pocket ≡
+      pos 11 ∷ pos 32 ∷ pos 0 ∷ pos 8 ∷ pos 38 ∷ negsuc 0 ∷ pos 11 ∷ pos 32 ∷ pos 0
+      ∷ pos 16 ∷ pos 22 ∷ pos 1 ∷ pos 19 ∷ pos 16 ∷ pos 2 ∷ pos 16 ∷ pos 22 ∷ pos 1
+      ∷ pos 77 ∷ []
+  pub rimLengths : map (λ v. asked (curveOf v (replicate 18 (pos 77))) pocket .answer .ringLength) (0 ∷ 1 ∷ 2 ∷ [])
+      ≡ 2 ∷ 2 ∷ 0 ∷ []
+  -- Of two triangles that do not meet each has its own rim; that of two that share a side goes round both; a rim split
+  -- puts two vertices into it.
+  pub rims : rim (made (loads 1 (cageAtOrigin 6 2 (0 ∷ 1 ∷ 2 ∷ 3 ∷ 4 ∷ 5 ∷ [])) ∷ []) store .topology) 4
+      ∷ rim (made (loads 1 hinge ∷ []) store .topology) 0 ∷ rim (cutAtBoundary .topology) 0 ∷ []
+      ≡ (4 ∷ 5 ∷ 3 ∷ []) ∷ (0 ∷ 3 ∷ 1 ∷ 2 ∷ []) ∷ (0 ∷ 4 ∷ 5 ∷ 1 ∷ 2 ∷ []) ∷ []
 
 pub readings : Table
 unfolding computing mirrorTable fresh sevens listed heldBy tetrahedron triangle store solid smoothed sideOne throughOne
     octahedron pulled spike longChain hinge withFirst signedBytes foil atEighteen tight alone boxed boxLine atPoint
     everywhere shortBoxes linksAfter
     firstNote secondNote fourthNote fourRefined lastNote twelve notedBy sidesOf
+    pane paneCurve pocket curveIn cageAtOrigin cutAtBoundary
 readings = record {
   throughSideOne = refl;
   throughSideOne₉ = refl;
@@ -539,4 +587,11 @@ readings = record {
   rimReported = refl;
   listReported = refl;
   boxReported = refl;
+  curveAlone = refl;
+  curveBegunAt = refl;
+  curveMirrored = refl;
+  pocketSound = refl;
+  curveOfTwo = refl;
+  rimLengths = refl;
+  rims = refl;
 }

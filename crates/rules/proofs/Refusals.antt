@@ -10,7 +10,7 @@ use Rattle.rules.specs.Boxes.{Box}
 use Rattle.rules.specs.Calls.{zeroPoint}
 use Rattle.rules.specs.History.{Change, loads, refines, steps, refinesEach, refinesInBox, setsLock, ringOf}
 use Rattle.rules.specs.History.{positionOf, limitsOf, previewOf, pointSeen, trianglesSeen, Call, changes, asks}
-use Rattle.rules.specs.History.{refinesNoted, takesBack, reports, outcome}
+use Rattle.rules.specs.History.{refinesNoted, takesBack, reports, curveOf, outcome}
 use Rattle.rules.specs.Spares.{Spares}
 use Rattle.rules.specs.Reports.{one, withNote}
 use Rattle.rules.specs.Tables.{Mesh, topologyOf, meshOf, withLocks, withRule, boundary}
@@ -269,6 +269,15 @@ pub record Table : Type 0 where
   pub lockBeforeNote : refusalAfter (setsLock true 0 ∷ []) (changes (refinesNoted 0 [])) solid ≡ 19
   pub unusedBeforeNote : refusalAfter [] (changes (refinesNoted 4 [])) solid ≡ 8
   pub ageBeforeNote : refusalAfter [] (changes (refinesNoted 0 [])) grown ≡ 9
+  -- A vertex off the boundary, with a table of no or enough numbers; after 1, 7 and 8. (Request n)
+  pub n24 : map (λ n. refusalAfter [] (asks (curveOf 0 (replicate n (pos 7)))) solid) (0 ∷ 36 ∷ []) ≡ 24 ∷ 24 ∷ []
+  pub unusedBeforeRim : map (refusalAfter [] (asks (curveOf 4 []))) (uneven ∷ small ∷ solid ∷ []) ≡ 1 ∷ 7 ∷ 8 ∷ []
+  -- Of a triangle with its centre: a vertex of the triangle, the centre, and the next slot.
+  pub n24AtCentre : map (λ v. refusalAfter (loads 1 triangle ∷ refines 0 ∷ [])
+      (asks (curveOf v (replicate 27 (pos 7)))) small) (2 ∷ 3 ∷ 4 ∷ []) ≡ 0 ∷ 24 ∷ 8 ∷ []
+  -- A rim of three vertices, into tables of 0, 26, 27 and 28 numbers.
+  pub n25 : map (λ n. refusalAfter (loads 1 triangle ∷ []) (asks (curveOf 2 (replicate n (pos 7)))) small)
+      (0 ∷ 26 ∷ 27 ∷ 28 ∷ []) ≡ 25 ∷ 25 ∷ 0 ∷ 0 ∷ []
 
 pub refusals : Table
 unfolding computing fresh sevens small solid uneven tetrahedron cageAtOrigin triangle hinge foilCage foilLast foilFirst
@@ -352,4 +361,8 @@ refusals = record {
   lockBeforeNote = refl;
   unusedBeforeNote = refl;
   ageBeforeNote = refl;
+  n24 = refl;
+  unusedBeforeRim = refl;
+  n24AtCentre = refl;
+  n25 = refl;
 }

@@ -11,7 +11,7 @@ use Rattle.rules.proofs.Boxes.BoxCall.{box-refusal, box-makes, box-refu
 use Rattle.rules.proofs.Boxes.BoxCall.{box-in-spares, nothing-wanted, box-twice, turn-takes}
 use Rattle.rules.proofs.Calls.CallRefusals.{load-refusal, refine-refusal, whole-step-refusal, ring-refusal}
 use Rattle.rules.proofs.Calls.CallRefusals.{lock-refusal, view-refusal, position-refusal, limit-refusal}
-use Rattle.rules.proofs.Calls.CallRefusals.{taken-at-boundary, noted-refusal, take-back-refusal}
+use Rattle.rules.proofs.Calls.CallRefusals.{taken-at-boundary, noted-refusal, take-back-refusal, curve-refusal}
 use Rattle.rules.proofs.Calls.Carried.{may-refine}
 use Rattle.rules.proofs.Calls.EveryCall.{refused-is, no-ten}
 use Rattle.rules.proofs.Calls.Histories.{every-history, history-sound, history-keeps-sound, history-none-of-two}
@@ -20,7 +20,8 @@ use Rattle.rules.proofs.Loads.Load.{links-are}
 use Rattle.rules.proofs.Calls.Outcomes.{load-makes, refine-makes, chain-falls, refine-is-split, noted-makes}
 use Rattle.rules.proofs.Calls.Outcomes.{refine-is-least, noted-short, noted-as-refine, few-noted, noted-enough}
 use Rattle.rules.proofs.Calls.Outcomes.{take-back-makes, whole-step-makes, lock-makes, limit-makes, ring-reads}
-use Rattle.rules.proofs.Calls.Outcomes.{position-reads, view-reads}
+use Rattle.rules.proofs.Calls.Outcomes.{position-reads, view-reads, rim-closed, curve-makes, curve-enough}
+use Rattle.rules.proofs.Calls.Outcomes.{same-curves}
 use Rattle.rules.proofs.Calls.ReportedCalls.{reported-refusal, reported-makes, reported-short}
 use Rattle.rules.proofs.Calls.ReportedCalls.{reported-as-plain, foreseen-reported, report-tells, report-bound}
 use Rattle.rules.proofs.Calls.ReportedCalls.{refine-report-bound}
@@ -55,7 +56,7 @@ use Rattle.rules.specs.Conditions.{refineConditions, wholeStepConditions
 use Rattle.rules.specs.Conditions.{positionConditions, listConditions, Takes, FailsAfter}
 use Rattle.rules.specs.Conditions.{SizesFit, CornersFit, FansFit, InnerOfTwo, SomeInnerOfTwo}
 use Rattle.rules.specs.Conditions.{TooOld, TooFewSlots, Alters, Locked, SomeLocked, BoxFits, Wanted, LowestWanted}
-use Rattle.rules.specs.Conditions.{TurnFails, boxConditions, Risen}
+use Rattle.rules.specs.Conditions.{TurnFails, boxConditions, Risen, curveConditions}
 use Rattle.rules.specs.History.{Call, outcome, after, lastLoad, nothing, cage, EveryHistory}
 use Rattle.rules.specs.Lists.{Progress, begun, handleAll, refineEach, sparesRefusal, allOrNothing}
 use Rattle.rules.specs.Lists.{listCall, previewCall}
@@ -67,8 +68,10 @@ use Rattle.rules.specs.Promises.{Nearest, Matches, Loaded, ChainFalls, R
 use Rattle.rules.specs.Promises.{refusedAs, AgreeInUse, RingMakes, kobbelt, ListMakes, SameWork, BackToBack}
 use Rattle.rules.specs.Promises.{BoxMakes, LockMakes, Stands, NoLoad, NoClearing, LeaveLocked, LinksFollow}
 use Rattle.rules.specs.Promises.{NoTakeBack, NoneTakenBack, HasNote, NotedMakes, TakeBackMakes, Listed}
-use Rattle.rules.specs.Promises.{Unreported}
+use Rattle.rules.specs.Promises.{Unreported, RimMakes, CurveMakes, SameRims}
 use Rattle.rules.specs.Reports.{Refining, each, plainCall, workOf, reportIn, reportedCall, reportForeseen}
+use Rattle.rules.specs.Rim.{rim, curveRead, curveCall}
+use Rattle.rules.specs.Ring.{OnBoundary}
 use Rattle.rules.specs.Runs.{MayRun, ran, LeastDisturbance}
 use Rattle.rules.specs.Sound.{Sound, isSound}
 use Rattle.rules.specs.Spares.{Spares, copied, meshIn, SameSizes}
@@ -151,6 +154,11 @@ view-returns = view-refusal
 -- So does a limit query.
 pub limit-returns : (table : List ℤ) (m : Mesh) → First (limitConditions table m) (limitCall table m .answer .refusal)
 limit-returns = limit-refusal
+
+-- So does a call for the curve of a rim. (Request n)
+pub curve-returns : (v : ℕ) (table : List ℤ) (m : Mesh)
+    → First (curveConditions v table m) (curveCall v table m .answer .refusal)
+curve-returns = curve-refusal
 
 -- So does a list of triangles: after 1, 17 and 7 that is what its first failing entry fails with.
 pub list-returns : (list : List ℕ) (spares : Spares) (m : Mesh)
@@ -605,6 +613,35 @@ position-carried = position-reads
 -- A call for all triangles that is carried out leaves the mesh; the crate `viewer` says what it writes. (Request j)
 pub view-carried : (n : ℕ) (m : Mesh) → viewCall n m .answer .refusal ≡ 0 → viewCall n m ≡ viewRead m
 view-carried = view-reads
+
+-- ---- the rim as a curve (Request n)
+
+-- The rim from a vertex on closes, lists each of its vertices once, and has at least two.
+pub rim-whole : {m : Mesh} → Sound m → (v : ℕ) → OnBoundary (m .topology) v
+    → RimMakes (m .topology) v (rim (m .topology) v)
+rim-whole = rim-closed
+
+-- A call for the curve of a rim that is carried out writes it into the first entries of the table and nothing else, and
+-- the mesh stands. Each coordinate is nearest to its fraction, which is never half-way between two whole numbers, and
+-- lies within the least and the greatest of its three sources.
+pub curve-carried : (v : ℕ) (table : List ℤ) (m : Mesh) → curveCall v table m .answer .refusal ≡ 0
+    → (curveCall v table m ≡ curveRead v table m) × CurveMakes v m table (curveCall v table m .room .table)
+curve-carried = curve-makes
+
+-- On a sound mesh 9 V entries do for the rim of every vertex that is on one.
+pub curve-in-9V : (v : ℕ) (table : List ℤ) (m : Mesh) → Sound m → OnBoundary (m .topology) v
+    → 9 * m .topology .vertices ≤ length table → curveCall v table m .answer .refusal ≡ 0
+curve-in-9V = curve-enough
+
+-- Two rims with equal points in this order get equal curves, whatever the rules and the tables lent.
+pub same-rims-same-curves : (v w : ℕ) (table table′ : List ℤ) (m n : Mesh) →
+    let o = curveCall v table m in
+    let q = curveCall w table′ n in
+    o .answer .refusal ≡ 0 → q .answer .refusal ≡ 0
+    → SameRims m n (rim (m .topology) v) (rim (n .topology) w)
+    → (q .answer .ringLength ≡ o .answer .ringLength)
+    × ((i : ℕ) → i < 9 * o .answer .ringLength → getD (q .room .table) i (pos 0) ≡ getD (o .room .table) i (pos 0))
+same-rims-same-curves = same-curves
 
 -- ---- every history (the customer's third demand)
 

@@ -17,10 +17,10 @@ use Rattle.rules.specs.Step.{wholeStep, limitPositions}
 use Rattle.rules.specs.Tables.{Topology, Mesh, tablesAgree, vertexSlots, triangleSlots, sides, link, boundary}
 use Rattle.rules.specs.Tables.{generation, odd, isBase, coordinate, locked, withLocks, withRule}
 
--- What a call answers: the number of its refusal, 0 for none, the splits and flips that it made, the length of a ring,
--- a position, and the counts: V, F and the rule; and of work in spare tables (requests e, h) how many entries of a
--- list, or turns of a box, succeeded, and the counts of the mesh in them; and the length of a report (request m). A
--- preview (request f) answers what its list would. The calls build it by `answerOf` and `sparesAnswer`, and where a
+-- What a call answers: the number of its refusal, 0 for none, the splits and flips that it made, the length of a ring
+-- or a rim, a position, and the counts: V, F and the rule; and of work in spare tables (requests e, h) how many entries
+-- of a list, or turns of a box, succeeded, and the counts of the mesh in them; and the length of a report (request m).
+-- A preview (request f) answers what its list would. The calls build it by `answerOf` and `sparesAnswer`, and where a
 -- buffer for a report is lent by `withReport`, alone.
 pub record Answer : Type 0 where
   pub refusal : ℕ

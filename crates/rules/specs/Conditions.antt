@@ -12,6 +12,7 @@ use Rattle.rules.specs.Notes.{changedSlots, Accepted}
 use Rattle.rules.specs.Numbers.{InRange, KnownRule}
 use Rattle.rules.specs.Ring.{OnBoundary, triangleCount, ring}
 use Rattle.rules.specs.Reports.{Refining, one, withNote, each, inBox, workOf}
+use Rattle.rules.specs.Rim.{rim}
 use Rattle.rules.specs.Sound.{OneFan, Sound}
 use Rattle.rules.specs.Spares.{Spares, SameSizes}
 use Rattle.rules.specs.Split.{Work, atFirst, refine}
@@ -306,6 +307,16 @@ positionConditions v m = 1 when (¬ TablesAgree m) ∷ 7 when (¬ Sound m) ∷ 8
 
 abbrev pub viewConditions : ℕ → Mesh → List Condition
 viewConditions n m = 1 when (¬ TablesAgree m) ∷ 7 when (¬ Sound m) ∷ 20 when (n < 9 * m .topology .triangles) ∷ []
+
+-- 24: v is in use, but not on the rim; 25: the table has under 9 n entries, where its rim has n vertices. (Request n)
+abbrev pub curveConditions : ℕ → List ℤ → Mesh → List Condition
+curveConditions v table m =
+    1 when (¬ TablesAgree m)
+    ∷ 7 when (¬ Sound m)
+    ∷ 8 when (¬ (v < m .topology .vertices))
+    ∷ 24 when (¬ OnBoundary (m .topology) v)
+    ∷ 25 when (length table < 9 * length (rim (m .topology) v))
+    ∷ []
 
 -- One entry alone is the first that fails. The four exclude each other, so their order decides nothing.
 abbrev pub entryConditions : List ℕ → Mesh → List Condition

@@ -15,6 +15,7 @@ use Rattle.rules.specs.Conditions.{OddInChain, EndsAtBoundary}
 use Rattle.rules.specs.Lists.{listCall, previewCall}
 use Rattle.rules.specs.Notes.{notedCall, takeBackCall}
 use Rattle.rules.specs.Reports.{Refining, one, withNote, reportedCall, reportForeseen}
+use Rattle.rules.specs.Rim.{curveCall}
 use Rattle.rules.specs.Spares.{Spares}
 use Rattle.rules.specs.Tables.{Topology, Mesh, sides, link, boundary, generation, next}
 
@@ -35,7 +36,8 @@ pub data Change : Type 0 where
 
 -- A call that reads the mesh: a vertex and a ring buffer, a vertex, a table for limit positions, a list of triangles
 -- and spare tables, alone or with a buffer for the report; and for a viewer a vertex, which is a position query, and
--- the length of a table. A preview answers the counts that the list would leave; those of the mesh stand.
+-- the length of a table; and last a vertex and a table for the curve of its rim. A preview answers the counts that the
+-- list would leave; those of the mesh stand.
 pub data Question : Type 0 where
   ringOf : ℕ → List ℕ → Question
   positionOf : ℕ → Question
@@ -44,6 +46,7 @@ pub data Question : Type 0 where
   previewReported : List ℕ → Spares → List ℕ → Question
   pointSeen : ℕ → Question
   trianglesSeen : ℕ → Question
+  curveOf : ℕ → List ℤ → Question
 
 -- A call of either kind.
 pub data Call : Type 0 where
@@ -70,6 +73,7 @@ asked (previewOf list spares) m = previewCall list spares m
 asked (previewReported list spares buffer) m = reportForeseen list spares buffer m
 asked (pointSeen v) m = positionCall v m
 asked (trianglesSeen n) m = viewCall n m
+asked (curveOf v table) m = curveCall v table m
 
 abbrev pub outcome : Call → Mesh → Outcome
 outcome (changes c) m = changed c m

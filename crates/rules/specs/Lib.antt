@@ -27,6 +27,7 @@ pub mod Lists
 pub mod Boxes
 pub mod Notes
 pub mod Reports
+pub mod Rim
 pub mod Conditions
 pub mod Runs
 pub mod History

@@ -12,7 +12,7 @@ use Rattle.rules.specs.Cage.{cageOf}
 use Rattle.rules.specs.Calls.{Answer, Room, Outcome, outcomeOf}
 use Rattle.rules.specs.History.{Call, changes, asks, loads, refines, steps, refinesEach, refinesInBox, setsLock}
 use Rattle.rules.specs.History.{refinesNoted, takesBack, ringOf, positionOf, limitsOf, previewOf, pointSeen}
-use Rattle.rules.specs.History.{trianglesSeen, reports, previewReported, outcome}
+use Rattle.rules.specs.History.{trianglesSeen, reports, previewReported, curveOf, outcome}
 use Rattle.rules.specs.Reports.{Refining, one, withNote, each, inBox}
 use Rattle.rules.specs.Spares.{Spares}
 use Rattle.rules.specs.Tables.{Mesh, withPositions}
@@ -127,8 +127,9 @@ pub data Mirrors (k : ℕ) : Call → Call → Type 0 where
       (asks (previewReported entries (mirrorSpares k spares) buffer))
   point : {v : ℕ} → Mirrors k (asks (pointSeen v)) (asks (pointSeen v))
   triangles : {n : ℕ} → Mirrors k (asks (trianglesSeen n)) (asks (trianglesSeen n))
+  curve : {v : ℕ} {table : List ℤ} → Mirrors k (asks (curveOf v table)) (asks (curveOf v (mirrorTable k table)))
 
--- The calls that round by the rule.
+-- The calls that round by the rule. A curve has no halves to round.
 pub data Rounds : Call → Type 0 where
   step : Rounds (changes steps)
   limit : {table : List ℤ} → Rounds (asks (limitsOf table))

@@ -40,7 +40,7 @@ floorDiv (negsuc a) m = negsuc (a / m)
 unfoldable pub nearestThird : ℤ → ℤ
 nearestThird s = floorDiv (s +ℤ pos 1) 3
 
--- n / d to the nearest, half going up. (Whole step)
+-- n / d to the nearest, half going up. (Whole step; request n)
 unfoldable pub halfUp : ℤ → ℕ → ℤ
 halfUp n d = floorDiv (pos 2 *ℤ n +ℤ pos d) (2 * d)
 

@@ -1,5 +1,5 @@
 -- What holds of each call, carried out or refused, as statements; proofs/Results proves every one of them.
-use Prim.Native.Nat.{ℕ, zero, suc, _+_, _*_, _/_, _%_, _≤_, _<_}
+use Prim.Native.Nat.{ℕ, zero, suc, _+_, _-_, _*_, _/_, _%_, _≤_, _<_}
 use mathlib.Core.Bool.{Bool, true, false}
 use mathlib.Core.List.{List, [], _∷_, _++_}
 use mathlib.Core.Logic.{_≢_, _⊎_, _↔_}
@@ -15,15 +15,16 @@ use Rattle.rules.specs.Calls.{Outcome, outcomeOf, withReport, noRoom, bu
 use Rattle.rules.specs.Calls.{refusedWith, worked}
 use Rattle.rules.specs.Calls.{splitsOf, rimSplitsOf, refineCall}
 use Rattle.rules.specs.Cage.{Cage}
-use Rattle.rules.specs.Conditions.{InnerOfTwo, Risen, Handled, Wanted, Turns}
+use Rattle.rules.specs.Conditions.{InnerOfTwo, Risen, Handled, Between, Wanted, Turns}
 use Rattle.rules.specs.History.{Call, changes, asks, loads, refines, steps, refinesEach, refinesInBox, setsLock}
 use Rattle.rules.specs.History.{refinesNoted, takesBack, reports, ringOf, positionOf, limitsOf, previewOf}
 use Rattle.rules.specs.History.{previewReported, pointSeen}
-use Rattle.rules.specs.History.{trianglesSeen, outcome, ReportsSplits, edges, cageEdges}
+use Rattle.rules.specs.History.{trianglesSeen, curveOf, outcome, ReportsSplits, edges, cageEdges}
 use Rattle.rules.specs.Lists.{Progress, refineEach, sparesRefusal, sparesAnswer}
 use Rattle.rules.specs.Notes.{noteOf}
 use Rattle.rules.specs.Numbers.{InRange, weight}
 use Rattle.rules.specs.Reports.{Refining, one, withNote, each, inBox}
+use Rattle.rules.specs.Rim.{rim, smoothedNumerator}
 use Rattle.rules.specs.Ring.{OnBoundary, triangleCount, firstSide, fan, ring}
 use Rattle.rules.specs.Sound.{Sound}
 use Rattle.rules.specs.Spares.{Spares, copied}
@@ -108,6 +109,7 @@ refusedAs (asks (previewOf list spares)) n m = refusedList list spares n m
 refusedAs (asks (previewReported list spares buffer)) n m = withReport buffer 0 (refusedList list spares n m)
 refusedAs (asks (pointSeen v)) n m = refusedWith n m noRoom
 refusedAs (asks (trianglesSeen k)) n m = refusedWith n m noRoom
+refusedAs (asks (curveOf v table)) n m = refusedWith n m (tableRoom table)
 
 -- ---- load (Load)
 
@@ -483,3 +485,43 @@ pub record RingMakes (m : Topology) (v : ℕ) : Type 0 where
   pub outer : OnBoundary m v → length (ring m v) ≡ triangleCount m v + 1
   pub lastEntry : OnBoundary m v → (i : ℕ) → suc i ≡ length (fan m v)
       → getD (ring m v) (suc i) 0 ≡ origin m (previous (walkAt m v i))
+
+-- ---- the rim as a curve (Request n)
+
+-- The vertices of l are the closed rim of v: from each a side on the boundary runs to the next, and from the last to
+-- v, and none runs elsewhere; none comes twice, and there are at least two.
+pub record RimMakes (m : Topology) (v : ℕ) (l : List ℕ) : Type 0 where
+  pub atLeastTwo : 2 ≤ length l
+  pub few : length l ≤ m .vertices
+  pub first : getD l 0 0 ≡ v
+  pub inUse : (i : ℕ) → i < length l → getD l i 0 < m .vertices
+  pub goesOn : (i : ℕ) → i < length l
+      → (h : ℕ) × (h < sides m) × (link m h ≡ boundary) × (origin m h ≡ getD l i 0)
+      × (target m h ≡ getD l ((i + 1) % length l) 0)
+  pub only : (h : ℕ) → h < sides m → link m h ≡ boundary → (i : ℕ) → i < length l → origin m h ≡ getD l i 0
+      → target m h ≡ getD l ((i + 1) % length l) 0
+  pub once : (i j : ℕ) → i < length l → j < length l → getD l i 0 ≡ getD l j 0 → i ≡ j
+
+-- In one coordinate q is point p of a vertex at b, where the vertex before is at a and the vertex after at c: less than
+-- a half from the fraction (here all times 54), and within any bounds that all three are in.
+pub record IsSmoothed (p : ℕ) (a b c q : ℤ) : Type 0 where
+  pub low : (pos 54 *ℤ q) <ℤ (pos 2 *ℤ smoothedNumerator p a b c +ℤ pos 27)
+  pub high : (pos 2 *ℤ smoothedNumerator p a b c) <ℤ (pos 54 *ℤ q +ℤ pos 27)
+  pub within : (x y : ℤ) → Between x y a → Between x y b → Between x y c → Between x y q
+
+-- What is left of a lent table: the curve of the rim of v in its first entries, with the vertex before the first taken
+-- from the end and the one after the last from the front; later entries are as they were.
+pub record CurveMakes (v : ℕ) (m : Mesh) (lent left : List ℤ) : Type 0 where
+  pub closed : RimMakes (m .topology) v (rim (m .topology) v)
+  pub size : length left ≡ length lent
+  pub points : (j p k : ℕ) → p < 3 → k < 3 →
+      let l = rim (m .topology) v in
+      let n = length l in
+      let at : ℕ → ℤ = λ i. coordinate m (getD l i 0) k in
+      j < n → IsSmoothed p (at ((j + n - 1) % n)) (at j) (at ((j + 1) % n)) (getD left (9 * j + 3 * p + k) (pos 0))
+  pub later : drop (9 * length (rim (m .topology) v)) left ≡ drop (9 * length (rim (m .topology) v)) lent
+
+-- Two rims are of one length, and have equal points in this order.
+pub record SameRims (m n : Mesh) (l k : List ℕ) : Type 0 where
+  pub size : length k ≡ length l
+  pub points : (i j : ℕ) → i < length l → j < 3 → coordinate n (getD k i 0) j ≡ coordinate m (getD l i 0) j

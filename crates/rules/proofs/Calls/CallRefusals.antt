@@ -1,7 +1,7 @@
 -- For each call: its refusal is the first of its conditions that holds, and what a call that is carried out has found.
 use mathlib.Core.Path.{_≡_, refl, sym, ap, _∙_, subst}
 use mathlib.Core.Logic.{_≢_}
-use mathlib.Core.Bool.{Bool, not}
+use mathlib.Core.Bool.{Bool, not, _&&_}
 use mathlib.Core.List.{List}
 use Prim.Native.Nat.{ℕ, suc, _+_, _*_, _≤_, _<_, _%_, max, _-_}
 use native.Mathlib.Omega.{arith}
@@ -33,14 +33,16 @@ use Rattle.rules.specs.Conditions.{ClosedEven, First, none, LongRing, lo
 use Rattle.rules.specs.Conditions.{wholeStepConditions, limitConditions, ringConditions, positionConditions}
 use Rattle.rules.specs.Conditions.{Takes, evenEnd, boundaryEnd, TooOld, EndsAtBoundary, SomeLocked}
 use Rattle.rules.specs.Conditions.{lockConditions, viewConditions, notedConditions, takeBackConditions}
+use Rattle.rules.specs.Conditions.{curveConditions}
 use Rattle.rules.specs.Notes.{changedSlots, noteOf, refined, notedRefusal, notedWork, notedCall, restored}
 use Rattle.rules.specs.Notes.{takeBackRefusal, takeBackCall}
-use Rattle.rules.specs.Ring.{ring}
+use Rattle.rules.specs.Rim.{onRim, rim, curveRefusal, curveRead, curveCall}
+use Rattle.rules.specs.Ring.{OnBoundary, ring}
 use Rattle.rules.specs.Sound.{Sound}
 use Rattle.rules.specs.Split.{atFirst, refine}
 use Rattle.rules.specs.Step.{wholeStep}
-use Rattle.rules.specs.Tables.{Topology, Mesh, sides, boundary, link, generation, vertexSlots, triangleSlots}
-use Rattle.rules.specs.Tables.{lock, locked, withRule}
+use Rattle.rules.specs.Tables.{Topology, Mesh, sides, origin, boundary, link, generation, vertexSlots}
+use Rattle.rules.specs.Tables.{triangleSlots, lock, locked, withRule}
 
 -- ---- tests
 
@@ -120,6 +122,14 @@ pub long-ring-is : (m : Topology) → Decides (any (m .vertices) (λ v. ltb 12 (
 long-ring-is m =
     is-any (m .vertices) (λ v. ltb 12 (length (ring m v))) (λ v. 12 < length (ring m v))
     (λ v. is-lt 12 (length (ring m v)))
+
+pub on-rim-is : (m : Topology) (v : ℕ) → Decides (onRim m v) (OnBoundary m v)
+unfolding onRim
+on-rim-is m v =
+    is-iff (λ (h, l, (o, b)). (h, l, o, b)) (λ (h, l, o, b). (h, l, (o, b)))
+    (is-any (sides m) (λ h. eqb (origin m h) v && eqb (link m h) boundary)
+    (λ h. (origin m h ≡ v) × (link m h ≡ boundary))
+    (λ h. is-and (is-eq (origin m h) v) (is-eq (link m h) boundary)))
 
 -- ---- the refusals
 
@@ -215,6 +225,16 @@ view-refusal-first n m =
     first-unless 1 (tables-agree-is m)
     (λ A. first-unless 7 (sound-is m) (λ S. first-if 20 (is-lt n (9 * m .topology .triangles)) (λ _. none)))
 
+pub curve-refusal-first : (v : ℕ) (table : List ℤ) (m : Mesh)
+    → First (curveConditions v table m) (curveRefusal v table m)
+unfolding curveRefusal
+curve-refusal-first v table m =
+    first-unless 1 (tables-agree-is m) (λ A.
+    first-unless 7 (sound-is m) (λ S.
+    first-if 8 (unused-is v (m .topology .vertices)) (λ _.
+    first-unless 24 (on-rim-is (m .topology) v) (λ _.
+    first-if 25 (is-lt (length table) (9 * length (rim (m .topology) v))) (λ _. none)))))
+
 -- ---- each call is refused, or its outcome is the one that the rules give
 
 pub load-judged : (rule : ℕ) (bytes : List ℕ) (m : Mesh)
@@ -266,6 +286,11 @@ pub view-judged : (n : ℕ) (m : Mesh) → Judged (viewRefusal n m) m noRoom (vi
 unfolding viewCall
 view-judged n m = judged (viewRefusal n m) m noRoom (viewRead m)
 
+pub curve-judged : (v : ℕ) (table : List ℤ) (m : Mesh)
+    → Judged (curveRefusal v table m) m (tableRoom table) (curveRead v table m) (curveCall v table m)
+unfolding curveCall
+curve-judged v table m = judged (curveRefusal v table m) m (tableRoom table) (curveRead v table m)
+
 -- ---- the number that a call returns
 
 pub load-refusal : (rule : ℕ) (bytes : List ℕ) (m : Mesh)
@@ -301,3 +326,7 @@ position-refusal v m = rw (judged-refusal refl (position-judged v m)) (position-
 
 pub view-refusal : (n : ℕ) (m : Mesh) → First (viewConditions n m) (viewCall n m .answer .refusal)
 view-refusal n m = rw (judged-refusal refl (view-judged n m)) (view-refusal-first n m)
+
+pub curve-refusal : (v : ℕ) (table : List ℤ) (m : Mesh)
+    → First (curveConditions v table m) (curveCall v table m .answer .refusal)
+curve-refusal v table m = rw (judged-refusal refl (curve-judged v table m)) (curve-refusal-first v table m)

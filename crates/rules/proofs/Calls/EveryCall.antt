@@ -9,7 +9,8 @@ use Rattle.rules.proofs.Calls.CallRefusals.{load-judged, refine-judged,
 use Rattle.rules.proofs.Calls.CallRefusals.{position-judged, limit-judged, load-refusal, refine-refusal}
 use Rattle.rules.proofs.Calls.CallRefusals.{whole-step-refusal, ring-refusal, position-refusal, limit-refusal}
 use Rattle.rules.proofs.Calls.CallRefusals.{lock-judged, lock-refusal, view-judged, view-refusal, noted-judged}
-use Rattle.rules.proofs.Calls.CallRefusals.{noted-refusal, take-back-judged, take-back-refusal}
+use Rattle.rules.proofs.Calls.CallRefusals.{noted-refusal, take-back-judged, take-back-refusal, curve-judged}
+use Rattle.rules.proofs.Calls.CallRefusals.{curve-refusal}
 use Rattle.rules.proofs.Calls.FirstThatHolds.{Judged, carried, refused, judged-refused, first-not}
 use Rattle.rules.proofs.Calls.Reporting.{reported-as, reported-refused, reported-not}
 use Rattle.rules.proofs.Lists.ListCall.{list-refusal, list-refused-is}
@@ -17,7 +18,7 @@ use Rattle.rules.proofs.Lists.Preview.{preview-refusal, preview-refused
 use Rattle.rules.specs.Calls.{Room, Outcome, outcomeOf, withReport}
 use Rattle.rules.specs.History.{loads, refines, steps, setsLock, refinesNoted, takesBack, refinesEach}
 use Rattle.rules.specs.History.{refinesInBox, Question, pointSeen, trianglesSeen, ringOf, positionOf, limitsOf}
-use Rattle.rules.specs.History.{reports, previewOf, previewReported, asked, Call, changes, asks, outcome}
+use Rattle.rules.specs.History.{reports, previewOf, previewReported, curveOf, asked, Call, changes, asks, outcome}
 use Rattle.rules.specs.Lists.{Progress, refineEach, sparesRefusal}
 use Rattle.rules.specs.Promises.{refusedWork, refusedList, refusedReport, refusedAs}
 use Rattle.rules.specs.Reports.{Refining, one, withNote, each, inBox, plainCall, reportForeseen}
@@ -72,6 +73,7 @@ refused-is (asks (previewOf list spares)) m = preview-refused-is list spares m
 refused-is (asks (previewReported list spares buffer)) m = foreseen-refused list spares buffer m
 refused-is (asks (pointSeen v)) m = judged-refused refl (position-judged v m)
 refused-is (asks (trianglesSeen n)) m = judged-refused refl (view-judged n m)
+refused-is (asks (curveOf v table)) m = judged-refused refl (curve-judged v table m)
 
 -- A question leaves the mesh.
 judged-stands : {n : ℕ} {m : Mesh} {room : Room} {success o : Outcome} → success .mesh ≡ m
@@ -87,6 +89,7 @@ question-stands (previewOf list spares) m = preview-stands list spares m
 question-stands (previewReported list spares buffer) m = foreseen-stands list spares buffer m
 question-stands (pointSeen v) m = judged-stands refl (position-judged v m)
 question-stands (trianglesSeen n) m = judged-stands refl (view-judged n m)
+question-stands (curveOf v table) m = judged-stands refl (curve-judged v table m)
 
 plain-no-ten : (r : Refining) (m : Mesh) → plainCall r m .answer .refusal ≢ 10
 plain-no-ten (one t) m = first-not 10 (refine-refusal t m) tt
@@ -119,3 +122,4 @@ no-ten (asks (previewOf list spares)) m = first-not 10 (preview-refusal list spa
 no-ten (asks (previewReported list spares buffer)) m = foreseen-no-ten list spares buffer m
 no-ten (asks (pointSeen v)) m = first-not 10 (position-refusal v m) tt
 no-ten (asks (trianglesSeen n)) m = first-not 10 (view-refusal n m) tt
+no-ten (asks (curveOf v table)) m = first-not 10 (curve-refusal v table m) tt

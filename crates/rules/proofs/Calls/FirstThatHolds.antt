@@ -55,6 +55,12 @@ none-hold none z t = tt
 none-hold (this {n} {rest = rest} p) z t = absurd (not-zero n z (positive-both n (positive rest) t .0))
 none-hold (later {n} {rest = rest} q f) z t = (q, none-hold f z (positive-both n (positive rest) t .1))
 
+-- The refusal is 0 where none holds.
+pub none-refuses : {conditions : List Condition} {k : ℕ} → First conditions k → NoneHold conditions → k ≡ 0
+none-refuses none n = refl
+none-refuses (this p) n = absurd (n .0 p)
+none-refuses (later q f) n = none-refuses f (n .1)
+
 -- Where none of the first conditions holds, the rest decide.
 pub first-after : {conditions rest : List Condition} {n k : ℕ} → First conditions n → n ≡ 0 → T (positive conditions)
     → First rest k → First (conditions ++ rest) k

@@ -6,21 +6,24 @@ use mathlib.Core.List.{List, [], _∷_}
 use Prim.Native.Nat.{ℕ, zero, suc, _+_, _*_, _%_, _≤_, _<_}
 use native.Mathlib.Omega.{arith}
 use lib.Dec.{ltb}
-use lib.IntN.{ℤ}
+use lib.IntN.{ℤ, pos}
 use lib.ListN.{length, getD}
 use Rattle.rules.proofs.Loads.CageEdges.{load-edges}
 use Rattle.rules.proofs.Calls.CallRefusals.{load-judged, refine-judged, whole-step-judged, ring-judged}
 use Rattle.rules.proofs.Calls.CallRefusals.{position-judged, limit-judged, limit-refusal-first, closed-even-is}
 use Rattle.rules.proofs.Calls.CallRefusals.{lock-judged, view-judged, noted-judged, take-back-judged}
-use Rattle.rules.proofs.Calls.CallRefusals.{note-short-is, refine-refusal-first}
+use Rattle.rules.proofs.Calls.CallRefusals.{note-short-is, refine-refusal-first, curve-judged, curve-refusal}
+use Rattle.rules.proofs.Calls.CallRefusals.{curve-refusal-first, on-rim-is}
 use Rattle.rules.proofs.Calls.Carried.{load-found, refine-found, found-refined, step-found, found-step}
 use Rattle.rules.proofs.Calls.Carried.{lock-found, found-locked, noted-found, take-back-found}
 use Rattle.rules.proofs.Chains.Chain.{falls}
-use Rattle.rules.proofs.Calls.FirstThatHolds.{judged-carried, judged-refusal, none-hold, first-not}
+use Rattle.rules.proofs.Calls.FirstThatHolds.{judged-carried, judged-refusal, none-hold, none-refuses, first-not}
 use Rattle.rules.proofs.Notes.Reading.{written-has}
 use Rattle.rules.proofs.Notes.TakenBack.{restored-past, makes-present}
 use Rattle.rules.proofs.Numbers.Decide.{Decides, is-eq, stable}
-use Rattle.rules.proofs.Numbers.Fill.{length-fill, drop-fill}
+use Rattle.rules.proofs.Numbers.Fill.{length-fill, getD-fill, drop-fill}
+use Rattle.rules.proofs.Rims.Curve.{curve-made, same-points}
+use Rattle.rules.proofs.Rims.RimWalk.{rim-made}
 use Rattle.rules.proofs.Soundness.SoundTest.{sound-is}
 use Rattle.rules.proofs.Steps.Limits.{limits-made}
 use Rattle.rules.proofs.Calls.Histories.{found-refines}
@@ -37,7 +40,9 @@ use Rattle.rules.specs.Calls.{positionCall, limitRead, limitCall, withLo
 use Rattle.rules.specs.Notes.{noteOf, changedSlots, refined, notedRefusal, notedWork, notedCall, notedTriangle}
 use Rattle.rules.specs.Notes.{restored, takeBackCall, Accepted}
 use Rattle.rules.specs.Promises.{Loaded, ChainFalls, RefineMakes, StepMakes, LockMakes, LimitMakes, kobbelt}
-use Rattle.rules.specs.Promises.{NotedMakes, TakeBackMakes}
+use Rattle.rules.specs.Promises.{NotedMakes, TakeBackMakes, RimMakes, CurveMakes, SameRims}
+use Rattle.rules.specs.Rim.{rim, curveAt, curveRead, curveCall}
+use Rattle.rules.specs.Ring.{OnBoundary}
 use Rattle.rules.specs.Runs.{LeastDisturbance}
 use Rattle.rules.specs.Sound.{Sound}
 use Rattle.rules.specs.Split.{atFirst, refine}
@@ -255,6 +260,57 @@ limit-makes table m z =
     let S = stable (sound-is m) s in
     let C = stable (closed-even-is (m .topology) (S .someTriangle)) c in
     (x .1, limits-made S (C .closed) short table (stable (is-eq (length table) (3 * m .topology .vertices)) e))
+
+-- ---- the rim as a curve
+
+pub rim-closed : {m : Mesh} → Sound m → (v : ℕ) → OnBoundary (m .topology) v
+    → RimMakes (m .topology) v (rim (m .topology) v)
+rim-closed {m} S v b =
+    let (h, i, o, _) = b in
+    rim-made (m .topology) (sound-manifold S) v (rw o at (S .corner h i)) b
+
+pub curve-makes : (v : ℕ) (table : List ℤ) (m : Mesh) → curveCall v table m .answer .refusal ≡ 0
+    → (curveCall v table m ≡ curveRead v table m) × CurveMakes v m table (curveCall v table m .room .table)
+curve-makes v table m z =
+    let (r, e) = judged-carried (curve-judged v table m) z in
+    let (_, (s, (_, (o, (long, _))))) = none-hold (curve-refusal-first v table m) r tt in
+    let b = stable (on-rim-is (m .topology) v) o in (
+      e,
+      subst (λ (o : Outcome). CurveMakes v m table (o .room .table)) (sym e)
+          (curve-made v m table (rim-closed (stable (sound-is m) s) v b) (omega arith)),
+    )
+
+-- Nine entries for each vertex of the mesh are enough.
+pub curve-enough : (v : ℕ) (table : List ℤ) (m : Mesh) → Sound m → OnBoundary (m .topology) v
+    → 9 * m .topology .vertices ≤ length table → curveCall v table m .answer .refusal ≡ 0
+curve-enough v table m S b l =
+    let R = rim-closed S v b in
+    let i : v < m .topology .vertices =
+    subst (λ (x : ℕ). x < m .topology .vertices) (R .first) (R .inUse 0 (omega (arith, R .atLeastTwo))) in
+    none-refuses (curve-refusal v table m)
+    ((λ n. n (S .tables)), ((λ n. n S), ((λ n. n i), ((λ n. n b), ((λ s. omega (arith, R .few)), tt)))))
+
+pub same-curves : (v w : ℕ) (table table′ : List ℤ) (m n : Mesh) →
+    let o = curveCall v table m in
+    let q = curveCall w table′ n in
+    o .answer .refusal ≡ 0 → q .answer .refusal ≡ 0
+    → SameRims m n (rim (m .topology) v) (rim (n .topology) w)
+    → (q .answer .ringLength ≡ o .answer .ringLength)
+    × ((i : ℕ) → i < 9 * o .answer .ringLength → getD (q .room .table) i (pos 0) ≡ getD (o .room .table) i (pos 0))
+same-curves v w table table′ m n y z E =
+    let l = rim (m .topology) v in
+    let k = rim (n .topology) w in
+    let (r, e) = judged-carried (curve-judged v table m) y in
+    let (s, f) = judged-carried (curve-judged w table′ n) z in
+    let (_, (_, (_, (_, (long, _))))) = none-hold (curve-refusal-first v table m) r tt in
+    let (_, (_, (_, (_, (long′, _))))) = none-hold (curve-refusal-first w table′ n) s tt in
+    rw (e, f) (
+      E .size,
+      λ i b.
+          getD-fill (9 * length k) (curveAt n k) table′ i (pos 0) (omega arith) (omega (arith, E .size))
+          ∙ same-points E i b
+          ∙ sym (getD-fill (9 * length l) (curveAt m l) table i (pos 0) (omega arith) b),
+    )
 
 -- ---- queries
 

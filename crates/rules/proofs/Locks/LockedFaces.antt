@@ -29,7 +29,7 @@ use Rattle.rules.specs.Calls.{Outcome, refineRefusal, wholeStepCall, loc
 use Rattle.rules.specs.Conditions.{Locked, SomeLocked}
 use Rattle.rules.specs.History.{loads, refines, steps, refinesEach, refinesInBox, setsLock, Call, changes, asks}
 use Rattle.rules.specs.History.{refinesNoted, takesBack, ringOf, positionOf, limitsOf, previewOf, pointSeen}
-use Rattle.rules.specs.History.{trianglesSeen, reports, previewReported, outcome, after}
+use Rattle.rules.specs.History.{trianglesSeen, reports, previewReported, curveOf, outcome, after}
 use Rattle.rules.specs.Lists.{Progress, refineEach, sparesRefusal}
 use Rattle.rules.specs.Notes.{refined, notedTriangle, restored, Accepted, takeBackCall}
 use Rattle.rules.specs.Promises.{refusedWork, refusedAs, SameLocks, Still, LockMakes, Stands, NoLoad, NoClearing}
@@ -68,6 +68,7 @@ refused-mesh (asks (positionOf v)) n m = refl
 refused-mesh (asks (limitsOf table)) n m = refl
 refused-mesh (asks (pointSeen v)) n m = refl
 refused-mesh (asks (trianglesSeen k)) n m = refl
+refused-mesh (asks (curveOf v table)) n m = refl
 refused-mesh (asks (previewReported list spares buffer)) n m =
     refused-work (sparesRefusal spares m) (refineEach list m) spares n m
 refused-mesh (asks (previewOf list spares)) n m = refused-work (sparesRefusal spares m) (refineEach list m) spares n m

@@ -12,9 +12,9 @@ use Rattle.rules.proofs.Mirrors.MirrorLists.{mirrorProgress, handle-all
 use Rattle.rules.proofs.Mirrors.MirrorNotes.{note-mirror, noted-refused, restored-mirror, take-back-refused}
 use Rattle.rules.proofs.Mirrors.MirrorRefusals.{load-refused, refine-refused, step-refused, limit-refused}
 use Rattle.rules.proofs.Mirrors.MirrorRefusals.{lock-refused, ring-refused, position-refused, spares-refused}
-use Rattle.rules.proofs.Mirrors.MirrorRefusals.{view-refused, loaded-mirror}
+use Rattle.rules.proofs.Mirrors.MirrorRefusals.{view-refused, curve-refused, loaded-mirror}
 use Rattle.rules.proofs.Mirrors.MirrorTables.{coordinate-mirror}
-use Rattle.rules.proofs.Mirrors.MirrorWork.{mirrorWork, refine-mirror, step-mirror, limits-mirror}
+use Rattle.rules.proofs.Mirrors.MirrorWork.{mirrorWork, refine-mirror, step-mirror, limits-mirror, curve-mirror}
 use Rattle.rules.proofs.Mirrors.Opposites.{mirror-zero}
 use Rattle.rules.specs.Below.{fill}
 use Rattle.rules.specs.Boxes.{Box, refineInBox, boxCall}
@@ -25,12 +25,13 @@ use Rattle.rules.specs.History.{Call, outcome, after}
 use Rattle.rules.specs.Lists.{Progress, begun, refineEach, allOrNothing, listCall, previewCall}
 use Rattle.rules.specs.Mirror.{mirrorPoint, mirrorTable, mirror, mirrorSpares, mirrorRoom, mirrorOutcome}
 use Rattle.rules.specs.Mirror.{Mirrors, Rounds, load, refine, step, list, box, lock, noted, takeBack, ring}
-use Rattle.rules.specs.Mirror.{position, limit, preview, point, triangles, report, reportForeseen, MirrorsEach}
-use Rattle.rules.specs.Mirror.{none, next, mirrorBox, mirrorRefining}
+use Rattle.rules.specs.Mirror.{position, limit, preview, point, triangles, curve, report, reportForeseen}
+use Rattle.rules.specs.Mirror.{MirrorsEach, none, next, mirrorBox, mirrorRefining}
 use Rattle.rules.specs.Notes.{notedWork, notedCall, takeBackCall}
 use Rattle.rules.specs.Reports as reports
 use Rattle.rules.specs.Reports.{Refining, one, withNote, each, inBox, plainCall, workOf, shortCall, reportIn}
 use Rattle.rules.specs.Reports.{reportedAs, reportedCall}
+use Rattle.rules.specs.Rim.{rim, curveCall}
 use Rattle.rules.specs.Spares.{Spares}
 use Rattle.rules.specs.Split.{Work, atFirst}
 use Rattle.rules.specs.Tables.{Mesh, triangleSlots, withRule}
@@ -160,7 +161,8 @@ module _ (k : ℕ) (m : Mesh) where
 
   pub call-mirror : {c c′ : Call} → Mirrors k c c′ → (Rounds c → m .rule ≡ 2)
       → outcome c′ (mirror k m) ≡ mirrorOutcome k (outcome c m)
-  unfolding loadCall wholeStepCall lockCall limitCall ringCall previewCall viewCall takeBackCall reports.reportForeseen
+  unfolding loadCall wholeStepCall lockCall limitCall ringCall previewCall viewCall curveCall takeBackCall
+      reports.reportForeseen
   call-mirror (load {rule} C) two =
       unless-mirror _ _ (load-refused k m C rule) (ring-room [])
       (worked-mirror _ (ap (λ n. atFirst (withRule rule n)) (loaded-mirror k m C)))
@@ -186,6 +188,9 @@ module _ (k : ℕ) (m : Mesh) where
   call-mirror (point {v}) two = position-mirror v
   call-mirror (triangles {n}) two =
       unless-mirror _ _ (view-refused k m n) (ring-room []) (rw (no-point, ring-room []))
+  call-mirror (curve {v} {table}) two =
+      unless-mirror _ _ (curve-refused k m v table) (table-room table)
+      (rw (curve-mirror k m (rim (m .topology) v) table, no-point, table-room))
 
 pub history-mirror : (k : ℕ) {cs cs′ : List Call} (m : Mesh) → MirrorsEach k cs cs′ m
     → after cs′ (mirror k m) ≡ mirror k (after cs m)

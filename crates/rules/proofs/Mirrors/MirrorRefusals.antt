@@ -13,6 +13,7 @@ use Rattle.rules.specs.Calls.{loadRefusal, refineRefusal, wholeStepRefus
 use Rattle.rules.specs.Calls.{lockRefusal, positionRefusal, viewRefusal, altersLocked, someLocked}
 use Rattle.rules.specs.Lists.{sparesRefusal}
 use Rattle.rules.specs.Mirror.{mirrorTable, mirror, mirrorSpares, MirrorCage}
+use Rattle.rules.specs.Rim.{curveRefusal}
 use Rattle.rules.specs.Sound.{isSound}
 use Rattle.rules.specs.Spares.{Spares, sameSizes}
 use Rattle.rules.specs.Tables.{Mesh, tablesAgree}
@@ -53,6 +54,11 @@ module _ (k : ℕ) (m : Mesh) where
   pub view-refused : (n : ℕ) → viewRefusal n (mirror k m) ≡ viewRefusal n m
   unfolding viewRefusal
   view-refused n = rw (tables-mirror, sound-mirror)
+
+  pub curve-refused : (v : ℕ) (table : List ℤ)
+      → curveRefusal v (mirrorTable k table) (mirror k m) ≡ curveRefusal v table m
+  unfolding curveRefusal
+  curve-refused v table = rw (tables-mirror, sound-mirror, length-mirror k table)
 
   pub same-sizes-mirror : (spares : Spares) → sameSizes (mirrorSpares k spares) (mirror k m) ≡ sameSizes spares m
   unfolding sameSizes

@@ -1,4 +1,5 @@
--- Refines, whole steps and limit positions of a mirrored mesh. What a split places is not rounded by the rule.
+-- Refines, whole steps, limit positions and curves of a mirrored mesh. What a split places is not rounded by the rule,
+-- nor are the points of a curve.
 use Prim.Native.Nat.{ℕ, zero, suc, _+_, _*_, _/_, _%_, _<_}
 use native.Mathlib.Omega.{arith}
 use mathlib.Core.Bool.{Bool, true, false}
@@ -6,9 +7,13 @@ use mathlib.Core.List.{List, [], _∷_}
 use mathlib.Core.Path.{_≡_, refl, sym}
 use lib.Dec.{ltb}
 use lib.IntN.{ℤ}
+use lib.ListN.{length}
 use Rattle.rules.proofs.Mirrors.MirrorTables.{put-mirror, fill-mirror, coordinate-mirror}
 use Rattle.rules.proofs.Mirrors.Opposites.{mirror-zero, mirror-sum, mirror-third, mirror-moved, mirror-limit}
+use Rattle.rules.proofs.Mirrors.Opposites.{mirror-smoothed}
+use Rattle.rules.specs.Below.{fill}
 use Rattle.rules.specs.Mirror.{mirrorAt, mirrorTable, mirror}
+use Rattle.rules.specs.Rim.{curveAt}
 use Rattle.rules.specs.Split.{Work, atFirst, withSplit, withFlip, withMesh, flip, thirdOf, centre, firstThird}
 use Rattle.rules.specs.Split.{secondThird, facePlaced, rimPlaced, settle, settleAll, faceSplit, rimSplit}
 use Rattle.rules.specs.Split.{splitAt, chainEnd, raise, refine}
@@ -78,6 +83,17 @@ module _ (k : ℕ) where
   unfolding refineFirst
   refine-first-mirror zero w = refl
   refine-first-mirror (suc n) w = rw (refine-first-mirror n w) (refine-mirror n (refineFirst n w))
+
+  curve-at-mirror : (m : Mesh) (l : List ℕ) (i : ℕ) → curveAt (mirror k m) l i ≡ mirrorAt k (i % 3) (curveAt m l i)
+  unfolding curveAt
+  curve-at-mirror m l i =
+      let j : i % 3 < 3 = omega arith in
+      simp (coordinate-mirror k m, mirror-smoothed)
+
+  pub curve-mirror : (m : Mesh) (l : List ℕ) (table : List ℤ)
+      → fill (9 * length l) (curveAt (mirror k m) l) (mirrorTable k table)
+      ≡ mirrorTable k (fill (9 * length l) (curveAt m l) table)
+  curve-mirror m l table = fill-mirror k (9 * length l) (curveAt m l) _ table (λ i b. curve-at-mirror m l i)
 
   -- ---- what is rounded by the rule
 

@@ -1,5 +1,5 @@
--- The opposites of numbers have the opposite order, the opposite thirds and, under rule 2, the opposite moves and
--- limits.
+-- The opposites of numbers have the opposite order, the opposite thirds, the opposite points of a curve and, under rule
+-- 2, the opposite moves and limits.
 use Prim.Native.Nat.{ℕ, zero, suc, _+_, _-_, _*_, _/_}
 use native.Mathlib.Nat.{div-eq-of-lt}
 use native.Mathlib.Omega.{arith}
@@ -12,11 +12,13 @@ use Rattle.rules.proofs.Numbers.Decide.{is-same, is-iff}
 use Rattle.rules.proofs.Numbers.Differences.{its, nat, add, neg, sub, scale, equal, at-most, at-most-gives, near}
 use Rattle.rules.proofs.Numbers.Differences.{near-gives}
 use Rattle.rules.proofs.Numbers.Rounding.{nearest-third, nearest-third-only, mean, moved-is, limit-is}
+use Rattle.rules.proofs.Rims.Smoothing.{smoothed-opposite}
 use Rattle.rules.proofs.Soundness.SoundTest.{le-is, in-range-is}
 use Rattle.rules.specs.Mirror.{mirrorAt}
 use Rattle.rules.specs.Notes.{sameNumber}
 use Rattle.rules.specs.Numbers.{InRange, inRange, maxCoordinate, floorDiv, nearestThird, halfUp, rounded, weight}
 use Rattle.rules.specs.Numbers.{moved, limit}
+use Rattle.rules.specs.Rim.{smoothed}
 
 pub and-swapped : (a b : Bool) → (a && b) ≡ (b && a)
 and-swapped true true = refl
@@ -96,6 +98,11 @@ module _ (k j : ℕ) where
 
   pub mirror-third : (s : ℤ) → nearestThird (mirrorAt k j s) ≡ mirrorAt k j (nearestThird s)
   mirror-third s = mirror-is (λ f. nearestThird (f s) ≡ f (nearestThird s)) refl (third-opposite s)
+
+  pub mirror-smoothed : (p : ℕ) (a b c : ℤ)
+      → smoothed p (mirrorAt k j a) (mirrorAt k j b) (mirrorAt k j c) ≡ mirrorAt k j (smoothed p a b c)
+  mirror-smoothed p a b c =
+      mirror-is (λ f. smoothed p (f a) (f b) (f c) ≡ f (smoothed p a b c)) refl (smoothed-opposite p a b c)
 
   module _ {rule : ℕ} (two : rule ≡ 2) (n : ℕ) (p s : ℤ) where
     mirror-mean : (a b : ℕ) → mean rule a b n (mirrorAt k j p) (mirrorAt k j s) ≡ mirrorAt k j (mean rule a b n p s)

@@ -72,7 +72,7 @@ nearest-third-only s q h =
     })
 
 -- halfUp n d is the q with 2 d q ≤ 2 n + d < 2 d q + 2 d: n / d is at least q - 1/2 and below q + 1/2.
-half-up : (n : ℤ) {d : ℕ} → 0 < d → Floor (pos 2 *ℤ n +ℤ pos d) (2 * d) (halfUp n d)
+pub half-up : (n : ℤ) {d : ℕ} → 0 < d → Floor (pos 2 *ℤ n +ℤ pos d) (2 * d) (halfUp n d)
 unfolding halfUp
 half-up n h = floor _ (omega arith)
 

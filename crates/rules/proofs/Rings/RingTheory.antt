@@ -95,7 +95,7 @@ module _ (m : Topology) (G : Glued m) (v s : ℕ) (l : List ℕ) (S : Begins m v
       let b = bit-yes (is-eq (rotate m (sideAt l (length l - 1))) boundary) (of-boundary (length l - 1) last-side x) in
       omega arith
 
-ring-of : (m : Topology) → Glued m → (v : ℕ) → OneFan m v → RingMakes m v
+pub ring-of : (m : Topology) → Glued m → (v : ℕ) → OneFan m v → RingMakes m v
 unfolding ring
 ring-of m G v f =
     let M : MeetsAll m v = fan-met m G v f in
