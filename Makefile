@@ -21,7 +21,7 @@ run:
 lib:
 	@$(RT) staticlib rawplinth >/dev/null
 example: lib
-	@for name in tetrahedron octahedron list; do \
+	@for name in tetrahedron octahedron list shell; do \
 	    $(CC) $(CFLAGS) example/$$name.c target/staticlib/librawplinth.a -o target/$$name && target/$$name || exit 1; \
 	done
 twin: lib

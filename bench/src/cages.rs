@@ -75,6 +75,39 @@ pub fn sphere(parts: i64) -> Cage {
     cage
 }
 
+/// So many points on the circle at a height, as wide as spheres are.
+fn circle(sides: u32, height: i32) -> impl Iterator<Item = [i32; 3]> {
+    (0..sides).map(move |i| {
+        let (sine, cosine) = (f64::from(i) / f64::from(sides) * std::f64::consts::TAU).sin_cos();
+        let [x, y] = [cosine, sine].map(|share| (share * f64::from(RADIUS)).round() as i32);
+        [x, y, height]
+    })
+}
+
+/// An open cylinder with so many vertices on each of its two rims, each of them in three triangles.
+pub fn cylinder(sides: u32) -> Cage {
+    let squares = (0..sides).map(|i| (i, (i + 1) % sides));
+    let halves = squares.flat_map(|(i, j)| [[i, j, j + sides], [i, j + sides, i + sides]]);
+    Cage { points: circle(sides, 0).chain(circle(sides, RADIUS)).collect(), triangles: halves.collect() }
+}
+
+/// A disc with so many vertices on its rim, each of them in two triangles.
+pub fn disc(sides: u32) -> Cage {
+    let triangles = (0..sides).map(|i| [i, (i + 1) % sides, sides]);
+    Cage { points: circle(sides, 0).chain([[0; 3]]).collect(), triangles: triangles.collect() }
+}
+
+/// A disc with three vertices on its rim, and at each of them a fan of so many triangles and two more. The fans go round
+/// a smaller disc.
+pub fn collar(fan: u32) -> Cage {
+    let inner = move |i: u32| 3 + i % (3 * fan);
+    let fans = (0..3 * fan).map(move |i| [i / fan, inner(i + 1), inner(i)]);
+    let between = (0..3).map(move |i| [i, (i + 1) % 3, inner((i + 1) * fan)]);
+    let disc = (0..3 * fan).map(move |i| [inner(i), inner(i + 1), 3 + 3 * fan]);
+    let points = circle(3, 0).chain(circle(3 * fan, RADIUS)).chain([[0; 3]]);
+    Cage { points: points.collect(), triangles: fans.chain(between).chain(disc).collect() }
+}
+
 impl Cage {
     pub fn triangles(&self) -> usize {
         self.triangles.len()
@@ -97,6 +130,22 @@ impl Cage {
     pub fn opened(mut self) -> Cage {
         self.triangles.remove(self.triangles.len() / 2);
         self
+    }
+
+    /// The same figure without what lies above a height, so that it has a rim.
+    pub fn capped(self, height: i32) -> Cage {
+        let below = |corner: &u32| self.points[*corner as usize][2] <= height;
+        let triangles: Vec<[u32; 3]> = self.triangles.iter().filter(|t| t.iter().all(below)).copied().collect();
+        let mut numbers = HashMap::new();
+        let mut points = Vec::new();
+        let mut number = |corner: u32| {
+            *numbers.entry(corner).or_insert_with(|| {
+                points.push(self.points[corner as usize]);
+                points.len() as u32 - 1
+            })
+        };
+        let triangles = triangles.into_iter().map(|corners| corners.map(&mut number)).collect();
+        Cage { points, triangles }
     }
 
     /// The same figure with its triangles, not its vertices, in another order: a shuffle by splitmix64 of a fixed

@@ -23,6 +23,11 @@ pub const LOCKED_STEP: &str = "whole step, locked";
 /// has room for, so that those of the next are cleared.
 pub const NOTED: [&str; 3] = ["refine noted, even", "refine noted, odd", "refine noted, chain of 10"];
 pub const BACKS: [&str; 3] = ["take back, even", "take back, chain of 10", "take back, just above a room"];
+/// The curve of a rim: of a sphere with its cap cut away, of an open cylinder, where all vertices are on one of two
+/// rims, in three triangles each, of a disc, where all but one are on the rim, in two each, and of a collar, where three
+/// are on the rim, each in nearly a sixth of the triangles.
+pub const CURVES: [&str; 4] =
+    ["rim curve, cap cut away", "rim curve, cylinder", "rim curve, disc", "rim curve, collar"];
 /// All triangles for the viewer.
 pub const VIEW: &str = "view triangles";
 /// Lists: of triangles in a row, each refined by one split, and of one triangle again and again, which is passed over
@@ -45,7 +50,7 @@ pub const BATCHES_REPORTED: [[&str; 2]; 3] = [
     ["box of nothing, reported", "box of a twentieth, reported"],
 ];
 
-const NAMES: [&str; 45] = [
+const NAMES: [&str; 49] = [
     "load",
     "soundness",
     "refine even",
@@ -72,6 +77,10 @@ const NAMES: [&str; 45] = [
     "position",
     LIMITS[0],
     LIMITS[1],
+    CURVES[0],
+    CURVES[1],
+    CURVES[2],
+    CURVES[3],
     "view point",
     VIEW,
     LISTS[0],
@@ -123,6 +132,18 @@ impl Case {
         (after.triangles - self.lent.counts.triangles) as usize / 2
     }
 
+    /// The vertices of the rim that a curve is of, and the triangles about them, one by one for each vertex.
+    pub fn rim(&self) -> [usize; 2] {
+        let Call::RimCurve(vertex) = self.call else {
+            return [0; 2];
+        };
+        let rim = fast::rim(&self.lent, vertex);
+        let mut triangles = vec![0; self.lent.counts.vertices as usize];
+        let corners = &self.lent.tables.corners[..3 * self.lent.counts.triangles as usize];
+        corners.iter().for_each(|&corner| triangles[corner as usize] += 1);
+        [rim.len(), rim.iter().map(|&vertex| triangles[vertex as usize]).sum()]
+    }
+
     /// The case by this name: itself, or with a report and entries enough for it.
     fn named(mut self, name: &'static str) -> Case {
         if name != self.plain {
@@ -147,11 +168,20 @@ pub fn all() -> Vec<Case> {
     let [list_sphere, step_sphere, sphere] = [32, 33, 57].map(cages::sphere);
     let rooms = [(2, 160), (4, 400), (7, 1_200), (12, 3_000), (20, 8_000), (33, 22_000)];
     let rooms = rooms.map(|(parts, triangles)| cages::sphere(parts).filled(triangles));
+    let capped =
+        [(1, 0), (10, 8 * RADIUS / 10), (57, 8 * RADIUS / 10)].map(|(parts, z)| cages::sphere(parts).capped(z));
+    let cylinders = [3, 1_000, 16_384].map(cages::cylinder);
+    let discs = [3, 2_000, 32_767].map(cages::disc);
+    let collars = [1, 333, 10_000].map(cages::collar);
     let mut list = Vec::new();
     for name in NAMES {
         let plain = name.strip_suffix(REPORTED).unwrap_or(name);
         let (small, large) = match plain {
             plain if plain == BACKS[2] => (&rooms[..5], &rooms[5]),
+            plain if plain == CURVES[0] => (&capped[..2], &capped[2]),
+            plain if plain == CURVES[1] => (&cylinders[..2], &cylinders[2]),
+            plain if plain == CURVES[2] => (&discs[..2], &discs[2]),
+            plain if plain == CURVES[3] => (&collars[..2], &collars[2]),
             name if is_listed(name) || BOXES.contains(&name) => (&[] as &[Cage], &list_sphere),
             name if STEPS.contains(&name) || name == LOCKED_STEP => (&small[..], &step_sphere),
             _ => (&small[..], &sphere),
@@ -173,6 +203,9 @@ fn case(name: &'static str, cage: &Cage, shuffled: bool) -> Case {
     set_up(&mut lent, Call::Load(rule));
     if LIMITS.contains(&name) {
         lent.table = vec![0; 3 * lent.counts.vertices as usize];
+    }
+    if CURVES.contains(&name) {
+        lent.table = vec![-1; 9 * lent.counts.vertices as usize];
     }
     if name == VIEW {
         lent.view = vec![-1.0; 9 * lent.counts.triangles as usize];
@@ -231,6 +264,7 @@ fn case(name: &'static str, cage: &Cage, shuffled: bool) -> Case {
         name if NOTED.contains(&name) => Call::RefineNoted(triangle),
         name if BACKS.contains(&name) => Call::TakeBack,
         name if LIMITS.contains(&name) => Call::Limit,
+        name if CURVES.contains(&name) => Call::RimCurve(on_boundary(&lent)),
         name if LISTS.contains(&name) => Call::RefineList,
         name if PREVIEWS.contains(&name) => Call::Preview,
         name if BOXES.contains(&name) => boxed(name),
@@ -265,6 +299,13 @@ fn boxed(name: &str) -> Call {
     };
     let [low, high] = [(-RADIUS, from), (RADIUS, 2 * RADIUS)].map(|(side, z)| Point { x: side, y: side, z });
     Call::RefineBox(Panel { low, high, below: 4 })
+}
+
+/// The vertex that the middle one of all sides on the boundary leaves.
+fn on_boundary(lent: &Lent) -> u32 {
+    let sides = lent.tables.corners.iter().zip(&lent.tables.links).take(3 * lent.counts.triangles as usize);
+    let vertices: Vec<u32> = sides.filter(|(_, link)| **link == BOUNDARY).map(|(&corner, _)| corner).collect();
+    vertices[vertices.len() / 2]
 }
 
 /// A triangle of generation 1 whose base is on the boundary: a child of the first triangle there.

@@ -56,6 +56,9 @@ pub fn answer(lent: &mut Lent, call: Call) -> Answer {
         }
         Call::Position(vertex) => Answer::Position(call!(rawplinth_position, lent, vertex)),
         Call::Limit => Answer::Limit(call!(rawplinth_limit, lent, lent.table.as_mut_ptr(), lent.table.len())),
+        Call::RimCurve(vertex) => {
+            Answer::Rim(call!(rawplinth_rim_curve, lent, vertex, lent.table.as_mut_ptr(), lent.table.len()))
+        }
         Call::ViewPoint(vertex) => Answer::Seen(call!(rawplinth_view_point, lent, vertex)),
         Call::ViewTriangles => {
             Answer::Shown(call!(rawplinth_view_triangles, lent, lent.view.as_mut_ptr(), lent.view.len()))

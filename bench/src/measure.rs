@@ -55,6 +55,7 @@ pub fn compare(case: &Case) {
         Answer::Ring(read) => (read.refusal, 0),
         Answer::Position(read) => (read.refusal, 0),
         Answer::Limit(read) => (read.refusal, 0),
+        Answer::Rim(read) => (read.refusal, 0),
         Answer::Seen(seen) => (seen.refusal, 0),
         Answer::Shown(shown) => (shown.refusal, 0),
         Answer::List(worked) => (worked.refusal, worked.splits),

@@ -1,7 +1,7 @@
 //! The table.
 
 use crate::cases::{
-    BACKS, BATCHES_REPORTED, BOXES, Case, LIMITS, LISTS, NOTED, PREVIEWS, REFINES_REPORTED, VIEW, is_listed,
+    BACKS, BATCHES_REPORTED, BOXES, CURVES, Case, LIMITS, LISTS, NOTED, PREVIEWS, REFINES_REPORTED, VIEW, is_listed,
 };
 use crate::measure::{Counted, Timed};
 
@@ -22,6 +22,9 @@ const MOST_WITH_NOTE: u64 = 4_500;
 const MOST_TO_TAKE_BACK: u64 = 3;
 const MOST_FOR_EACH: u64 = 150;
 const MOST_TO_SHOW: u64 = 90;
+/// A curve, beyond soundness: for each vertex of the rim, and for each triangle about it.
+const MOST_TO_CURVE: u64 = 200;
+const MOST_TO_TURN: u64 = 20;
 /// How many instructions the limit positions of a tetrahedron may take, with soundness.
 const MOST_OF_SMALL: u64 = 3_500;
 /// How many instructions beyond those of soundness a list may take: for each triangle in use, to copy it to the spare
@@ -67,6 +70,7 @@ pub fn print(cases: &[Case], counts: Option<&[Counted]>, times: &[Timed]) {
         println!("\n{}", shares("Lists", LISTS, cases, counts));
         println!("{}", shares("Previews", PREVIEWS, cases, counts));
         println!("{}", shares_of_boxes(cases, counts));
+        println!("{}", shares_of_curves(cases, counts));
         println!("{}", shares_of_view(cases, counts));
         println!("{}", shares_of_reports(cases, counts));
     }
@@ -89,6 +93,21 @@ fn shares_of_boxes(cases: &[Case], counts: &[Counted]) -> String {
     let [(nothing, case), (some, boxed)] = [BOXES[0], BOXES[1]].map(|name| beyond(name, cases, counts));
     let (triangle, split) = (nothing / case.triangles as f64, (some - nothing) / boxed.splits_made() as f64);
     format!("Boxes: {triangle:.1} for each triangle in use, {split:.1} for each split.")
+}
+
+/// What a curve takes beyond soundness, by vertex of the rim and by triangle about it: the difference of the largest
+/// cylinder and the largest disc, in order.
+fn shares_of_curves(cases: &[Case], counts: &[Counted]) -> String {
+    let [(three, most), (two, least)] = [CURVES[1], CURVES[2]].map(|name| {
+        let (beyond, case) = beyond(name, cases, counts);
+        let [vertices, triangles] = case.rim().map(|count| count as f64);
+        (beyond / vertices, triangles / vertices)
+    });
+    let triangle = (three - two) / (most - least);
+    format!(
+        "Curves: {:.1} for each vertex of the rim, {triangle:.1} for each triangle about it.",
+        two - least * triangle
+    )
 }
 
 /// What a view takes for each triangle of the largest mesh, in order: soundness, and beyond it.
@@ -174,6 +193,10 @@ fn most_without_report(case: &Case, soundness: u64) -> Option<u64> {
         name if BOXES.contains(&name) => {
             let splits = case.splits_made() as u64;
             Some((MOST_TO_COPY + MOST_TO_LOOK) * case.triangles as u64 + MOST_TO_SPLIT_IN_BOX * splits)
+        }
+        name if CURVES.contains(&name) => {
+            let [vertices, triangles] = case.rim().map(|count| count as u64);
+            Some(MOST_TO_CURVE * vertices + MOST_TO_TURN * triangles)
         }
         VIEW => Some(MOST_TO_SHOW * case.triangles as u64),
         name if NOTED.contains(&name) => Some(MOST_WITH_NOTE),

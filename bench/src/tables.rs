@@ -1,7 +1,7 @@
 //! What a call is lent and what it answers.
 
 pub use crate::rawplinth::{BatchForeseen, BatchReported, BatchWorked, Counts, ForeseenReported, LimitRead};
-pub use crate::rawplinth::{Point, PointSeen, PositionRead, Reported, RingRead, Shown, Worked};
+pub use crate::rawplinth::{Point, PointSeen, PositionRead, Reported, RimRead, RingRead, Shown, Worked};
 pub use crate::rawplinth::{RAWPLINTH_HALF_AWAY as HALF_AWAY, RAWPLINTH_HALF_UP as HALF_UP};
 pub use crate::rawplinth::{RAWPLINTH_NOTE_ENTRIES as NOTE_ENTRIES, RAWPLINTH_REPORT_ENTRIES as REPORT_ENTRIES};
 
@@ -30,7 +30,7 @@ pub struct Lent {
     pub cage: Vec<u8>,
     /// The buffer of a ring query.
     pub buffer: Vec<u32>,
-    /// The table of a limit query.
+    /// The table of a limit query, or of a curve.
     pub table: Vec<i32>,
     /// The table that all triangles are shown in.
     pub view: Vec<f32>,
@@ -56,6 +56,7 @@ pub enum Call {
     Ring(u32),
     Position(u32),
     Limit,
+    RimCurve(u32),
     ViewPoint(u32),
     ViewTriangles,
     RefineList,
@@ -89,6 +90,7 @@ pub enum Answer {
     Ring(RingRead),
     Position(PositionRead),
     Limit(LimitRead),
+    Rim(RimRead),
     Seen(PointSeen),
     Shown(Shown),
     List(BatchWorked),

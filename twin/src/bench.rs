@@ -8,6 +8,7 @@ use std::path::PathBuf;
 use crate::case::Case;
 use crate::claims::{violated_by_box, violated_by_list, violated_by_preview, violated_by_refine};
 use crate::coverage::Coverage;
+use crate::curved::violated_by_curve;
 use crate::locked::violated_by_lock;
 use crate::mirror;
 use crate::noted::{violated_beside_plain, violated_by_note, violated_by_repeat, violated_by_return};
@@ -209,6 +210,7 @@ impl Apart {
             .or_else(|| Apart::tables("spare ", &room.spares, &other_room.spares))
             .or_else(|| Apart::entry("", "ring buffers", &room.ring, &other_room.ring))
             .or_else(|| Apart::entry("", "limit tables", &room.table, &other_room.table))
+            .or_else(|| Apart::entry("", "curve tables", &room.curve, &other_room.curve))
             .or_else(|| Apart::entry("", "view tables", &room.view, &other_room.view))
             .or_else(|| Apart::entry("", "notes", &room.note, &other_room.note))
             .or_else(|| Apart::entry("", "report buffers", &room.report, &other_room.report))
@@ -243,8 +245,8 @@ pub fn difference(what: String, store: Store, call: &Call) -> Box<Difference> {
 }
 
 /// The fourth claim of demand 3, for every refine that is carried out; what every list and every box that is carried
-/// out adds; that a box leaves none; that locked triangles stay as they are; that what is seen is exact; what is noted
-/// and taken back; and what is reported.
+/// out adds; that a box leaves none; that locked triangles stay as they are; that what is seen is exact; that a curve
+/// is that of its rim; what is noted and taken back; and what is reported.
 fn claim_violated(before: &Store, call: &Call, answer: &Answer, after: &Store) -> Option<String> {
     let plain = call.plain();
     let violated = match (plain, answer.refusal) {
@@ -259,6 +261,7 @@ fn claim_violated(before: &Store, call: &Call, answer: &Answer, after: &Store) -
     };
     let violated = violated.or_else(|| violated_by_lock(before, plain, answer, after));
     let violated = violated.or_else(|| violated_by_view(before, plain, answer, after));
+    let violated = violated.or_else(|| violated_by_curve(before, plain, answer, after));
     let violated = violated.or_else(|| violated_by_note(before, plain, answer, after));
     violated.or_else(|| violated_by_report(before, call, answer, after))
 }

@@ -89,6 +89,12 @@ impl Cage {
         self
     }
 
+    /// The same figure without one triangle.
+    pub fn without(mut self, slot: usize) -> Cage {
+        self.triangles.remove(slot);
+        self
+    }
+
     /// Drops vertices without triangles.
     pub fn trimmed(self) -> Cage {
         let used: HashSet<u32> = self.triangles.iter().flatten().copied().collect();
@@ -134,6 +140,15 @@ pub fn sheet(rows: u32, columns: u32) -> Cage {
     Cage::of(squares.flat_map(|(i, j)| halves(at(i, j), at(i + 1, j), at(i + 1, j + 1), at(i, j + 1))).collect())
 }
 
+/// Such a sheet with two square holes, so with three boundaries.
+pub fn pierced() -> Cage {
+    let mut cage = sheet(5, 5);
+    let hole = |triangle: usize| [6, 18].contains(&(triangle / 2));
+    let mut slots = 0..;
+    cage.triangles.retain(|_| !hole(slots.next().expect("endless")));
+    cage
+}
+
 /// An open band with two boundaries.
 pub fn band(sides: u32) -> Cage {
     let ring = (0..sides).map(|i| (i, (i + 1) % sides));
@@ -170,6 +185,7 @@ pub fn shapes() -> Vec<Cage> {
     list.extend([3, 4, 5, 6, 7, 8, 9, 10, 11, 12, 13, 14, 40].map(double_pyramid));
     list.extend([3, 5, 12, 30].map(disc));
     list.extend([3, 4, 9].map(band));
+    list.push(pierced());
     list.extend([1, 2, 3, 7, 25].map(open_fan));
     list.extend([2, 4, 6, 15].map(strip));
     list.push(foil().with(&foil()).with(&tetrahedron()));

@@ -39,7 +39,8 @@ fn without_report(store: &mut Store, rng: &mut Rng) -> Call {
         65..73 => ring(store, rng),
         73..79 => Call::Position { vertex: some_number(store.counts.vertices, rng) },
         79..84 => Call::ViewPoint { vertex: some_number(store.counts.vertices, rng) },
-        84..89 => view(store, rng),
+        84..88 => view(store, rng),
+        88..92 => rim_curve(store, rng),
         _ => set_lock(store, rng),
     }
 }
@@ -60,6 +61,7 @@ pub fn one_of_each(store: &mut Store, rng: &mut Rng) -> Vec<Call> {
         Call::SetLock { triangle: some_triangle(store, rng), on: rng.percent(50) },
         Call::ViewPoint { vertex: some_number(store.counts.vertices, rng) },
         view(store, rng),
+        rim_curve(store, rng),
         Call::RefineNoted { triangle: some_triangle(store, rng) },
         Call::TakeBack,
         Call::RefineList { list: some_list(store, rng) },
@@ -137,6 +139,45 @@ pub fn some_numbers(length: usize, rng: &mut Rng) -> Vec<u32> {
         sign | rng.pick(&[any, exact, 0, any >> 9, 0x7F80_0000, 0x7FC0_0000 | any >> 10, 0x7F80_0001 | any >> 10])
     };
     (0..length).map(|_| some(rng)).collect()
+}
+
+/// The entries that the curve of a vertex's rim takes, none where it is refused.
+pub fn curve_wanted(store: &Store, vertex: u32) -> usize {
+    let mut store = store.clone();
+    store.room.curve = vec![0; 9 * store.vertices()];
+    let answer = Twin::UNBROKEN.answer(&mut store, &Call::RimCurve { vertex }).expect("the twin stays inside");
+    9 * answer.length as usize
+}
+
+/// The lengths of a curve's table that are tried: none, one, a vertex, a point, two and one short, the length wanted,
+/// one and a vertex over, and what does for every rim.
+pub fn curve_lengths(store: &Store, vertex: u32) -> [usize; 10] {
+    let wanted = curve_wanted(store, vertex);
+    let short = |by: usize| wanted.saturating_sub(by);
+    [0, 1, short(9), short(3), short(2), short(1), wanted, wanted + 1, wanted + 9, 9 * store.vertices()]
+}
+
+/// The rim of a vertex as a curve, mostly of one at the boundary, in a table of any content, mostly of a length that
+/// goes.
+fn rim_curve(store: &mut Store, rng: &mut Rng) -> Call {
+    let at_boundary = boundary_vertices(store);
+    let anywhere = at_boundary.is_empty() || rng.percent(25);
+    let vertex = if anywhere { some_number(store.counts.vertices, rng) } else { rng.pick(&at_boundary) };
+    let lengths = curve_lengths(store, vertex);
+    let length = if rng.percent(60) { rng.pick(&lengths[6..]) } else { rng.pick(&lengths) };
+    store.room.curve = some_coordinates(length, rng);
+    Call::RimCurve { vertex }
+}
+
+/// The vertices that a side on the boundary leaves, be the tables sound or not.
+pub fn boundary_vertices(store: &Store) -> Vec<u32> {
+    let sides = store.tables.corners.iter().zip(&store.tables.links).take(3 * store.triangles());
+    sides.filter(|(_, link)| **link == BOUNDARY).map(|(&corner, _)| corner).collect()
+}
+
+/// So many signed entries of any content.
+pub fn some_coordinates(length: usize, rng: &mut Rng) -> Vec<i32> {
+    (0..length).map(|_| rng.word() as i32).collect()
 }
 
 /// So many entries of any content.

@@ -23,6 +23,7 @@ impl Display for Case {
         writeln!(out, "counts {} {} {}", counts.vertices, counts.triangles, counts.rule)?;
         writeln!(out, "ring-buffer{}", numbers(&room.ring))?;
         writeln!(out, "limit-table{}", numbers(&room.table))?;
+        writeln!(out, "curve-table{}", numbers(&room.curve))?;
         writeln!(out, "view-table{}", numbers(&room.view))?;
         writeln!(out, "note{}", numbers(&room.note))?;
         writeln!(out, "report-buffer{}", numbers(&room.report))?;
@@ -43,6 +44,7 @@ fn write_call(out: &mut fmt::Formatter<'_>, call: &Call) -> fmt::Result {
         Call::Ring { vertex } => writeln!(out, "ring {vertex}"),
         Call::Position { vertex } => writeln!(out, "position {vertex}"),
         Call::Limit => writeln!(out, "limit"),
+        Call::RimCurve { vertex } => writeln!(out, "rim-curve {vertex}"),
         Call::ViewPoint { vertex } => writeln!(out, "view-point {vertex}"),
         Call::ViewTriangles => writeln!(out, "view-triangles"),
         Call::RefineList { list } => writeln!(out, "refine-list{}", numbers(list)),
@@ -103,6 +105,7 @@ impl FromStr for Case {
         let room = Room {
             ring: parsed(words_of(&lines, "ring-buffer")?)?,
             table: parsed(words_of(&lines, "limit-table")?)?,
+            curve: parsed(words_of(&lines, "curve-table")?)?,
             view: parsed(words_of(&lines, "view-table")?)?,
             note: parsed(words_of(&lines, "note")?)?,
             report: parsed(words_of(&lines, "report-buffer")?)?,
@@ -150,6 +153,7 @@ fn parsed_call(words: &[&str]) -> Result<Call, String> {
         "ring" => Ok(Call::Ring { vertex: number()? }),
         "position" => Ok(Call::Position { vertex: number()? }),
         "limit" => Ok(Call::Limit),
+        "rim-curve" => Ok(Call::RimCurve { vertex: number()? }),
         "view-point" => Ok(Call::ViewPoint { vertex: number()? }),
         "view-triangles" => Ok(Call::ViewTriangles),
         "refine-list" => Ok(Call::RefineList { list: parsed(&words[1..])? }),

@@ -1,12 +1,13 @@
 //! What a run has met: each refusal of each call, each rule, each kind of linked pair, each chain length over an even
 //! triangle and over the boundary, each ring length of a whole step and of a limit query, halves in these, sides linked
-//! to themselves, what becomes of the entries of lists, foils, boxes, locks, views, notes, and reports.
+//! to themselves, what becomes of the entries of lists, foils, boxes, locks, views, notes, reports, and curves.
 
 use std::collections::{BTreeMap, BTreeSet};
 use std::fmt::{self, Display};
 
 use crate::box_coverage::BoxCoverage;
 use crate::claims::read_chain;
+use crate::curve_coverage::CurveCoverage;
 use crate::fault::Seeded;
 use crate::load::linked_mesh;
 use crate::lock_coverage::LockCoverage;
@@ -41,6 +42,7 @@ const CALLS: &[(&str, &[u32])] = &[
     ("list report", &[0, 1, 7, 8, 9, 11, 17, 19, 23]),
     ("preview rep.", &[0, 1, 7, 8, 9, 11, 17, 19, 23]),
     ("box report", &[0, 1, 7, 9, 11, 17, 18, 19, 23]),
+    ("rim curve", &[0, 1, 7, 8, 24, 25]),
 ];
 
 /// The longest of the lists that have to be met in every length.
@@ -91,6 +93,7 @@ pub struct Coverage {
     views: ViewCoverage,
     notes: NoteCoverage,
     pub reports: ReportCoverage,
+    curves: CurveCoverage,
 }
 
 /// What a load is refused with 6 for.
@@ -143,6 +146,7 @@ fn row(call: &Call) -> usize {
             Call::Preview { .. } => 18,
             _ => 19,
         },
+        Call::RimCurve { .. } => 20,
     }
 }
 
@@ -191,6 +195,7 @@ impl Coverage {
         self.views.note(before, call, answer);
         self.notes.note(before, call, answer);
         self.reports.note(before, call, answer);
+        self.curves.note(before, call, answer);
         match (call, answer.refusal) {
             (&Call::Refine { triangle }, 0) => self.note_refine(before, triangle as usize, answer),
             (&Call::Refine { triangle }, 9) => {
@@ -330,6 +335,8 @@ impl Coverage {
         expect("note written, slots", &self.notes.slots, 1);
         expect("report of a refine, splits", &self.reports.splits, 1);
         expect("report of a refine, flips", &self.reports.flips, 0);
+        expect("curve of a rim, vertices", &self.curves.vertices, 2);
+        expect("coordinate of a curve, 27ths over", &self.curves.rests, 0);
         expect("list carried out, length", &first_of(&self.list_lengths, LONGEST_LIST + 1), 0);
         expect("entry of a list that fails, place", &first_of(&self.failing_places, LONGEST_LIST), 0);
         for (title, names, met) in self.named() {
@@ -354,6 +361,7 @@ impl Coverage {
         named.extend(self.views.named());
         named.extend(self.notes.named());
         named.extend(self.reports.named());
+        named.extend(self.curves.named());
         named
     }
 }
@@ -393,6 +401,8 @@ impl Display for Coverage {
         list("slots of notes written", &self.notes.slots, 1)?;
         list("splits in reports of refines", &self.reports.splits, 1)?;
         list("flips in reports of refines", &self.reports.flips, 0)?;
+        list("vertices of rims read as curves", &self.curves.vertices, 2)?;
+        list("27ths over in coordinates of curves", &self.curves.rests, 0)?;
         for (title, names, met) in self.named() {
             let shown: Vec<String> = names.iter().zip(met).map(|(name, met)| format!("{name}: {met}")).collect();
             writeln!(out, "{title}  {}", shown.join("  "))?;

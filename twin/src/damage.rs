@@ -178,7 +178,7 @@ fn compare_lengths(bench: &mut Bench, store: &Store, lengths: [usize; 5], rng: &
     // Spare tables that agree, or do not, with each other, but not with the mesh's: for the list, the box and what has
     // a report.
     changed.room.spares = store.tables.clone();
-    for call in &of_each[10..] {
+    for call in &of_each[11..] {
         bench.compare_only(&changed, call)?;
     }
     Ok(())

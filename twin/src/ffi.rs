@@ -138,6 +138,12 @@ impl From<LimitRead> for Answer {
     }
 }
 
+impl From<RimRead> for Answer {
+    fn from(RimRead { refusal, length, counts }: RimRead) -> Answer {
+        Answer { refusal, length, counts, ..Answer::default() }
+    }
+}
+
 /// Without the counts, which a point does not answer.
 impl From<PointSeen> for Answer {
     fn from(PointSeen { refusal, x, y, z }: PointSeen) -> Answer {
@@ -268,6 +274,12 @@ impl Service for Library {
                 let mut table = Lent::new("limit table", &room.table, 0x5F5F_5F5F);
                 let read = call!(rawplinth_limit, lent, *counts, table.pointer(), table.length);
                 table.give_back(&mut room.table)?;
+                read.into()
+            }
+            Call::RimCurve { vertex } => {
+                let mut table = Lent::new("curve table", &room.curve, 0x6363_6363);
+                let read = call!(rawplinth_rim_curve, lent, *counts, *vertex, table.pointer(), table.length);
+                table.give_back(&mut room.curve)?;
                 read.into()
             }
             Call::ViewPoint { vertex } => {

@@ -155,6 +155,13 @@ pub fn foil(generation: u8) -> Gluing {
     gluing
 }
 
+/// Two triangles of this generation that share two sides: a pocket, whose rim has two vertices.
+pub fn pocket(generation: u8) -> Gluing {
+    let mut gluing = Gluing::new(vec![generation; 2]);
+    assert!(gluing.glue(1, 5) && gluing.glue(2, 4), "other sides than bases can be glued");
+    gluing
+}
+
 /// Puts a cage into the tables by hand, with one fan at each vertex and be it a foil, which load turns away. Answers
 /// whether it has such fans.
 pub fn store_cage(store: &mut Store, rule: u32, cage: &[u8]) -> bool {

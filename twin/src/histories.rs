@@ -4,6 +4,8 @@ use crate::bench::{Bench, Outcome, difference};
 use crate::cages::{self, Cage};
 use crate::calls;
 use crate::claims;
+use crate::curved::all_rims;
+use crate::curves;
 use crate::damage;
 use crate::handmade;
 use crate::malformed;
@@ -69,6 +71,10 @@ impl History {
         if let Some(what) = wrong.or_else(|| claims::unreached_boundary(&self.store)) {
             return Err(difference(what, self.store.clone(), &look));
         }
+        // Rims of two vertices come from no load.
+        if let Some(rim) = all_rims(&self.store).iter().find(|rim| rim.len() < 3) {
+            return Err(difference(format!("the rim of side {} is narrow", rim[0]), self.store.clone(), &look));
+        }
         if bench.compare_only(&self.store, &look)?.refusal != 0 {
             let what = "tables not sound after an accepted load".to_string();
             return Err(difference(what, self.store.clone(), &look));
@@ -81,8 +87,8 @@ impl History {
     }
 }
 
-/// Every shape, plain and shuffled: loaded or stored, all rings and positions read and all triangles shown, limits and
-/// the whole step tried, refined at random.
+/// Every shape, plain and shuffled: loaded or stored, all rings, positions and curves read and all triangles shown,
+/// limits and the whole step tried, refined at random.
 pub fn shapes(bench: &mut Bench, rng: &mut Rng) -> Outcome {
     for shape in cages::shapes() {
         for shuffle in 0..3 {
@@ -103,11 +109,12 @@ pub fn shapes(bench: &mut Bench, rng: &mut Rng) -> Outcome {
     Ok(())
 }
 
-/// A vertex's position, also in millimetres, and its ring in a buffer that is long, just long enough, and one entry too
-/// short.
+/// A vertex's position, also in millimetres, the curve of its rim, and its ring in a buffer that is long, just long
+/// enough, and one entry too short.
 fn read_vertex(bench: &mut Bench, store: &mut Store, vertex: u32, rng: &mut Rng) -> Outcome {
     bench.compare_only(store, &Call::Position { vertex })?;
     bench.compare_only(store, &Call::ViewPoint { vertex })?;
+    curves::compare_lengths(bench, store, vertex, rng)?;
     store.room.ring = vec![rng.word(); 42];
     let length = bench.compare_only(store, &Call::Ring { vertex })?.length;
     for length in [length, length.saturating_sub(1)] {
@@ -275,8 +282,8 @@ fn all_lists_from(bench: &mut Bench, store: &Store, length: usize) -> Outcome {
     Ok(())
 }
 
-/// Cages that fill the largest tables, a whole step that nearly does, and rings, lists, boxes, reports and views of
-/// tens of thousands, with a refine taken back.
+/// Cages that fill the largest tables, a whole step that nearly does, and rings, lists, boxes, reports, curves and
+/// views of tens of thousands, with a refine taken back.
 pub fn largest(bench: &mut Bench, rng: &mut Rng) -> Outcome {
     let fans = [cages::double_pyramid(32_700), cages::open_fan(32_766)];
     for cage in [cages::torus(128, 256), cages::torus(106, 103)].into_iter().chain(fans) {
@@ -294,6 +301,7 @@ pub fn largest(bench: &mut Bench, rng: &mut Rng) -> Outcome {
         let far = (0..4).map(|_| history.store.point(rng.below(cage.points.len()))[0]).max();
         let slab = Bounds { low: [far.unwrap_or(0), i32::MIN, i32::MIN], ..Bounds::EVERYWHERE };
         reports::of_all(bench, &history.store, slab, rng)?;
+        curves::of_one(bench, &history.store, rng.below(cage.points.len()) as u32, rng)?;
         for _ in 0..2 {
             history.store.room.table = vec![7; 3 * history.store.vertices()];
             bench.compare(&mut history.store, &Call::Limit)?;

@@ -15,6 +15,7 @@ pub fn of_store(store: &Store, axis: usize) -> Store {
     let mut image = store.clone();
     negate(&mut image.tables.positions, axis);
     negate(&mut image.room.table, axis);
+    negate(&mut image.room.curve, axis);
     negate_seen(&mut image.room.view, axis);
     negate(&mut image.room.spares.positions, axis);
     image

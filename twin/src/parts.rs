@@ -5,8 +5,8 @@ use std::time::Instant;
 use crate::bench::{Bench, Outcome};
 use crate::rng::Rng;
 use crate::{
-    boxes, damage, examples, halves, handmade, histories, limits, lists, locks, malformed, note_examples, notes,
-    report_examples, reports, surgery, unsound, views,
+    boxes, curve_examples, curves, damage, examples, halves, handmade, histories, limits, lists, locks, malformed,
+    note_examples, notes, report_examples, reports, surgery, unsound, views,
 };
 
 type Part = fn(&mut Bench, &mut Rng) -> Outcome;
@@ -17,6 +17,10 @@ const PARTS: &[(&str, Part)] = &[
     ("locks as they are told", locks::as_told),
     ("locks set and cleared", locks::set_and_clear),
     ("whole steps with locks", locks::whole_steps),
+    ("curves as they are told", curve_examples::as_told),
+    ("curve tables of all lengths", curves::lengths),
+    ("curves with all refusals", curves::orders),
+    ("coordinates in curves", curves::coordinates),
     ("views as they are told", views::as_told),
     ("view tables of all lengths", views::lengths),
     ("views with all refusals", views::orders),
@@ -58,6 +62,9 @@ const PARTS: &[(&str, Part)] = &[
     ("numbers for locks", locks::values),
     ("several locks", |bench, rng| locks::several(bench, 3_000, rng)),
     ("limit positions", limits::run),
+    ("curves of shells", |bench, rng| curves::of_shells(bench, 12, rng)),
+    ("curves of hand-made tables", |bench, rng| curves::of_hand_made(bench, 400, rng)),
+    ("curves of equal rims", |bench, rng| curves::of_equal_rims(bench, 100, rng)),
     ("lists of all lengths", lists::lengths),
     ("lists without room", lists::without_room),
     ("spare tables of other sizes", lists::spare_sizes),
@@ -101,6 +108,8 @@ pub fn soak_round(bench: &mut Bench, rng: &mut Rng) -> Outcome {
     surgery::random_damage(bench, 30, rng)?;
     locks::several(bench, 20, rng)?;
     views::random(bench, 20, rng)?;
+    curves::of_shells(bench, 1, rng)?;
+    curves::of_hand_made(bench, 10, rng)?;
     notes::late(bench, 4, rng)?;
     notes::back_to_load(bench, 1, rng)?;
     reports::redraws(bench, 4, rng)?;

@@ -82,6 +82,8 @@ pub struct Room {
     pub ring: Vec<u32>,
     /// The table of a limit query.
     pub table: Vec<i32>,
+    /// The table that the curve of a rim is written to.
+    pub curve: Vec<i32>,
     /// The table that all triangles are shown in, each f32 by its bits: so numbers that are equal, or none, differ.
     pub view: Vec<u32>,
     /// The note that a refine writes, and that it is taken back by.
@@ -204,6 +206,10 @@ pub enum Call {
         vertex: u32,
     },
     Limit,
+    /// The rim of a vertex as a curve.
+    RimCurve {
+        vertex: u32,
+    },
     /// A vertex in millimetres.
     ViewPoint {
         vertex: u32,
@@ -259,7 +265,7 @@ pub struct Answer {
     pub refusal: u32,
     pub splits: u32,
     pub flips: u32,
-    /// The entries written to the ring buffer.
+    /// The entries written to the ring buffer, or the vertices of the rim that a curve was written of.
     pub length: u32,
     pub point: [i32; 3],
     /// A point in millimetres, each f32 by its bits.

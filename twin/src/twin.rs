@@ -51,6 +51,7 @@ impl Twin {
             Call::Ring { vertex } => self.ring(tables, counts, *vertex as usize, &mut room.ring),
             Call::Position { vertex } => self.position(tables, counts, *vertex as usize),
             Call::Limit => self.limit(tables, counts, &mut room.table),
+            Call::RimCurve { vertex } => self.rim_curve(tables, counts, *vertex as usize, &mut room.curve),
             Call::ViewPoint { vertex } => self.view_point(tables, counts, *vertex as usize),
             Call::ViewTriangles => self.view_triangles(tables, counts, &mut room.view),
             Call::Reported(call) => self.reported(store, call),

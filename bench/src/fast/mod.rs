@@ -6,13 +6,14 @@ mod list;
 mod load;
 mod note;
 mod report;
+mod rim;
 mod sound;
 mod split;
 mod step;
 
 use crate::tables::{
     Answer, BOUNDARY, BatchForeseen, BatchWorked, Call, Counts, HALF_AWAY, HALF_UP, Lent, LimitRead,
-    MOST_TRIANGLE_SLOTS, MOST_VERTEX_SLOTS, Panel, PointSeen, PositionRead, RingRead, Shown, Tables, Worked,
+    MOST_TRIANGLE_SLOTS, MOST_VERTEX_SLOTS, Panel, PointSeen, PositionRead, RimRead, RingRead, Shown, Tables, Worked,
 };
 
 const LAST_GENERATION: u8 = 20;
@@ -30,6 +31,7 @@ pub fn answer(lent: &mut Lent, call: Call) -> Answer {
         Call::Ring(vertex) => Answer::Ring(fast_ring(tables, *counts, vertex, buffer)),
         Call::Position(vertex) => Answer::Position(fast_position(tables, *counts, vertex)),
         Call::Limit => Answer::Limit(fast_limit(tables, *counts, table)),
+        Call::RimCurve(vertex) => Answer::Rim(fast_rim_curve(tables, *counts, vertex, table)),
         Call::ViewPoint(vertex) => Answer::Seen(fast_view_point(tables, *counts, vertex)),
         Call::ViewTriangles => Answer::Shown(fast_view_triangles(tables, *counts, view)),
         Call::RefineList => Answer::List(fast_refine_list(tables, *counts, list, spares)),
@@ -132,6 +134,15 @@ fn fast_limit(tables: &Tables, counts: Counts, table: &mut [i32]) -> LimitRead {
 
 #[unsafe(no_mangle)]
 #[inline(never)]
+fn fast_rim_curve(tables: &Tables, counts: Counts, vertex: u32, table: &mut [i32]) -> RimRead {
+    match starts(tables, counts).and_then(|starts| rim::curve(tables, &starts, vertex, table)) {
+        Ok(length) => RimRead { refusal: 0, length, counts },
+        Err(refusal) => RimRead { refusal, length: 0, counts },
+    }
+}
+
+#[unsafe(no_mangle)]
+#[inline(never)]
 fn fast_view_point(tables: &Tables, counts: Counts, vertex: u32) -> PointSeen {
     match starts(tables, counts) {
         Ok(_) if vertex < counts.vertices => {
@@ -174,6 +185,12 @@ fn fast_refine_box(tables: &mut Tables, counts: Counts, panel: Panel, spares: &m
         None => boxes::refine_box(tables, counts, panel, spares),
         Some(refusal) => BatchWorked { refusal, counts, ..BatchWorked::default() },
     }
+}
+
+/// The rim of a vertex on the boundary of a sound mesh.
+pub fn rim(lent: &Lent, vertex: u32) -> Vec<u32> {
+    let rim = starts(&lent.tables, lent.counts).and_then(|starts| rim::vertices(&lent.tables, &starts, vertex));
+    rim.expect("the mesh is sound, and the vertex on its boundary")
 }
 
 /// What refuses work in spare tables before it begins: 1, 17, for a box that is none 18, or 7.

@@ -74,6 +74,7 @@ fn cases_are_read_back_as_they_were_written() {
     let mut store = handmade::random(rng);
     store.room.ring = vec![9, 9, 4];
     store.room.table = vec![-1, -1, i32::MAX];
+    store.room.curve = vec![i32::MIN, 5, 5];
     store.room.view = vec![0, 1 << 31, 0x7FA0_0001, u32::MAX];
     store.room.note = vec![0, 4, 4, u32::MAX, 7, 7];
     store.room.report = vec![3, 3, u32::MAX];
@@ -90,6 +91,7 @@ fn cases_are_read_back_as_they_were_written() {
         Call::Ring { vertex: 9 },
         Call::Position { vertex: u32::MAX },
         Call::Limit,
+        Call::RimCurve { vertex: u32::MAX },
         Call::ViewPoint { vertex: 3 },
         Call::ViewTriangles,
         Call::RefineList { list: vec![] },
@@ -132,10 +134,12 @@ fn mirror_images_tell_what_spoils_them() {
     let mut store = handmade::random(rng);
     store.room.spares = fitting_spares(&store, rng);
     store.room.view = some_numbers(99, rng);
+    store.room.curve = vec![4; 9];
     for axis in AXES {
         assert_ne!(mirror::of_store(&store, axis).tables, store.tables);
         assert_ne!(mirror::of_store(&store, axis).room.spares, store.room.spares);
         assert_ne!(mirror::of_store(&store, axis).room.view, store.room.view);
+        assert_ne!(mirror::of_store(&store, axis).room.curve, store.room.curve);
         assert_eq!(mirror::of_store(&mirror::of_store(&store, axis), axis), store);
         let load = Call::Load { rule: 2, cage: malformed::random(rng) };
         let image = mirror::of_call(&load, axis).expect("a load has an image");

@@ -1,6 +1,7 @@
 //! Tests of the twin against the papers, and of the harness against itself.
 
 mod boxes;
+mod curves;
 mod harness;
 mod lists;
 mod locks;
