@@ -1,10 +1,13 @@
 -- A base chain followed in the tables, and whether a refine along it alters a locked triangle.
 use mathlib.Core.Bool.{Bool, _&&_, _||_}
+use mathlib.Core.List.{List}
 use mathlib.Core.Path.{_≡_, sym, ap, _∙_}
-use Prim.Native.Nat.{ℕ, zero, suc, _+_, _*_, _/_, _≤_, _<_}
+use Prim.Native.Nat.{ℕ, zero, suc, _+_, _*_, _/_, _%_, _≤_, _<_}
+use native.Mathlib.Decide.{decLt}
 use native.Mathlib.Numerals.{add-one}
 use native.Mathlib.Omega.{arith}
-use lib.ListN.{length, getD}
+use lib.ListN.{length, getD, List·getD-eq-default}
+use Rattle.rules.proofs.Chains.Altering.{place-altered, end-altered}
 use Rattle.rules.proofs.Chains.Chain.{path-use}
 use Rattle.rules.proofs.Chains.Refine.{chain-path, chain-bound}
 use Rattle.rules.proofs.Numbers.Decide.{any-none, any-more}
@@ -31,10 +34,26 @@ module _ {t : ℕ} {m : Mesh} (S : Sound m) (l : t < m .topology .triangles) whe
   pub few-odd : chainOdd (m .topology) t ≤ 20
   few-odd = omega (arith, chain-bound t m S l, S .generations t l)
 
-  pub follows : {c : Chain} → BaseChain (m .topology) t c → Follows c (m .topology .links)
-  follows C = record { few = omega (arith, C .odd, few-odd); end = rw (C .end) end-used }
+  pub follows : {c : Chain} → BaseChain (m .topology) t c
+      → Follows c (m .topology .links) (m .topology .generations) (m .locks)
+  follows C =
+      let L = S .tables .locks in record {
+        few = omega (arith, C .odd, few-odd);
+        end = rw (C .end) end-used;
+        places = λ i b. omega (arith, C .slots i b, place-altered t m S l i (omega (arith, C .odd)) .0, S .triangleRoom, L);
+        endLock = omega (arith, C .end, end-altered t m S l .0, S .triangleRoom, L);
+        room = omega (arith, L);
+      }
 
 -- ---- the locks
+
+-- An odd triangle has a generation in the table.
+pub odd-inside : (l : List ℕ) (i : ℕ) → getD l i 0 % 2 ≡ 1 → i < length l
+odd-inside l i e = go (decLt i (length l))
+  where
+    go : Dec (i < length l) → i < length l
+    go (yes b) = b
+    go (no b) = absurd (omega (arith, List·getD-eq-default l 0 {n = i} (omega arith)))
 
 -- Tests that agree below n find some number there alike.
 any-same : (n : ℕ) (p q : ℕ → Bool) → ((i : ℕ) → i < n → p i ≡ q i) → any n p ≡ any n q

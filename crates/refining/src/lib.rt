@@ -108,7 +108,7 @@ fn chain_refusal(
     counts: Counts,
     chain: Chain,
 ) -> u32
-    requires { ⌜ Follows chain (now links) ⌝ }
+    requires { ⌜ Follows chain (now links) (now generations) (now locks) ⌝ }
     ensures { λ r. ⌜ ((t : ℕ) (corners : List ℕ) →
         let m = meshNow counts (now (positions .entry)) corners (now (links .entry)) (now (generations .entry))
         (now (locks .entry)) in

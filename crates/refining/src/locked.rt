@@ -15,21 +15,17 @@ ghost use Rattle.tables.specs.declared.Counts.{Counts};
 ghost use Rattle.tables.specs.Lent.{meshNow};
 ghost use Rattle.refining.specs.Locked.{Follows};
 
-// Whether the triangle in slot t is locked; none past the table is.
+// Whether the triangle in slot t is locked.
 fn is_locked(locks: &[u8], t: u32) -> bool
+    requires { ⌜ t < length (now locks) ⌝ }
     ensures { λ r. ⌜ r ≡ eqb (getD (now (locks .entry)) t 0) 1 ⌝ }
 {
-    let slot = t as usize;
-    if slot < locks.len() {
-        locks[slot] == 1
-    } else {
-        false
-    }
+    locks[t as usize] == 1
 }
 
 // Whether one of the first n slots of a list has a locked triangle.
 fn some_locked(locks: &[u8], slots: &[u32; 20], n: u32) -> bool
-    requires { ⌜ n ≤ 20 ⌝ }
+    requires { ⌜ (n ≤ 20) × ((i : ℕ) → i < n → getD (now slots) i 0 < length (now locks)) ⌝ }
     ensures { λ r. ⌜ r ≡ any n (λ i. eqb (getD (now (locks .entry)) (getD (now (slots .entry)) i 0) 0) 1) ⌝ }
 {
     let mut some = false;
@@ -43,6 +39,7 @@ fn some_locked(locks: &[u8], slots: &[u32; 20], n: u32) -> bool
 
 // Whether side h is the base of a locked triangle.
 fn is_locked_base(generations: &[u8], locks: &[u8], h: u32) -> bool
+    requires { ⌜ length (now generations) ≤ length (now locks) ⌝ }
     ensures { λ r. ⌜ ((n : Counts) (p : List ℤ) (c l : List ℕ) →
         let m = meshNow n p c l (now (generations .entry)) (now (locks .entry)) in
         r ≡ (isBase (m .topology) h && locked m (h / 3))) ⌝ }
@@ -55,7 +52,7 @@ fn is_locked_base(generations: &[u8], locks: &[u8], h: u32) -> bool
 
 // Whether the base of a locked triangle meets triangle t.
 fn meets_locked(links: &[u32], generations: &[u8], locks: &[u8], t: u32) -> bool
-    requires { ⌜ 3 * t + 2 < length (now links) ⌝ }
+    requires { ⌜ (3 * t + 2 < length (now links)) × (length (now generations) ≤ length (now locks)) ⌝ }
     ensures { λ r. ⌜ ((n : Counts) (p : List ℤ) (c : List ℕ) →
         let m = meshNow n p c (now (links .entry)) (now (generations .entry)) (now (locks .entry)) in
         r ≡ any 3 (λ i. let h = link (m .topology) (3 * t + i) in isBase (m .topology) h && locked m (h / 3))) ⌝ }
@@ -72,7 +69,7 @@ fn meets_locked(links: &[u32], generations: &[u8], locks: &[u8], t: u32) -> bool
 
 // Whether a locked triangle would be split or flipped by a refine: one of the chain, or one whose base meets its end.
 pub fn alters_locked(links: &[u32], generations: &[u8], locks: &[u8], chain: Chain) -> bool
-    requires { ⌜ Follows chain (now links) ⌝ }
+    requires { ⌜ Follows chain (now links) (now generations) (now locks) ⌝ }
     ensures { λ r. ⌜ ((n : Counts) (p : List ℤ) (c : List ℕ) (t : ℕ) →
         let m = meshNow n p c (now (links .entry)) (now (generations .entry)) (now (locks .entry)) in
         BaseChain (m .topology) t chain → r ≡ altersLocked t m) ⌝ }

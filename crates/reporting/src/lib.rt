@@ -2,6 +2,7 @@
 use split::Chain;
 use split::Work;
 use tables::Counts;
+ghost use mathlib.Core.Bool.{false};
 ghost use mathlib.Core.List.{List, [], _∷_};
 ghost use mathlib.Core.Path.{_≡_};
 ghost use Prim.Native.Nat.{ℕ, _+_, _-_, _*_, _/_, _≤_, _<_};
@@ -83,20 +84,25 @@ fn tell_split(
     tell_flip(links, generations, f + 1, first + 1, report, own)
 }
 
-// The same where the report may have no room at all, as for a call without one.
+// The same unless it is not to be told, as in a call without a report, or the report has no room left.
 fn tell_next(
     links: &[u32],
     generations: &[u8],
     f: u32,
     v: u32,
+    telling: bool,
     report: &mut [u32],
     at: usize,
 ) -> usize
     requires { ⌜ (3 * v + 2 < length (now links)) × (f < 4294967295) ⌝ }
-    ensures { λ r. ⌜ ((n : Counts) (corners : List ℕ) → f ≡ n .triangles →
+    ensures { λ r. ⌜ ((«telling» ≡ false → length (now (report .entry)) ≤ at) →
+        (n : Counts) (corners : List ℕ) → f ≡ n .triangles →
         let m = topologyNow n corners (now (links .entry)) (now (generations .entry)) in
-        Tells (splitTold m v) (now (report .entry)) (now (report .exit)) at r) ⌝ }
+        Tells (splitTold m v) (now (report .entry)) (now (report .exit)) at r) × («telling» ≡ false → r ≡ at) ⌝ }
 {
+    if !telling {
+        return at;
+    }
     if report.len() <= at {
         return at;
     }
@@ -178,6 +184,7 @@ pub fn refine(
         (now (positions .exit)) (now (corners .exit)) (now (links .exit)) (now (generations .exit)) (now (locks .exit))
         ≡ w) × Told (w .report) (now (report .entry)) (now (report .exit)) at) ⌝ }
 {
+    let telling = at < report.len();
     let slots = chain.slots;
     let mut work = Work {
         vertices: counts.vertices,
@@ -189,7 +196,15 @@ pub fn refine(
     let mut end = chain.end;
     let mut told = at;
     while 0 < left {
-        told = tell_next(links, generations, work.triangles, end, report, told);
+        told = tell_next(
+            links,
+            generations,
+            work.triangles,
+            end,
+            telling,
+            report,
+            told,
+        );
         work = split::split_at(positions, corners, links, generations, locks, work, end);
         left -= 1;
         if 0 < left {

@@ -1,9 +1,13 @@
 -- `reporting::refine` meets its contract: the loop of refine.
 use borrow.Author.Needs.{needs}
-use Prim.Native.Nat.{ℕ, _-_, _<_}
+use borrow.Author.Tests.{ltb-false}
+use Prim.Native.Nat.{ℕ, _-_, _≤_, _<_}
 use native.Mathlib.Omega.{arith}
+use mathlib.Core.Bool.{false}
 use mathlib.Core.List.{List, []}
+use lib.Dec.{ltb}
 use lib.IntN.{ℤ}
+use lib.ListN.{length}
 use mathlib.Core.Path.{_≡_, refl, ap, subst}
 use Rattle.rules.proofs.Calls.Carried.{RefineFound}
 use Rattle.rules.proofs.Chains.RefineLoop.{Refining, refining-begins, refining-ends, few-splits}
@@ -22,15 +26,17 @@ use Rattle.reporting.proofs.refine.Tie as tie
 mod Turns
 
 abbrev Inv-loop : tie.InvT-loop
-Inv-loop p₀ c₀ l₀ g₀ k₀ t r₀ at slots work₀ _ _ _ p c l g k r work left end told =
+Inv-loop p₀ c₀ l₀ g₀ k₀ t r₀ at telling slots work₀ _ _ _ p c l g k r work left end told =
     ((rule : ℕ) →
     let m = workNow rule [] work₀ p₀ c₀ l₀ g₀ k₀ .mesh in
     RefineFound t m
-    → (report : List ℕ) × Refining t m slots left (workNow rule report work p c l g k) × Tells report r₀ r at told)
+    → (report : List ℕ) × Refining t m slots left (workNow rule report work p c l g k)
+    × Tells report r₀ r at told)
     × (0 < left → end ≡ chainEnd (workNow 0 [] work p c l g k .mesh .topology) t)
+    × (telling ≡ false → length r ≤ told)
 
 abbrev μ-loop : tie.MeasureT-loop
-μ-loop _ _ _ _ _ _ _ _ _ _ _ _ _ _ _ _ _ _ _ _ left _ _ = left
+μ-loop _ _ _ _ _ _ _ _ _ _ _ _ _ _ _ _ _ _ _ _ _ left _ _ = left
 
 -- In the loop, with splits left.
 module _ (c : tie.In-loop Inv-loop μ-loop) where
@@ -85,14 +91,25 @@ module _ (c : tie.After-split-at Inv-loop μ-loop) where
       (args .locks .now) .mesh in
       RefineFound (args .t) m
       → (report : List ℕ) × Refining (args .t) m (args .chain .slots) (loop-head at .loop .left - 1) (next rule report)
-      × Tells report (args .report .now) (at-tell .tell-next .last .1 .1 .1 .1 .0) (args .at) (at-tell .tell-next .result)
+      × Tells report (args .report .now) (at-tell .tell-next .last .1 .1 .1 .1 .1 .0) (args .at) (at-tell .tell-next .result)
   turned rule R =
       let (before, N, T) = loop-head at .loop .inv .0 rule R in
       let (report, e) = c .split-at .ensures rule before in (
         report,
         turn-on R N (more at) (at-end at) (next rule report) e,
         turn-told R N (more at) (at-end at) (next rule report) e T
-            (at-tell .tell-next .ensures (countsOf rule (loop-head at .loop .work)) (loop-head at .loop .corners) refl),
+            (at-tell .tell-next .ensures .0 (loop-head at .loop .inv .2) (countsOf rule (loop-head at .loop .work))
+            (loop-head at .loop .corners) refl),
+      )
+
+  untold : ltb (start at .args .at) (length (start at .args .report .now)) ≡ false
+      → length (at-tell .tell-next .last .1 .1 .1 .1 .1 .0) ≤ at-tell .tell-next .result
+  untold f =
+      omega (
+        arith,
+        loop-head at .loop .inv .2 f,
+        at-tell .tell-next .kept .1 .1 .1 .1 .1 .0,
+        at-tell .tell-next .ensures .1 f,
       )
 
 splits-requires : tie.Need-splits-requires Inv-loop μ-loop
@@ -109,6 +126,7 @@ loop-holds c =
         tells-none _ _,
       ),
       λ _. chain .end,
+      λ f. ltb-false (start .args .at) (length (start .args .report .now)) f,
     )
 
 tell-next-requires : tie.Need-tell-next-requires Inv-loop μ-loop
@@ -149,6 +167,7 @@ loop-again c =
           turn-end (start at-loop .pre .0) (so-far at-loop .1) (more at-loop) (at-end at-loop) _
           (at-split .split-at .ensures (start at-loop .args .counts .rule) (so-far at-loop .0) .1) j _
           (c .across-last .ensures),
+      untold at-split,
     )
 
 loop-less-2 : tie.Need-loop-less-2 Inv-loop μ-loop
@@ -157,7 +176,7 @@ loop-less-2 c = search needs
 loop-again-2 : tie.Need-loop-again-2 Inv-loop μ-loop
 loop-again-2 c =
     let at-split = c .before .before .before .before .before .before .before .before .before .before in
-    (turned at-split, λ j. absurd (omega (arith, c .if1 .left)))
+    (turned at-split, λ j. absurd (omega (arith, c .if1 .left)), untold at-split)
 
 -- What holds of the work at the end.
 ended : (c : tie.After-loop Inv-loop μ-loop) →

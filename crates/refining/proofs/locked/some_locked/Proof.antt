@@ -31,7 +31,9 @@ element-copy-out-is-locked : tie.Need-element-copy-out-is-locked Inv-loop μ-loo
 element-copy-out-is-locked c = search needs
 
 is-locked-requires : tie.Need-is-locked-requires Inv-loop μ-loop
-is-locked-requires c κs = search needs
+is-locked-requires c κs =
+    let head = c .before .before in
+    head .before .before .pre .1 (head .loop .i) (omega arith)
 
 add-i : tie.Need-add-i Inv-loop μ-loop
 add-i c = search needs
