@@ -5,6 +5,7 @@ use mathlib.Core.List.{List, [], _∷_}
 use mathlib.Core.Logic.{_≢_}
 use mathlib.Core.Path.{_≡_, refl, sym, ap, _∙_}
 use Prim.Native.Nat.{ℕ}
+use native.Mathlib.Omega.{arith}
 use Rattle.rules.proofs.Boxes.BoxCall.{box-sound}
 use Rattle.rules.proofs.Calls.FirstThatHolds.{refuses, carries}
 use Rattle.rules.proofs.Lists.ListCall.{spares-sound}
@@ -16,36 +17,50 @@ use Rattle.rules.specs.Spares.{Spares, sameSizes}
 use Rattle.rules.specs.Tables.{Mesh, tablesAgree}
 use Rattle.refining.proofs.Refusing.{sound-standing}
 use Rattle.refining.specs.Batches.{MayWork, listDone, onlyRead}
+use Rattle.refining.specs.Standing.{standing}
 use Rattle.boxing.specs.Boxing.{boxDone}
 use Rattle.batches.specs.Working.{workRefusal}
 
--- ---- the first refusal, by the answers of the tests
+-- ---- the first refusal, by the mesh's own and the answers of the tests
+
+-- What the first refusal of a mesh tells of its tests: whether its tables agree (a), and whether it is sound (d).
+tables-fail : (a d : Bool) → 1 ≡ firstOf (1 if not a ∷ 7 if not d ∷ []) → a ≡ false
+tables-fail false d e = refl
+tables-fail true true e = absurd (omega arith)
+tables-fail true false e = absurd (omega arith)
+
+tables-pass : (a d : Bool) (r : ℕ) → r ≡ firstOf (1 if not a ∷ 7 if not d ∷ []) → r ≢ 1 → a ≡ true
+tables-pass true d r e x = refl
+tables-pass false d r e x = absurd (x e)
+
+sound-alone : (a d : Bool) → a ≡ true → firstOf (1 if not a ∷ 7 if not d ∷ []) ≡ firstOf (7 if not d ∷ [])
+sound-alone a d e = rw e refl
 
 module _ (s : Spares) (m : Mesh) (fits : Bool) where
   by-tests : {a b c d : Bool} → tablesAgree m ≡ a → sameSizes s m ≡ b → fits ≡ c → isSound m ≡ d
       → firstOf (1 if not a ∷ 17 if not b ∷ 18 if not c ∷ 7 if not d ∷ []) ≡ workRefusal fits s m
   by-tests a b c d = rw (a, b, c, d)
 
-  module _ (r : Bool) (a : r ≡ tablesAgree m) where
-    pub work-one : not r ≡ true → 1 ≡ workRefusal fits s m
-    work-one x = by-tests (sym a ∙ not-true r x) refl refl refl
+  module _ (bad : ℕ) (e : bad ≡ standing m) where
+    pub work-one : bad ≡ 1 → 1 ≡ workRefusal fits s m
+    work-one z = by-tests (tables-fail (tablesAgree m) (isSound m) (sym z ∙ e)) refl refl refl
 
-    module _ (x : not r ≡ false) (q : Bool) (b : q ≡ sameSizes s m) where
-      pub work-seventeen : not q ≡ true → 17 ≡ workRefusal fits s m
-      work-seventeen y = by-tests (sym a ∙ not-false r x) (sym b ∙ not-true q y) refl refl
+    module _ (x : bad ≢ 1) where
+      agree : tablesAgree m ≡ true
+      agree = tables-pass (tablesAgree m) (isSound m) bad e x
 
-      module _ (y : not q ≡ false) where
-        pub work-eighteen : not fits ≡ true → 18 ≡ workRefusal fits s m
-        work-eighteen z = by-tests (sym a ∙ not-false r x) (sym b ∙ not-false q y) (not-true fits z) refl
+      module _ (q : Bool) (b : q ≡ sameSizes s m) where
+        pub work-seventeen : not q ≡ true → 17 ≡ workRefusal fits s m
+        work-seventeen y = by-tests agree (sym b ∙ not-true q y) refl refl
 
-        module _ (z : not fits ≡ false) (k : Bool) (c : k ≡ isSound m) where
-          pub work-seven : not k ≡ true → 7 ≡ workRefusal fits s m
-          work-seven u =
-              by-tests (sym a ∙ not-false r x) (sym b ∙ not-false q y) (not-false fits z) (sym c ∙ not-true k u)
+        module _ (y : not q ≡ false) where
+          pub work-eighteen : not fits ≡ true → 18 ≡ workRefusal fits s m
+          work-eighteen z = by-tests agree (sym b ∙ not-false q y) (not-true fits z) refl
 
-          pub work-none : not k ≡ false → 0 ≡ workRefusal fits s m
-          work-none u =
-              by-tests (sym a ∙ not-false r x) (sym b ∙ not-false q y) (not-false fits z) (sym c ∙ not-false k u)
+          pub work-sound : not fits ≡ false → bad ≡ workRefusal fits s m
+          work-sound z =
+              e ∙ sound-alone (tablesAgree m) (isSound m) agree
+              ∙ by-tests agree (sym b ∙ not-false q y) (not-false fits z) refl
 
 -- ---- what comes of a box
 

@@ -2,9 +2,11 @@
 use tables::Counts;
 ghost use mathlib.Core.Path.{_≡_};
 ghost use Rattle.tables.specs.Lent.{meshNow, sparesNow};
+ghost use Rattle.refining.specs.Standing.{standing};
 ghost use Rattle.batches.specs.Working.{workRefusal};
 
-// The first refusal of a call that works in spare tables: 1, 17, 18 where its arguments do not fit, 7 or none.
+// The first refusal of a call that works in spare tables: 1, 17, 18 where its arguments do not fit, 7 or none. The
+// mesh's own, 1, 7 or none, is `bad`.
 pub fn refusal(
     positions: &[i32],
     corners: &[u32],
@@ -12,6 +14,7 @@ pub fn refusal(
     generations: &[u8],
     locks: &[u8],
     counts: Counts,
+    bad: u32,
     fits: bool,
     spare_positions: &[i32],
     spare_corners: &[u32],
@@ -19,13 +22,15 @@ pub fn refusal(
     spare_generations: &[u8],
     spare_locks: &[u8],
 ) -> u32
+    requires { ⌜ bad ≡ standing (meshNow counts (now positions) (now corners) (now links) (now generations)
+        (now locks)) ⌝ }
     ensures { λ r. ⌜
         r ≡ workRefusal fits (sparesNow (now («spare_positions» .entry)) (now («spare_corners» .entry))
         (now («spare_links» .entry)) (now («spare_generations» .entry)) (now («spare_locks» .entry)))
         (meshNow counts (now (positions .entry)) (now (corners .entry)) (now (links .entry))
         (now (generations .entry)) (now (locks .entry))) ⌝ }
 {
-    if !soundness::tables_agree(positions, corners, links, generations, locks) {
+    if bad == 1 {
         return 1;
     }
     if !tables::copies::same_sizes(
@@ -46,17 +51,5 @@ pub fn refusal(
     if !fits {
         return 18;
     }
-    if !soundness::is_sound(
-        positions,
-        corners,
-        links,
-        generations,
-        locks,
-        counts.vertices,
-        counts.triangles,
-        counts.rule,
-    ) {
-        return 7;
-    }
-    0
+    bad
 }

@@ -1,5 +1,5 @@
-// The public calls that need no spare tables. None asks anything of its caller: what cannot be done is refused, and
-// then nothing lent is written.
+// The public calls that need no spare tables. None asks anything of its caller, but those named `known` are to be told
+// the first refusal of the mesh. What cannot be done is refused, and then nothing lent is written.
 use points::Point;
 use tables::Counts;
 use tables::Worked;
@@ -9,6 +9,7 @@ ghost use Prim.Native.Nat.{_<_};
 ghost use lib.ListN.{length, set};
 ghost use Rattle.rules.specs.Calls.{loadCall, refineCall, wholeStepCall, lockCall, limitCall, ringCall, positionCall};
 ghost use Rattle.rules.specs.Notes.{notedCall, takeBackCall};
+ghost use Rattle.rules.specs.Tables.{Mesh};
 ghost use Rattle.tables.specs.Answers.{workedOutcome};
 ghost use Rattle.tables.specs.Lent.{meshNow};
 ghost use Rattle.noting.specs.Noting.{notedOutcome};
@@ -203,7 +204,7 @@ pub fn take_back(
 }
 
 // The whole smoothing step on a mesh whose first refusal is known.
-fn whole_step_known(
+pub fn whole_step_known(
     positions: &mut [i32],
     corners: &mut [u32],
     links: &mut [u32],
@@ -250,21 +251,10 @@ pub fn whole_step(
     whole_step_known(positions, corners, links, generations, locks, counts, bad)
 }
 
-// The refusal of a call that names slot i of the first n, or 0.
-fn slot_refusal(
-    positions: &[i32],
-    corners: &[u32],
-    links: &[u32],
-    generations: &[u8],
-    locks: &[u8],
-    counts: Counts,
-    n: u32,
-    i: u32,
-) -> u32
-    ensures { λ r. ⌜ r ≡ slotRefusal n i (meshNow counts (now (positions .entry)) (now (corners .entry))
-        (now (links .entry)) (now (generations .entry)) (now (locks .entry))) ⌝ }
+// The refusal of a call that names slot i of the first n, on a mesh whose own first refusal is `bad`; or 0.
+fn slot_refusal(n: u32, i: u32, bad: u32) -> u32
+    ensures { λ r. ⌜ ((m : Mesh) → bad ≡ standing m → r ≡ slotRefusal n i m) ⌝ }
 {
-    let bad = first_refusal(positions, corners, links, generations, locks, counts);
     if bad != 0 {
         return bad;
     }
@@ -287,6 +277,38 @@ fn set_lock(locks: &mut [u8], t: u32, on: bool)
     }
 }
 
+// Sets or clears the lock of triangle t of a mesh whose first refusal is known.
+pub fn lock_known(
+    positions: &[i32],
+    corners: &[u32],
+    links: &[u32],
+    generations: &[u8],
+    locks: &mut [u8],
+    counts: Counts,
+    t: u32,
+    on: bool,
+    bad: u32,
+) -> Worked
+    requires { ⌜ bad ≡ standing (meshNow counts (now positions) (now corners) (now links) (now generations)
+        (now locks)) ⌝ }
+    ensures { λ r. ⌜
+        workedOutcome r (now (positions .entry)) (now (corners .entry)) (now (links .entry))
+        (now (generations .entry)) (now (locks .exit))
+        ≡ lockCall on t (meshNow counts (now (positions .entry)) (now (corners .entry)) (now (links .entry))
+        (now (generations .entry)) (now (locks .entry))) ⌝ }
+{
+    let refusal = slot_refusal(counts.triangles, t, bad);
+    if refusal == 0 {
+        set_lock(locks, t, on);
+    }
+    Worked {
+        refusal,
+        splits: 0,
+        flips: 0,
+        counts,
+    }
+}
+
 // Sets or clears the lock of triangle t.
 pub fn lock(
     positions: &[i32],
@@ -304,25 +326,18 @@ pub fn lock(
         ≡ lockCall on t (meshNow counts (now (positions .entry)) (now (corners .entry)) (now (links .entry))
         (now (generations .entry)) (now (locks .entry))) ⌝ }
 {
-    let refusal = slot_refusal(
+    let bad = first_refusal(positions, corners, links, generations, locks, counts);
+    lock_known(
         positions,
         corners,
         links,
         generations,
         locks,
         counts,
-        counts.triangles,
         t,
-    );
-    if refusal == 0 {
-        set_lock(locks, t, on);
-    }
-    Worked {
-        refusal,
-        splits: 0,
-        flips: 0,
-        counts,
-    }
+        on,
+        bad,
+    )
 }
 
 // Writes the limit position of each vertex into the table.
@@ -481,16 +496,8 @@ pub fn position(
         ≡ positionCall v (meshNow counts (now (positions .entry)) (now (corners .entry)) (now (links .entry))
         (now (generations .entry)) (now (locks .entry))) ⌝ }
 {
-    let refusal = slot_refusal(
-        positions,
-        corners,
-        links,
-        generations,
-        locks,
-        counts,
-        counts.vertices,
-        v,
-    );
+    let bad = first_refusal(positions, corners, links, generations, locks, counts);
+    let refusal = slot_refusal(counts.vertices, v, bad);
     if refusal != 0 {
         return PositionRead {
             refusal,

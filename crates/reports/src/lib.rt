@@ -113,6 +113,7 @@ pub fn refine_list(
         (now (report .entry)) (meshNow counts (now (positions .entry)) (now (corners .entry))
         (now (links .entry)) (now (generations .entry)) (now (locks .entry))) ⌝ }
 {
+    let bad = mesh::first_refusal(positions, corners, links, generations, locks, counts);
     let refusal = batches::spares::refusal(
         positions,
         corners,
@@ -120,6 +121,7 @@ pub fn refine_list(
         generations,
         locks,
         counts,
+        bad,
         true,
         spare_positions,
         spare_corners,
@@ -177,6 +179,7 @@ pub fn preview(
         (now («spare_generations» .entry)) (now («spare_locks» .entry)))
         (now (report .entry)) m) ⌝ }
 {
+    let bad = mesh::first_refusal(positions, corners, links, generations, locks, counts);
     let refusal = batches::spares::refusal(
         positions,
         corners,
@@ -184,6 +187,7 @@ pub fn preview(
         generations,
         locks,
         counts,
+        bad,
         true,
         spare_positions,
         spare_corners,
@@ -246,6 +250,7 @@ pub fn refine_box(
         (now (report .entry)) (meshNow counts (now (positions .entry)) (now (corners .entry))
         (now (links .entry)) (now (generations .entry)) (now (locks .entry))) ⌝ }
 {
+    let bad = mesh::first_refusal(positions, corners, links, generations, locks, counts);
     let refusal = batches::spares::refusal(
         positions,
         corners,
@@ -253,6 +258,7 @@ pub fn refine_box(
         generations,
         locks,
         counts,
+        bad,
         points::box_fits(low, high, below),
         spare_positions,
         spare_corners,

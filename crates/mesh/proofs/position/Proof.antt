@@ -15,27 +15,38 @@ mesh-of c =
     meshNow (args .counts) (args .positions .now) (args .corners .now) (args .links .now) (args .generations .now)
     (args .locks .now)
 
+first-refusal-requires : tie.Need-first-refusal-requires
+first-refusal-requires c κs = search needs
+
 slot-refusal-requires : tie.Need-slot-refusal-requires
 slot-refusal-requires c κs = search needs
 
 returns : tie.Need-returns
 returns c =
-    let start = c .before .before .before .before .before .before in
-    position-refused (start .args .v) (mesh-of start) _ (c .before .slot-refusal .ensures) (c .if1 .taken)
+    let at = c .before in
+    let start = at .before .before .before .before .before .before in
+    let m = mesh-of start in
+    position-refused (start .args .v) m _ (at .slot-refusal .ensures m (at .before .first-refusal .ensures))
+    (c .if1 .taken)
 
 point-at-requires : tie.Need-point-at-requires
 point-at-requires c κs =
-    let start = c .before .before .before .before .before .before in
-    let A = position-agrees (start .args .v) (mesh-of start) _ (c .before .slot-refusal .ensures) (c .if1 .left) in
+    let at = c .before in
+    let start = at .before .before .before .before .before .before in
+    let m = mesh-of start in
+    let e = at .slot-refusal .ensures m (at .before .first-refusal .ensures) in
+    let A = position-agrees (start .args .v) m _ e (c .if1 .left) in
     record { whole = A .positions; few = A .fewVertices }
 
 returns-2 : tie.Need-returns-2
 returns-2 c =
     let at-if1 = c .before in
-    let start = at-if1 .before .before .before .before .before .before in
+    let at = at-if1 .before in
+    let start = at .before .before .before .before .before .before in
     let m = mesh-of start in
+    let e = at .slot-refusal .ensures m (at .before .first-refusal .ensures) in
     ap (λ (p : Point). outcomeOf (answerOf 0 0 0 0 (p .x, p .y, p .z) m) m noRoom) (c .point-at .ensures)
-    ∙ position-carried (start .args .v) m _ (at-if1 .before .slot-refusal .ensures) (at-if1 .if1 .left)
+    ∙ position-carried (start .args .v) m _ e (at-if1 .if1 .left)
 
 pub position-spec : {M : Type 1} → statement M
-position-spec = tie.close (tie.spec slot-refusal-requires returns point-at-requires returns-2)
+position-spec = tie.close (tie.spec first-refusal-requires slot-refusal-requires returns point-at-requires returns-2)

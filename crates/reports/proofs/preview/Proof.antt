@@ -6,6 +6,9 @@ use borrow.Author.Needs.{needs}
 use Rattle.reports.proofs.preview.Statement.{statement}
 use Rattle.reports.proofs.preview.Tie as tie
 
+first-refusal-requires : tie.Need-first-refusal-requires
+first-refusal-requires c κs = search needs
+
 refusal-requires : tie.Need-refusal-requires
 refusal-requires c κs = search needs
 
@@ -67,6 +70,7 @@ pub preview-spec : {M : Type 1} → statement M
 preview-spec =
     tie.close
     (tie.spec
+    first-refusal-requires
     refusal-requires
     refused-requires
     same-length

@@ -7,6 +7,9 @@ use borrow.Author.Needs.{needs}
 use Rattle.reports.proofs.refine_box.Statement.{statement}
 use Rattle.reports.proofs.refine_box.Tie as tie
 
+first-refusal-requires : tie.Need-first-refusal-requires
+first-refusal-requires c κs = search needs
+
 box-fits-requires : tie.Need-box-fits-requires
 box-fits-requires c κs = search needs
 
@@ -60,9 +63,9 @@ refine-box-reported-requires c κs =
     let at-if1 = to-if1 .before .before in
     let at-refusal = at-if1 .before in
     let at-fits = at-refusal .before .before .before .before .before .before in
-    let to-start = at-fits .before .before .before .before .before .before .before .before .before in
-    let at-start = to-start .before .before .before .before .before .before in
-    let args = at-start .args in
+    let at-first = at-fits .before .before .before .before .before .before in
+    let to-start = at-first .before .before .before .before .before .before .before .before .before in
+    let args = to-start .before .before .before .before .before .before .args in
     box-may-work _ _ (boxOf (args .low) (args .high) (args .below)) (at-fits .box-fits .ensures) _
     (at-refusal .refusal .ensures) (at-if1 .if1 .left)
 
@@ -115,6 +118,7 @@ pub refine-box-spec : {M : Type 1} → statement M
 refine-box-spec =
     tie.close
     (tie.spec
+    first-refusal-requires
     box-fits-requires
     refusal-requires
     refused-requires

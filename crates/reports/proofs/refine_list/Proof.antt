@@ -21,6 +21,9 @@ spares-of c =
     sparesNow (args .spare-positions .now) (args .spare-corners .now) (args .spare-links .now)
     (args .spare-generations .now) (args .spare-locks .now)
 
+first-refusal-requires : tie.Need-first-refusal-requires
+first-refusal-requires c κs = search needs
+
 refusal-requires : tie.Need-refusal-requires
 refusal-requires c κs = search needs
 
@@ -108,16 +111,19 @@ returns-2 c =
     let at-list = to-list2 .before .before in
     let to-if1 = at-list .before .before .before .before .before .before .before .before .before in
     let at-if1 = to-if1 .before .before .before in
-    let to-start = at-if1 .before .before .before .before .before .before .before .before .before .before .before in
-    let start = to-start .before .before .before .before .before .before .before .before .before .before .before in
+    let at-refusal = at-if1 .before in
+    let at-first = at-refusal .before .before .before .before .before .before .before .before .before .before .before in
+    let to-start = at-first .before .before .before .before .before .before .before .before in
+    let start = to-start .before .before .before .before .before .before .before .before in
     at-list .refine-list-reported .ensures
-    ∙ list-carried (spares-of start) (mesh-of start) (start .args .report .now) _ (at-if1 .before .refusal .ensures)
+    ∙ list-carried (spares-of start) (mesh-of start) (start .args .report .now) _ (at-refusal .refusal .ensures)
     (start .args .list .now) (at-if1 .if1 .left)
 
 pub refine-list-spec : {M : Type 1} → statement M
 refine-list-spec =
     tie.close
     (tie.spec
+    first-refusal-requires
     refusal-requires
     refused-requires
     same-length

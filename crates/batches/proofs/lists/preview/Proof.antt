@@ -5,6 +5,9 @@ use Rattle.batches.proofs.InSpares.{may-work, preview-refused, preview-
 use Rattle.batches.proofs.lists.preview.Statement.{statement}
 use Rattle.batches.proofs.lists.preview.Tie as tie
 
+first-refusal-requires : tie.Need-first-refusal-requires
+first-refusal-requires c κs = search needs
+
 refusal-requires : tie.Need-refusal-requires
 refusal-requires c κs = search needs
 
@@ -62,6 +65,7 @@ pub preview-spec : {M : Type 1} → statement M
 preview-spec =
     tie.close
     (tie.spec
+    first-refusal-requires
     refusal-requires
     refused-requires
     same-length

@@ -1,10 +1,10 @@
--- `mesh::lock` meets its contract.
+-- `mesh::lock_known` meets its contract.
 use borrow.Author.Needs.{needs}
 use Rattle.rules.specs.Tables.{Mesh}
 use Rattle.tables.specs.Lent.{meshNow}
 use Rattle.mesh.proofs.Refusing.{lock-refused, lock-carried, lock-room}
-use Rattle.mesh.proofs.lock.Statement.{statement}
-use Rattle.mesh.proofs.lock.Tie as tie
+use Rattle.mesh.proofs.lock_known.Statement.{statement}
+use Rattle.mesh.proofs.lock_known.Tie as tie
 
 abbrev mesh-of : tie.Start → Mesh
 mesh-of c =
@@ -13,7 +13,7 @@ mesh-of c =
     (args .locks .now)
 
 abbrev from : tie.After-slot-refusal → tie.Start
-from c = c .before .before .before .before .before .before
+from c = c .before .before .before .before .before
 
 slot-refusal-requires : tie.Need-slot-refusal-requires
 slot-refusal-requires c κs = search needs
@@ -22,7 +22,8 @@ set-lock-requires : tie.Need-set-lock-requires
 set-lock-requires c κs =
     let at = c .before .before in
     let s = from at in
-    lock-room (s .args .on) (s .args .t) (mesh-of s) _ (at .slot-refusal .ensures) (c .before .if1 .taken)
+    let e = at .slot-refusal .ensures (mesh-of s) (s .pre) in
+    lock-room (s .args .on) (s .args .t) (mesh-of s) _ e (c .before .if1 .taken)
 
 same-length : tie.Need-same-length
 same-length c = search needs
@@ -33,16 +34,16 @@ returns c =
     let at-if1 = at-set .before .before in
     let at = at-if1 .before in
     let s = from at in
+    let e = at .slot-refusal .ensures (mesh-of s) (s .pre) in
     rw (at-set .set-lock .ensures, at-if1 .if1 .taken)
-    (lock-carried (s .args .on) (s .args .t) (mesh-of s) _ (at .slot-refusal .ensures) (at-if1 .if1 .taken))
-
-same-length-2 : tie.Need-same-length-2
-same-length-2 c = search needs
+    (lock-carried (s .args .on) (s .args .t) (mesh-of s) _ e (at-if1 .if1 .taken))
 
 returns-2 : tie.Need-returns-2
 returns-2 c =
-    let s = from (c .before) in
-    lock-refused (s .args .on) (s .args .t) (mesh-of s) _ (c .before .slot-refusal .ensures) (c .if1 .left)
+    let at = c .before in
+    let s = from at in
+    let e = at .slot-refusal .ensures (mesh-of s) (s .pre) in
+    lock-refused (s .args .on) (s .args .t) (mesh-of s) _ e (c .if1 .left)
 
-pub lock-spec : {M : Type 1} → statement M
-lock-spec = tie.close (tie.spec slot-refusal-requires set-lock-requires same-length returns same-length-2 returns-2)
+pub lock-known-spec : {M : Type 1} → statement M
+lock-known-spec = tie.close (tie.spec slot-refusal-requires set-lock-requires same-length returns returns-2)

@@ -1,9 +1,13 @@
--- `batches::lists::refine_list` meets its contract.
+-- `batches::boxes::refine_box_known` meets its contract.
 use borrow.Author.Needs.{needs}
 use mathlib.Core.Path.{_∙_}
-use Rattle.batches.proofs.InSpares.{may-work, list-refused, list-carried}
-use Rattle.batches.proofs.lists.refine_list.Statement.{statement}
-use Rattle.batches.proofs.lists.refine_list.Tie as tie
+use Rattle.points.specs.Axes.{boxOf}
+use Rattle.batches.proofs.InSpares.{box-may-work, box-refused, box-carried}
+use Rattle.batches.proofs.boxes.refine_box_known.Statement.{statement}
+use Rattle.batches.proofs.boxes.refine_box_known.Tie as tie
+
+box-fits-requires : tie.Need-box-fits-requires
+box-fits-requires c κs = search needs
 
 refusal-requires : tie.Need-refusal-requires
 refusal-requires c κs = search needs
@@ -44,12 +48,19 @@ same-length-10 c = search needs
 returns : tie.Need-returns
 returns c =
     let at-refusal = c .before .before in
-    rw (c .refused .ensures) (list-refused _ _ _ (at-refusal .refusal .ensures) _ (c .before .if1 .taken))
+    let at-fits = at-refusal .before .before .before .before .before .before in
+    rw (c .refused .ensures)
+    (box-refused _ _ _ (at-fits .box-fits .ensures) _ (at-refusal .refusal .ensures) (c .before .if1 .taken))
 
-refine-list-requires : tie.Need-refine-list-requires
-refine-list-requires c κs =
+refine-box-requires : tie.Need-refine-box-requires
+refine-box-requires c κs =
     let at-if1 = c .before .before .before .before .before .before .before .before .before .before in
-    may-work _ _ _ (at-if1 .before .refusal .ensures) (at-if1 .if1 .left)
+    let at-refusal = at-if1 .before in
+    let at-fits = at-refusal .before .before .before .before .before .before in
+    let to-start = at-fits .before .before .before .before .before .before .before in
+    let args = to-start .before .before .before .before .before .before .before .args in
+    box-may-work _ _ (boxOf (args .low) (args .high) (args .below)) (at-fits .box-fits .ensures) _
+    (at-refusal .refusal .ensures) (at-if1 .if1 .left)
 
 same-length-11 : tie.Need-same-length-11
 same-length-11 c = search needs
@@ -83,16 +94,19 @@ same-length-20 c = search needs
 
 returns-2 : tie.Need-returns-2
 returns-2 c =
-    let to-list = c .before .before .before .before .before .before .before .before .before in
-    let at-list = to-list .before .before .before .before .before .before .before .before .before in
-    let at-if1 = at-list .before .before .before .before .before .before .before .before .before .before .before in
-    at-list .refine-list .ensures
-    ∙ list-carried _ _ _ (at-if1 .before .refusal .ensures) _ (at-if1 .if1 .left)
+    let to-box = c .before .before .before .before .before .before .before .before .before in
+    let at-box = to-box .before .before .before .before .before .before .before .before .before in
+    let at-if1 = at-box .before .before .before .before .before .before .before .before .before .before .before in
+    let at-refusal = at-if1 .before in
+    let at-fits = at-refusal .before .before .before .before .before .before in
+    at-box .refine-box .ensures
+    ∙ box-carried _ _ _ (at-fits .box-fits .ensures) _ (at-refusal .refusal .ensures) (at-if1 .if1 .left)
 
-pub refine-list-spec : {M : Type 1} → statement M
-refine-list-spec =
+pub refine-box-known-spec : {M : Type 1} → statement M
+refine-box-known-spec =
     tie.close
     (tie.spec
+    box-fits-requires
     refusal-requires
     refused-requires
     same-length
@@ -106,7 +120,7 @@ refine-list-spec =
     same-length-9
     same-length-10
     returns
-    refine-list-requires
+    refine-box-requires
     same-length-11
     same-length-12
     same-length-13

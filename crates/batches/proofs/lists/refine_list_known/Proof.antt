@@ -1,13 +1,9 @@
--- `batches::boxes::refine_box` meets its contract.
+-- `batches::lists::refine_list_known` meets its contract.
 use borrow.Author.Needs.{needs}
 use mathlib.Core.Path.{_∙_}
-use Rattle.points.specs.Axes.{boxOf}
-use Rattle.batches.proofs.InSpares.{box-may-work, box-refused, box-carried}
-use Rattle.batches.proofs.boxes.refine_box.Statement.{statement}
-use Rattle.batches.proofs.boxes.refine_box.Tie as tie
-
-box-fits-requires : tie.Need-box-fits-requires
-box-fits-requires c κs = search needs
+use Rattle.batches.proofs.InSpares.{may-work, list-refused, list-carried}
+use Rattle.batches.proofs.lists.refine_list_known.Statement.{statement}
+use Rattle.batches.proofs.lists.refine_list_known.Tie as tie
 
 refusal-requires : tie.Need-refusal-requires
 refusal-requires c κs = search needs
@@ -48,19 +44,12 @@ same-length-10 c = search needs
 returns : tie.Need-returns
 returns c =
     let at-refusal = c .before .before in
-    let at-fits = at-refusal .before .before .before .before .before .before in
-    rw (c .refused .ensures)
-    (box-refused _ _ _ (at-fits .box-fits .ensures) _ (at-refusal .refusal .ensures) (c .before .if1 .taken))
+    rw (c .refused .ensures) (list-refused _ _ _ (at-refusal .refusal .ensures) _ (c .before .if1 .taken))
 
-refine-box-requires : tie.Need-refine-box-requires
-refine-box-requires c κs =
+refine-list-requires : tie.Need-refine-list-requires
+refine-list-requires c κs =
     let at-if1 = c .before .before .before .before .before .before .before .before .before .before in
-    let at-refusal = at-if1 .before in
-    let at-fits = at-refusal .before .before .before .before .before .before in
-    let to-start = at-fits .before .before .before .before .before .before .before in
-    let args = to-start .before .before .before .before .before .before .before .args in
-    box-may-work _ _ (boxOf (args .low) (args .high) (args .below)) (at-fits .box-fits .ensures) _
-    (at-refusal .refusal .ensures) (at-if1 .if1 .left)
+    may-work _ _ _ (at-if1 .before .refusal .ensures) (at-if1 .if1 .left)
 
 same-length-11 : tie.Need-same-length-11
 same-length-11 c = search needs
@@ -94,19 +83,16 @@ same-length-20 c = search needs
 
 returns-2 : tie.Need-returns-2
 returns-2 c =
-    let to-box = c .before .before .before .before .before .before .before .before .before in
-    let at-box = to-box .before .before .before .before .before .before .before .before .before in
-    let at-if1 = at-box .before .before .before .before .before .before .before .before .before .before .before in
-    let at-refusal = at-if1 .before in
-    let at-fits = at-refusal .before .before .before .before .before .before in
-    at-box .refine-box .ensures
-    ∙ box-carried _ _ _ (at-fits .box-fits .ensures) _ (at-refusal .refusal .ensures) (at-if1 .if1 .left)
+    let to-list = c .before .before .before .before .before .before .before .before .before in
+    let at-list = to-list .before .before .before .before .before .before .before .before .before in
+    let at-if1 = at-list .before .before .before .before .before .before .before .before .before .before .before in
+    at-list .refine-list .ensures
+    ∙ list-carried _ _ _ (at-if1 .before .refusal .ensures) _ (at-if1 .if1 .left)
 
-pub refine-box-spec : {M : Type 1} → statement M
-refine-box-spec =
+pub refine-list-known-spec : {M : Type 1} → statement M
+refine-list-known-spec =
     tie.close
     (tie.spec
-    box-fits-requires
     refusal-requires
     refused-requires
     same-length
@@ -120,7 +106,7 @@ refine-box-spec =
     same-length-9
     same-length-10
     returns
-    refine-box-requires
+    refine-list-requires
     same-length-11
     same-length-12
     same-length-13
