@@ -1,0 +1,4 @@
+-- The checksum of the journal.
+pub mod Bytes
+pub mod Crc
+pub mod Table
