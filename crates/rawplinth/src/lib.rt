@@ -1,4 +1,6 @@
 // The calls under the names by which C and Rust link them (include/rawplinth.h). A slice is a pointer and a length.
+mod journals;
+
 use mesh::LimitRead;
 use mesh::PositionRead;
 use mesh::RingRead;

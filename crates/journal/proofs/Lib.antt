@@ -1,0 +1,24 @@
+-- What is proved of journals.
+pub mod Bytes
+pub mod Numbers
+pub mod Reading
+pub mod Stopping
+pub mod Entries
+pub mod Calling
+pub mod Writing
+pub mod Appending
+pub mod Signed
+pub mod Cutting
+pub mod Changes
+pub mod Replaying
+pub mod Headers
+pub mod Lending
+pub mod Notes
+pub mod Journals
+pub mod Histories
+pub mod Going
+pub mod Cuts
+pub mod Changed
+pub mod Damaged
+pub mod Results
+pub mod Examples
