@@ -14,7 +14,7 @@ extern "C" {
 
 /* Raised by every new call and every change of a signature, a struct or an answer; docs/changes/README.md has a line
    for each. */
-#define RAWPLINTH_VERSION 13
+#define RAWPLINTH_VERSION 14
 
 /* What a side without a partner links to. */
 #define RAWPLINTH_BOUNDARY UINT32_C(4294967295)
@@ -39,9 +39,9 @@ enum {
 };
 
 /* How many vertices and triangles are in use, and the rule that the mesh was loaded by. In a fresh store none are in
-   use, and the rule may be any number. Every call takes the counts, and every answer but those of view_point and of
-   preview, with a report or without, has those for the next call; after these they are the same as before. Counts that
-   were saved before version 4 have no rule: their mesh goes on with RAWPLINTH_HALF_UP. */
+   use, and the rule may be any number. Every call but record_.. takes the counts, and every answer but theirs and those
+   of view_point and of preview, with a report or without, has those for the next call; after these they are the same as
+   before. Counts that were saved before version 4 have no rule: their mesh goes on with RAWPLINTH_HALF_UP. */
 typedef struct {
     uint32_t vertices;
     uint32_t triangles;
@@ -179,7 +179,29 @@ typedef struct {
     rawplinth_counts counts;
 } rawplinth_shown;
 
-/* Every call is lent the same five tables, each a pointer and its number of entries:
+/* Why a replay stopped. */
+enum {
+    RAWPLINTH_STOP_END = 1,      /* nothing is left: every record from `at` on was replayed; with `end` 0 there is not
+                                    even a header */
+    RAWPLINTH_STOP_TORN = 2,     /* a header or a record that is cut off */
+    RAWPLINTH_STOP_CHECKSUM = 3, /* a checksum that does not hold, as in a file that is no journal */
+    RAWPLINTH_STOP_KIND = 4,     /* no header of this version, no such kind of record, or no such size for it */
+    RAWPLINTH_STOP_REFUSED = 5,  /* a record whose call is refused */
+    RAWPLINTH_STOP_SLOTS = 6,    /* a journal of tables with other slots */
+    RAWPLINTH_STOP_NUMBERS = 7   /* a list or a note with more numbers than the table for them has entries */
+};
+
+/* The answer of replay. */
+typedef struct {
+    rawplinth_counts counts;
+    uint32_t stop;    /* why it stopped */
+    uint32_t refusal; /* what the next record's call is refused with, where it stopped for that; else 0 */
+    size_t records;   /* records replayed, each of them carried out */
+    size_t end;       /* where the first record starts that was not replayed: the place to go on from; 0 where the
+                         header stopped it */
+} rawplinth_replayed;
+
+/* Every call but record_.. is lent the same five tables, each a pointer and its number of entries:
 
      positions     3 for each vertex slot, in units of 1/1024 mm, within 16777216 either way
      corners       3 for each triangle slot
@@ -572,6 +594,77 @@ rawplinth_shown rawplinth_view_triangles(
     const uint8_t *locks, size_t locks_length,
     rawplinth_counts counts,
     float *table, size_t table_length);
+
+/* The journal: bytes that the caller keeps, in a file say, from which replay makes the mesh again. It begins with a
+   header, and goes on with a record for each change that was carried out, in their order: load, refine, whole step,
+   list, box, lock, unlock and take-back. A refine, a list or a box with a note or a report has the record of the one
+   without; calls that read and calls that were refused have none. docs/JOURNAL.md has the format.
+   Each of these writes what it is to record to the front of the buffer and answers its length; or 0, where the buffer
+   is too short, or the size of the record's body would be above 4294967295, and then the buffer stands: the change is
+   made and not recorded, so record it in a longer buffer before the next. A header has 20 bytes, a record 16 and its
+   body: 4 and the cage of a load, 4 for a triangle, none for a whole step, 4 for each entry of a list or a note, and 28
+   for a box. Of a note the first 4+9k entries do. The slots of a header are a third of the positions' length and the
+   generations' length. */
+size_t rawplinth_record_header(uint8_t *buffer, size_t buffer_length, uint32_t vertex_slots, uint32_t triangle_slots);
+size_t rawplinth_record_load(
+    uint8_t *buffer, size_t buffer_length,
+    uint32_t rule,
+    const uint8_t *cage, size_t cage_length);
+size_t rawplinth_record_refine(uint8_t *buffer, size_t buffer_length, uint32_t triangle);
+size_t rawplinth_record_whole_step(uint8_t *buffer, size_t buffer_length);
+size_t rawplinth_record_list(
+    uint8_t *buffer, size_t buffer_length,
+    const uint32_t *list, size_t list_length);
+size_t rawplinth_record_box(
+    uint8_t *buffer, size_t buffer_length,
+    rawplinth_point low, rawplinth_point high, uint32_t below);
+size_t rawplinth_record_lock(uint8_t *buffer, size_t buffer_length, uint32_t triangle);
+size_t rawplinth_record_unlock(uint8_t *buffer, size_t buffer_length, uint32_t triangle);
+size_t rawplinth_record_take_back(
+    uint8_t *buffer, size_t buffer_length,
+    const uint32_t *note, size_t note_length);
+
+/* Replays a journal on a mesh: makes the calls of its records in their order, up to the first that is cut off, damaged,
+   unknown, refused or too long for `numbers`. `at` is the place of the first record to replay: 0, or any number up to
+   20, for the one behind the header, or `end` of an earlier answer, to go on with what was appended since: in parts or
+   at once a journal leaves the same. Where `at` is past the journal's last byte, its end is lost, and the answer is
+   RAWPLINTH_STOP_END with no records and `end` as `at`. The mesh is tested once, before the first record, and each call
+   does what it would do by itself.
+   The journal of the changes that were carried out on tables of these slots, replayed on what the tables held before
+   them, leaves the mesh, counts included, as the changes did, and refuses none. Cut off at any byte it stops before the
+   record that is cut, and with any one byte changed before the record, or the header, that has it.
+   To go on writing, cut the journal off at `end` and append there; where `end` is 0 begin with a header. After a stop
+   with
+     END        append at `end`
+     TORN       the last write was cut off: cut off at `end` and append there
+     CHECKSUM   damage, or a last write of which a part is missing: what is behind `end` cannot be replayed; keep it
+                aside, then as after TORN
+     KIND       no journal of this version, or one that a newer library wrote: do not append
+     REFUSED    with 17 lend spare tables that fit, and go on from `end`; else these are not the tables with which the
+                journal began: do not append
+     SLOTS      lend tables with the slots of the header
+     NUMBERS    lend a longer `numbers`, and go on from `end`
+   Lists and boxes work in the five spare tables, lent as refine_list's; where these have other lengths than the mesh's,
+   such a record is refused with 17. The numbers of a list or a note are read into `numbers`, which needs as many
+   entries as the longest has: RAWPLINTH_NOTE_ENTRIES (229) do where no list and no note that was recorded is longer.
+   What the spare tables and `numbers` hold before does not matter, and what they hold then is not told.
+   Refuses nothing: it stops. Writes the mesh, the spare tables and `numbers`. Needs 2.7 MB of stack; record_.. need
+   2 KB. */
+rawplinth_replayed rawplinth_replay(
+    int32_t *positions, size_t positions_length,
+    uint32_t *corners, size_t corners_length,
+    uint32_t *links, size_t links_length,
+    uint8_t *generations, size_t generations_length,
+    uint8_t *locks, size_t locks_length,
+    rawplinth_counts counts,
+    int32_t *spare_positions, size_t spare_positions_length,
+    uint32_t *spare_corners, size_t spare_corners_length,
+    uint32_t *spare_links, size_t spare_links_length,
+    uint8_t *spare_generations, size_t spare_generations_length,
+    uint8_t *spare_locks, size_t spare_locks_length,
+    uint32_t *numbers, size_t numbers_length,
+    const uint8_t *journal, size_t journal_length,
+    size_t at);
 
 #ifdef __cplusplus
 }

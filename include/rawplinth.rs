@@ -3,7 +3,7 @@
 
 /// Raised with that of the header. A program may go without it.
 #[allow(dead_code)]
-pub const RAWPLINTH_VERSION: u32 = 13;
+pub const RAWPLINTH_VERSION: u32 = 14;
 
 /// The rules by which a mesh rounds halves: up, or away from zero.
 pub const RAWPLINTH_HALF_UP: u32 = 1;
@@ -153,6 +153,19 @@ pub struct BatchReported {
 pub struct ForeseenReported {
     pub foreseen: BatchForeseen,
     pub reported: u32,
+}
+
+/// The answer of replay: the counts; why it stopped: 1 the end, 2 torn, 3 a checksum, 4 no such kind, 5 refused, 6 other
+/// slots, 7 too few entries for numbers; what the next record's call is refused with; the records replayed; and where
+/// the next one starts.
+#[repr(C)]
+#[derive(Clone, Copy, Debug, Default, PartialEq, Eq)]
+pub struct Replayed {
+    pub counts: Counts,
+    pub stop: u32,
+    pub refusal: u32,
+    pub records: usize,
+    pub end: usize,
 }
 
 unsafe extern "C" {
@@ -560,4 +573,67 @@ unsafe extern "C" {
         spare_locks: *mut u8,
         spare_locks_length: usize,
     ) -> BatchReported;
+
+    pub fn rawplinth_record_header(
+        buffer: *mut u8,
+        buffer_length: usize,
+        vertex_slots: u32,
+        triangle_slots: u32,
+    ) -> usize;
+
+    pub fn rawplinth_record_load(
+        buffer: *mut u8,
+        buffer_length: usize,
+        rule: u32,
+        cage: *const u8,
+        cage_length: usize,
+    ) -> usize;
+
+    pub fn rawplinth_record_refine(buffer: *mut u8, buffer_length: usize, triangle: u32) -> usize;
+
+    pub fn rawplinth_record_whole_step(buffer: *mut u8, buffer_length: usize) -> usize;
+
+    pub fn rawplinth_record_list(buffer: *mut u8, buffer_length: usize, list: *const u32, list_length: usize) -> usize;
+
+    pub fn rawplinth_record_box(buffer: *mut u8, buffer_length: usize, low: Point, high: Point, below: u32) -> usize;
+
+    pub fn rawplinth_record_lock(buffer: *mut u8, buffer_length: usize, triangle: u32) -> usize;
+
+    pub fn rawplinth_record_unlock(buffer: *mut u8, buffer_length: usize, triangle: u32) -> usize;
+
+    pub fn rawplinth_record_take_back(
+        buffer: *mut u8,
+        buffer_length: usize,
+        note: *const u32,
+        note_length: usize,
+    ) -> usize;
+
+    pub fn rawplinth_replay(
+        positions: *mut i32,
+        positions_length: usize,
+        corners: *mut u32,
+        corners_length: usize,
+        links: *mut u32,
+        links_length: usize,
+        generations: *mut u8,
+        generations_length: usize,
+        locks: *mut u8,
+        locks_length: usize,
+        counts: Counts,
+        spare_positions: *mut i32,
+        spare_positions_length: usize,
+        spare_corners: *mut u32,
+        spare_corners_length: usize,
+        spare_links: *mut u32,
+        spare_links_length: usize,
+        spare_generations: *mut u8,
+        spare_generations_length: usize,
+        spare_locks: *mut u8,
+        spare_locks_length: usize,
+        numbers: *mut u32,
+        numbers_length: usize,
+        journal: *const u8,
+        journal_length: usize,
+        at: usize,
+    ) -> Replayed;
 }

@@ -39,6 +39,12 @@ pub const PREVIEWS: [&str; 4] = ["preview of 1", "preview of 100", "preview of 1
 /// all, which is refused with 11 when no slots are left.
 pub const BOXES: [&str; 3] = ["box of nothing", "box of a twentieth", "box of all, refused"];
 
+/// Replays of refines in a row, each of one split, and as many refines as the first has by a call each.
+pub const REPLAYS: [&str; 2] = ["replay of 100 refines", "replay of 10,000 refines"];
+pub const ONE_BY_ONE: &str = "100 refines one by one";
+/// Records: of a load, which is its cage's bytes and their checksum, and of a refine.
+pub const RECORDS: [&str; 2] = ["record load", "record refine"];
+
 /// What the name of a case ends in that has a report and else is the one without.
 const REPORTED: &str = ", reported";
 /// Such refines, and pairs of lists, previews and boxes, of few splits and of many.
@@ -50,7 +56,7 @@ pub const BATCHES_REPORTED: [[&str; 2]; 3] = [
     ["box of nothing, reported", "box of a twentieth, reported"],
 ];
 
-const NAMES: [&str; 49] = [
+const NAMES: [&str; 54] = [
     "load",
     "soundness",
     "refine even",
@@ -100,6 +106,11 @@ const NAMES: [&str; 49] = [
     BOXES[1],
     BATCHES_REPORTED[2][1],
     BOXES[2],
+    RECORDS[0],
+    RECORDS[1],
+    ONE_BY_ONE,
+    REPLAYS[0],
+    REPLAYS[1],
 ];
 
 pub struct Case {
@@ -120,13 +131,14 @@ impl Case {
         list.len()
     }
 
-    /// The splits that a box, or a call with a report, makes, be they undone: each takes two triangles.
+    /// The splits that a box, a replay, or a call with a report, makes, be they undone: each takes two triangles.
     pub fn splits_made(&self) -> usize {
         let after = match fast::answer(&mut self.lent.clone(), self.call) {
             Answer::List(worked) => worked.spares,
             Answer::Reported(told) => told.worked.counts,
             Answer::ListReported(told) => told.worked.spares,
             Answer::PreviewReported(told) => told.foreseen.spares,
+            Answer::Replayed(replayed) => replayed.counts,
             _ => self.lent.counts,
         };
         (after.triangles - self.lent.counts.triangles) as usize / 2
@@ -182,7 +194,8 @@ pub fn all() -> Vec<Case> {
             plain if plain == CURVES[1] => (&cylinders[..2], &cylinders[2]),
             plain if plain == CURVES[2] => (&discs[..2], &discs[2]),
             plain if plain == CURVES[3] => (&collars[..2], &collars[2]),
-            name if is_listed(name) || BOXES.contains(&name) => (&[] as &[Cage], &list_sphere),
+            name if is_listed(name) || BOXES.contains(&name) || refines_row(name) => (&[] as &[Cage], &list_sphere),
+            name if name == RECORDS[1] => (&[] as &[Cage], &small[0]),
             name if STEPS.contains(&name) || name == LOCKED_STEP => (&small[..], &step_sphere),
             _ => (&small[..], &sphere),
         };
@@ -251,8 +264,21 @@ fn case(name: &'static str, cage: &Cage, shuffled: bool) -> Case {
     if is_listed(name) || BOXES.contains(&name) {
         lent.spares = Tables::with_slots(lent.tables.positions.len() / 3, lent.tables.generations.len());
     }
+    if refines_row(name) {
+        lent.list = row(if name == REPLAYS[1] { 10_000 } else { 100 }, lent.counts.triangles);
+    }
+    if REPLAYS.contains(&name) {
+        lent.journal = fast::journal_of_list(&lent);
+    }
+    if RECORDS.contains(&name) {
+        lent.record = vec![u8::MAX; 20 + if name == RECORDS[0] { lent.cage.len() } else { 0 }];
+    }
     let call = match name {
         "load" => Call::Load(rule),
+        ONE_BY_ONE => Call::RefineEach,
+        name if name == RECORDS[0] => Call::RecordLoad(rule),
+        name if name == RECORDS[1] => Call::RecordRefine(triangle),
+        name if REPLAYS.contains(&name) => Call::Replay,
         "soundness" => Call::Refine(lent.counts.triangles),
         "ring" => Call::Ring(vertex),
         "position" => Call::Position(vertex),
@@ -278,6 +304,17 @@ pub fn is_listed(name: &str) -> bool {
     LISTS.contains(&name) || PREVIEWS.contains(&name)
 }
 
+/// Whether a case refines triangles in a row, one after the other.
+fn refines_row(name: &str) -> bool {
+    REPLAYS.contains(&name) || name == ONE_BY_ONE
+}
+
+/// So many triangles in a row, about the middle of all.
+fn row(entries: u32, triangles: u32) -> Vec<u32> {
+    let first = (triangles - entries) / 2;
+    (first..first + entries).collect()
+}
+
 /// The entries of a list, about the middle of so many triangles.
 fn listed(name: &str, triangles: u32) -> Vec<u32> {
     let kind = LISTS.iter().zip(PREVIEWS).position(|(list, preview)| name == *list || name == preview);
@@ -286,8 +323,7 @@ fn listed(name: &str, triangles: u32) -> Vec<u32> {
         Some(1) => 100,
         _ => 10_000,
     };
-    let first = (triangles - entries) / 2;
-    if kind == Some(3) { vec![triangles / 2; entries as usize] } else { (first..first + entries).collect() }
+    if kind == Some(3) { vec![triangles / 2; entries as usize] } else { row(entries, triangles) }
 }
 
 /// A box from a height on, to generation 4. A sphere has as much of its surface above a height as of its diameter.

@@ -4,9 +4,9 @@ use crate::rawplinth::*;
 use crate::tables::{Answer, Call, Lent, Panel, Refining};
 
 /// A call of the function named, with the five tables as pointers and lengths, then the counts, then what follows, and
-/// the spare tables after a semicolon.
+/// the spare tables after a semicolon, and what comes after these after another.
 macro_rules! call {
-    ($function:ident, $lent:ident $(, $argument:expr)* $(; $spares:expr)?) => {{
+    ($function:ident, $lent:ident $(, $argument:expr)* $(; $spares:expr $(; $($last:expr),*)?)?) => {{
         let (tables, counts) = (&mut $lent.tables, $lent.counts);
         // SAFETY: every pointer is to as many entries as the length beside it says, and no two overlap.
         unsafe {
@@ -34,6 +34,7 @@ macro_rules! call {
                     $spares.generations.len(),
                     $spares.locks.as_mut_ptr(),
                     $spares.locks.len()
+                    $($(, $last)*)?
                 )?
             )
         }
@@ -73,7 +74,37 @@ pub fn answer(lent: &mut Lent, call: Call) -> Answer {
             Answer::List(call!(rawplinth_refine_box, lent, low, high, below; lent.spares))
         }
         Call::Reported(refining) => reported(lent, refining),
+        Call::RefineEach => Answer::Worked(one_by_one(lent)),
+        Call::RecordLoad(rule) => {
+            let (buffer, length) = (lent.record.as_mut_ptr(), lent.record.len());
+            // SAFETY: both pointers are to as many bytes as the lengths beside them say, and they do not overlap.
+            Answer::Recorded(unsafe {
+                rawplinth_record_load(buffer, length, rule, lent.cage.as_ptr(), lent.cage.len())
+            })
+        }
+        Call::RecordRefine(triangle) => {
+            let (buffer, length) = (lent.record.as_mut_ptr(), lent.record.len());
+            // SAFETY: the pointer is to as many bytes as the length beside it says.
+            Answer::Recorded(unsafe { rawplinth_record_refine(buffer, length, triangle) })
+        }
+        Call::Replay => Answer::Replayed(call!(
+            rawplinth_replay, lent; lent.spares;
+            lent.numbers.as_mut_ptr(), lent.numbers.len(), lent.journal.as_ptr(), lent.journal.len(), 0
+        )),
     }
+}
+
+/// Refines the triangles of the list by a call each, and answers the sums; the counts that are lent stand.
+fn one_by_one(lent: &mut Lent) -> Worked {
+    let mut sums = Worked { counts: lent.counts, ..Worked::default() };
+    let before = lent.counts;
+    for i in 0..lent.list.len() {
+        let worked = call!(rawplinth_refine, lent, lent.list[i]);
+        lent.counts = worked.counts;
+        sums = Worked { splits: sums.splits + worked.splits, flips: sums.flips + worked.flips, ..worked };
+    }
+    lent.counts = before;
+    sums
 }
 
 /// The calls with a report.

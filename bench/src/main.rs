@@ -6,13 +6,14 @@ mod fast;
 mod library;
 mod measure;
 #[path = "../../include/rawplinth.rs"]
+#[allow(dead_code)]
 mod rawplinth;
 mod report;
 mod tables;
 
 use std::thread;
 
-/// 16 MB of stack; a call of the library needs at most 3 MB of it.
+/// 16 MB of stack; a call of the library needs at most 5.5 MB of it.
 const STACK: usize = 16 << 20;
 
 fn main() {

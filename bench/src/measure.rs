@@ -8,7 +8,8 @@ use std::process::Command;
 use std::time::Instant;
 
 use crate::cases::{
-    AT_BOUNDARY, BOXES, Case, LOCKED_STEP, LONGEST, LONGEST_AT_BOUNDARY, LONGEST_BESIDE_LOCKS, NOTED, STEPS, is_listed,
+    AT_BOUNDARY, BOXES, Case, LOCKED_STEP, LONGEST, LONGEST_AT_BOUNDARY, LONGEST_BESIDE_LOCKS, NOTED, ONE_BY_ONE,
+    RECORDS, REPLAYS, STEPS, is_listed,
 };
 use crate::tables::{Answer, Lent, scan_tables};
 use crate::{fast, library};
@@ -63,6 +64,8 @@ pub fn compare(case: &Case) {
         Answer::Reported(told) => (told.worked.refusal, told.worked.splits),
         Answer::ListReported(told) => (told.worked.refusal, told.worked.splits),
         Answer::PreviewReported(told) => (told.foreseen.refusal, told.foreseen.splits),
+        Answer::Recorded(bytes) => (0, bytes as u32),
+        Answer::Replayed(replayed) => (replayed.refusal, replayed.records as u32),
     };
     let expected = match case.plain {
         "soundness" => (8, 0),
@@ -72,6 +75,8 @@ pub fn compare(case: &Case) {
         LONGEST_AT_BOUNDARY => (0, 9),
         name if NOTED.contains(&name) => (0, if name == NOTED[2] { 10 } else { 1 }),
         name if STEPS.contains(&name) => (0, case.triangles),
+        name if RECORDS.contains(&name) => (0, case.lent.record.len()),
+        name if REPLAYS.contains(&name) || name == ONE_BY_ONE => (0, case.lent.list.len()),
         name if is_listed(name) => (0, case.listed_once()),
         name if name == BOXES[1] => (0, case.splits_made()),
         name if name == BOXES[2] => (11, 0),

@@ -1,7 +1,8 @@
 //! The table.
 
 use crate::cases::{
-    BACKS, BATCHES_REPORTED, BOXES, CURVES, Case, LIMITS, LISTS, NOTED, PREVIEWS, REFINES_REPORTED, VIEW, is_listed,
+    BACKS, BATCHES_REPORTED, BOXES, CURVES, Case, LIMITS, LISTS, NOTED, ONE_BY_ONE, PREVIEWS, RECORDS,
+    REFINES_REPORTED, REPLAYS, VIEW, is_listed,
 };
 use crate::measure::{Counted, Timed};
 
@@ -37,6 +38,9 @@ const MOST_TO_LOOK: u64 = 40;
 const MOST_TO_SPLIT_IN_BOX: u64 = 1_200;
 /// How many instructions more a call with a report may take for each split. A list or a box may take the rest twice.
 const MOST_TO_REPORT: u64 = 60;
+/// How many instructions a replay of 10,000 refines may take, with soundness, and any beyond it for each split.
+const MOST_OF_REPLAY: u64 = 30_000_000;
+const MOST_TO_REPLAY: u64 = 1_500;
 
 const HEADS: [&str; 13] = [
     "call",
@@ -73,7 +77,10 @@ pub fn print(cases: &[Case], counts: Option<&[Counted]>, times: &[Timed]) {
         println!("{}", shares_of_curves(cases, counts));
         println!("{}", shares_of_view(cases, counts));
         println!("{}", shares_of_reports(cases, counts));
+        println!("{}", shares_of_replays(cases, counts));
+        println!("{}", shares_of_records(cases, counts));
     }
+    println!("{}", speed_of_records(cases, times));
 }
 
 /// What lists take beyond soundness, by triangle in use, by split and by entry that is passed over: the differences of
@@ -137,6 +144,30 @@ fn shares_of_reports(cases: &[Case], counts: &[Counted]) -> String {
     )
 }
 
+/// What a replay takes beyond soundness for each refine in order, by the difference of the few to the many, and what a
+/// refine takes by a call of its own, with soundness.
+fn shares_of_replays(cases: &[Case], counts: &[Counted]) -> String {
+    let [(few, short), (many, long)] = REPLAYS.map(|name| beyond(name, cases, counts));
+    let refine = (many - few) / (long.lent.list.len() - short.lent.list.len()) as f64;
+    let place = largest(ONE_BY_ONE, cases);
+    let alone = counts[place][0] as f64 / cases[place].lent.list.len() as f64;
+    format!("Replays: {refine:.1} for each refine; by a call of its own it takes {alone:.0}.")
+}
+
+/// What a record takes for each byte of the largest cage, library and fast.
+fn shares_of_records(cases: &[Case], counts: &[Counted]) -> String {
+    let place = largest(RECORDS[0], cases);
+    let [library, _, fast, _] = counts[place].map(|count| count as f64 / cases[place].lent.record.len() as f64);
+    format!("Records: {library:.2} for each byte of a load's, {fast:.2} fast.")
+}
+
+/// The same in megabytes a second, by the wall time.
+fn speed_of_records(cases: &[Case], times: &[Timed]) -> String {
+    let place = largest(RECORDS[0], cases);
+    let [library, _, fast, _] = times[place].map(|time| cases[place].lent.record.len() as f64 / time);
+    format!("Records: {library:.0} MB/s of a load's, {fast:.0} MB/s fast.")
+}
+
 /// What a case takes in order beyond soundness, and the case.
 fn beyond<'a>(name: &str, cases: &'a [Case], counts: &[Counted]) -> (f64, &'a Case) {
     let place = largest(name, cases);
@@ -154,7 +185,7 @@ fn count_columns(case: &Case, [library, soundness, fast, scan]: Counted) -> [Str
     let ratio = expert.map(|expert| library as f64 / expert as f64);
     let beyond = library.saturating_sub(soundness);
     [
-        thousands(library),
+        bold_if(case.name == REPLAYS[1] && library > MOST_OF_REPLAY, thousands(library)),
         most_beyond(case, soundness).map_or(String::new(), |most| bold_if(beyond > most, thousands(beyond))),
         expert.map_or(String::new(), thousands),
         ratio.map_or(String::new(), |ratio| bold_if(ratio > MOST_TIMES, format!("{ratio:.2}"))),
@@ -199,6 +230,7 @@ fn most_without_report(case: &Case, soundness: u64) -> Option<u64> {
             Some(MOST_TO_CURVE * vertices + MOST_TO_TURN * triangles)
         }
         VIEW => Some(MOST_TO_SHOW * case.triangles as u64),
+        name if REPLAYS.contains(&name) => Some(MOST_TO_REPLAY * case.splits_made() as u64),
         name if NOTED.contains(&name) => Some(MOST_WITH_NOTE),
         name if BACKS.contains(&name) => Some((MOST_TO_TAKE_BACK - 1) * soundness),
         "lock" | "unlock" | "ring" | "position" | "view point" => Some(MOST_BEYOND),

@@ -1,7 +1,7 @@
 //! What a call is lent and what it answers.
 
 pub use crate::rawplinth::{BatchForeseen, BatchReported, BatchWorked, Counts, ForeseenReported, LimitRead};
-pub use crate::rawplinth::{Point, PointSeen, PositionRead, Reported, RimRead, RingRead, Shown, Worked};
+pub use crate::rawplinth::{Point, PointSeen, PositionRead, Replayed, Reported, RimRead, RingRead, Shown, Worked};
 pub use crate::rawplinth::{RAWPLINTH_HALF_AWAY as HALF_AWAY, RAWPLINTH_HALF_UP as HALF_UP};
 pub use crate::rawplinth::{RAWPLINTH_NOTE_ENTRIES as NOTE_ENTRIES, RAWPLINTH_REPORT_ENTRIES as REPORT_ENTRIES};
 
@@ -41,6 +41,10 @@ pub struct Lent {
     /// A list of triangles, and the tables that it or a box is worked off in.
     pub list: Vec<u32>,
     pub spares: Tables,
+    /// A journal to replay, the table that its numbers are read into, and the buffer that a record is written to.
+    pub journal: Vec<u8>,
+    pub numbers: Vec<u32>,
+    pub record: Vec<u8>,
 }
 
 /// A call with the numbers it is given, which for a load is the rule.
@@ -63,6 +67,11 @@ pub enum Call {
     Preview,
     RefineBox(Panel),
     Reported(Refining),
+    /// The triangles of a list refined one by one, by a call each.
+    RefineEach,
+    RecordLoad(u32),
+    RecordRefine(u32),
+    Replay,
 }
 
 /// A call that has a report.
@@ -98,6 +107,8 @@ pub enum Answer {
     Reported(Reported),
     ListReported(BatchReported),
     PreviewReported(ForeseenReported),
+    Recorded(usize),
+    Replayed(Replayed),
 }
 
 impl Call {
@@ -142,6 +153,9 @@ impl Lent {
             report: Vec::new(),
             list: Vec::new(),
             spares: Tables::with_slots(0, 0),
+            journal: Vec::new(),
+            numbers: Vec::new(),
+            record: Vec::new(),
         }
     }
 }

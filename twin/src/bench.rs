@@ -9,6 +9,7 @@ use crate::case::Case;
 use crate::claims::{violated_by_box, violated_by_list, violated_by_preview, violated_by_refine};
 use crate::coverage::Coverage;
 use crate::curved::violated_by_curve;
+use crate::journaled::violated_by_journal;
 use crate::locked::violated_by_lock;
 use crate::mirror;
 use crate::noted::{violated_beside_plain, violated_by_note, violated_by_repeat, violated_by_return};
@@ -214,6 +215,8 @@ impl Apart {
             .or_else(|| Apart::entry("", "view tables", &room.view, &other_room.view))
             .or_else(|| Apart::entry("", "notes", &room.note, &other_room.note))
             .or_else(|| Apart::entry("", "report buffers", &room.report, &other_room.report))
+            .or_else(|| Apart::entry("", "record buffers", &room.record, &other_room.record))
+            .or_else(|| Apart::entry("", "tables of numbers", &room.numbers, &other_room.numbers))
     }
 
     fn tables(which: &str, one: &Tables, other: &Tables) -> Option<Apart> {
@@ -246,8 +249,11 @@ pub fn difference(what: String, store: Store, call: &Call) -> Box<Difference> {
 
 /// The fourth claim of demand 3, for every refine that is carried out; what every list and every box that is carried
 /// out adds; that a box leaves none; that locked triangles stay as they are; that what is seen is exact; that a curve
-/// is that of its rim; what is noted and taken back; and what is reported.
+/// is that of its rim; what is noted and taken back; what is reported; and what is recorded and replayed.
 fn claim_violated(before: &Store, call: &Call, answer: &Answer, after: &Store) -> Option<String> {
+    if call.is_of_journal() {
+        return violated_by_journal(before, call, answer, after);
+    }
     let plain = call.plain();
     let violated = match (plain, answer.refusal) {
         (&Call::Refine { triangle } | &Call::RefineNoted { triangle }, 0) => {

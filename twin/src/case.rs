@@ -5,10 +5,15 @@
 use std::fmt::{self, Display, Write};
 use std::str::FromStr;
 
+use crate::entry::Entry;
+use crate::replay::{call_of, entry_of};
 use crate::tables::{Bounds, Call, Counts, Room, Store, Tables};
 
 /// What stands before the word of a call that is given a buffer for its report.
 const REPORTED: &str = "reported-";
+
+/// What stands before the word of a change that is recorded.
+const RECORD: &str = "record-";
 
 #[derive(Clone, Debug, PartialEq, Eq)]
 pub struct Case {
@@ -28,6 +33,8 @@ impl Display for Case {
         writeln!(out, "note{}", numbers(&room.note))?;
         writeln!(out, "report-buffer{}", numbers(&room.report))?;
         write_tables(out, "spare-", &room.spares)?;
+        writeln!(out, "record-buffer{}", numbers(&room.record))?;
+        writeln!(out, "numbers{}", numbers(&room.numbers))?;
         write_call(out, &self.call)
     }
 }
@@ -56,6 +63,17 @@ fn write_call(out: &mut fmt::Formatter<'_>, call: &Call) -> fmt::Result {
             write!(out, "{REPORTED}")?;
             write_call(out, call)
         }
+        Call::RecordHeader { slots } => writeln!(out, "{RECORD}header{}", numbers(slots)),
+        Call::Record(entry) => write_entry(out, entry),
+        Call::Replay { journal, at } => writeln!(out, "replay {at}{}", numbers(journal)),
+    }
+}
+
+fn write_entry(out: &mut fmt::Formatter<'_>, entry: &Entry) -> fmt::Result {
+    write!(out, "{RECORD}")?;
+    match entry {
+        Entry::TakeBack { note } => writeln!(out, "take-back{}", numbers(note)),
+        entry => write_call(out, &call_of(entry)),
     }
 }
 
@@ -110,6 +128,8 @@ impl FromStr for Case {
             note: parsed(words_of(&lines, "note")?)?,
             report: parsed(words_of(&lines, "report-buffer")?)?,
             spares: parsed_tables(&lines, "spare-")?,
+            record: parsed(words_of(&lines, "record-buffer")?)?,
+            numbers: parsed(words_of(&lines, "numbers")?)?,
         };
         let call = parsed_call(lines.last().expect("there are lines"))?;
         Ok(Case { store: Store { tables, counts: Counts { vertices, triangles, rule }, room }, call })
@@ -138,6 +158,9 @@ fn parsed_call(words: &[&str]) -> Result<Call, String> {
         let call = parsed_call(&[&[plain], &words[1..]].concat())?;
         return if call.refines() { Ok(call.reported()) } else { Err(format!("`{plain}` has no report")) };
     }
+    if let Some(change) = words[0].strip_prefix(RECORD) {
+        return parsed_record(&[&[change], &words[1..]].concat());
+    }
     let number = || -> Result<u32, String> {
         let word = words.get(1).ok_or("a number is missing")?;
         word.parse().map_err(|_| format!("not a number: {word}"))
@@ -159,7 +182,25 @@ fn parsed_call(words: &[&str]) -> Result<Call, String> {
         "refine-list" => Ok(Call::RefineList { list: parsed(&words[1..])? }),
         "preview" => Ok(Call::Preview { list: parsed(&words[1..])? }),
         "refine-box" => Ok(Call::RefineBox { below: number()?, bounds: parsed_bounds(&words[2..])? }),
+        "replay" => {
+            let at = words.get(1).and_then(|word| word.parse().ok()).ok_or("a place is missing")?;
+            Ok(Call::Replay { at, journal: parsed(&words[2..])? })
+        }
         other => Err(format!("no call `{other}`")),
+    }
+}
+
+fn parsed_record(words: &[&str]) -> Result<Call, String> {
+    match words[0] {
+        "header" => match parsed(&words[1..])?[..] {
+            [vertex_slots, triangle_slots] => Ok(Call::RecordHeader { slots: [vertex_slots, triangle_slots] }),
+            _ => Err("the slots of a header are two numbers".to_string()),
+        },
+        "take-back" => Ok(Call::Record(Entry::TakeBack { note: parsed(&words[1..])? })),
+        change => {
+            let entry = entry_of(&parsed_call(words)?, &[]);
+            Ok(Call::Record(entry.ok_or(format!("`{change}` has no record"))?))
+        }
     }
 }
 

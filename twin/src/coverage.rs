@@ -1,6 +1,7 @@
 //! What a run has met: each refusal of each call, each rule, each kind of linked pair, each chain length over an even
 //! triangle and over the boundary, each ring length of a whole step and of a limit query, halves in these, sides linked
-//! to themselves, what becomes of the entries of lists, foils, boxes, locks, views, notes, reports, and curves.
+//! to themselves, what becomes of the entries of lists, foils, boxes, locks, views, notes, reports, curves, and
+//! journals.
 
 use std::collections::{BTreeMap, BTreeSet};
 use std::fmt::{self, Display};
@@ -9,6 +10,7 @@ use crate::box_coverage::BoxCoverage;
 use crate::claims::read_chain;
 use crate::curve_coverage::CurveCoverage;
 use crate::fault::Seeded;
+use crate::journal_coverage::JournalCoverage;
 use crate::load::linked_mesh;
 use crate::lock_coverage::LockCoverage;
 use crate::mesh::Mesh;
@@ -43,6 +45,8 @@ const CALLS: &[(&str, &[u32])] = &[
     ("preview rep.", &[0, 1, 7, 8, 9, 11, 17, 19, 23]),
     ("box report", &[0, 1, 7, 9, 11, 17, 18, 19, 23]),
     ("rim curve", &[0, 1, 7, 8, 24, 25]),
+    ("record", &[0]),
+    ("replay", &[0, 1, 2, 3, 4, 5, 6, 7, 8, 9, 11, 12, 13, 16, 17, 18, 19, 21]),
 ];
 
 /// The longest of the lists that have to be met in every length.
@@ -94,6 +98,7 @@ pub struct Coverage {
     notes: NoteCoverage,
     pub reports: ReportCoverage,
     curves: CurveCoverage,
+    journals: JournalCoverage,
 }
 
 /// What a load is refused with 6 for.
@@ -147,6 +152,8 @@ fn row(call: &Call) -> usize {
             _ => 19,
         },
         Call::RimCurve { .. } => 20,
+        Call::RecordHeader { .. } | Call::Record(_) => 21,
+        Call::Replay { .. } => 22,
     }
 }
 
@@ -188,6 +195,9 @@ impl Coverage {
     /// Notes a call on the tables as they were before it, and its answer.
     pub fn note(&mut self, before: &Store, call: &Call, answer: &Answer) {
         *self.answers.entry((row(call), answer.refusal)).or_default() += 1;
+        if call.is_of_journal() {
+            return self.journals.note(before, call, answer);
+        }
         if answer.refusal == 0 {
             count(&mut self.rules, answer.counts.rule as usize);
         }
@@ -337,6 +347,8 @@ impl Coverage {
         expect("report of a refine, flips", &self.reports.flips, 0);
         expect("curve of a rim, vertices", &self.curves.vertices, 2);
         expect("coordinate of a curve, 27ths over", &self.curves.rests, 0);
+        expect("replay that stops with", &self.journals.stops, 1);
+        expect("replay, records", &self.journals.records, 0);
         expect("list carried out, length", &first_of(&self.list_lengths, LONGEST_LIST + 1), 0);
         expect("entry of a list that fails, place", &first_of(&self.failing_places, LONGEST_LIST), 0);
         for (title, names, met) in self.named() {
@@ -362,6 +374,7 @@ impl Coverage {
         named.extend(self.notes.named());
         named.extend(self.reports.named());
         named.extend(self.curves.named());
+        named.extend(self.journals.named());
         named
     }
 }
@@ -403,6 +416,8 @@ impl Display for Coverage {
         list("flips in reports of refines", &self.reports.flips, 0)?;
         list("vertices of rims read as curves", &self.curves.vertices, 2)?;
         list("27ths over in coordinates of curves", &self.curves.rests, 0)?;
+        list("why replays stopped", &self.journals.stops, 1)?;
+        list("records replayed at once", &self.journals.records, 0)?;
         for (title, names, met) in self.named() {
             let shown: Vec<String> = names.iter().zip(met).map(|(name, met)| format!("{name}: {met}")).collect();
             writeln!(out, "{title}  {}", shown.join("  "))?;

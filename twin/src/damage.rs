@@ -4,6 +4,7 @@ use crate::bench::{Bench, Outcome};
 use crate::cages;
 use crate::calls;
 use crate::handmade;
+use crate::journal_calls;
 use crate::rng::Rng;
 use crate::tables::{
     BOUNDARY, Call, Counts, FARTHEST, HALF_AWAY, HALF_UP, LAST_GENERATION, NO_RULES, NOTE_ENTRIES, Service, Store,
@@ -99,14 +100,14 @@ pub fn single_entries(bench: &mut Bench, rng: &mut Rng) -> Outcome {
     Ok(())
 }
 
-/// Compares one call of each kind but load on a damaged copy.
+/// Compares one call of each kind but load on a damaged copy, and a replay.
 fn compare_damaged(bench: &mut Bench, store: &Store, rng: &mut Rng, damage: impl Fn(&mut Store)) -> Outcome {
     let mut damaged = store.clone();
     damage(&mut damaged);
     for call in calls::one_of_each(&mut damaged, rng) {
         bench.compare_only(&damaged, &call)?;
     }
-    Ok(())
+    journal_calls::compare_some(bench, &damaged, rng)
 }
 
 /// Counts off by one, at the slots, past them and far off; and every rule, and what is none.
@@ -181,5 +182,5 @@ fn compare_lengths(bench: &mut Bench, store: &Store, lengths: [usize; 5], rng: &
     for call in &of_each[11..] {
         bench.compare_only(&changed, call)?;
     }
-    Ok(())
+    journal_calls::compare_some(bench, &changed, rng)
 }

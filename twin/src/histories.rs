@@ -8,6 +8,7 @@ use crate::curved::all_rims;
 use crate::curves;
 use crate::damage;
 use crate::handmade;
+use crate::journal_calls;
 use crate::malformed;
 use crate::random_cages::random_cage;
 use crate::reports;
@@ -227,6 +228,7 @@ pub fn random(bench: &mut Bench, rounds: usize, rng: &mut Rng) -> Outcome {
             match rng.below(40) {
                 0 => history.load(bench, calls::some_rule(rng), random_cage(rng).bytes())?,
                 1 => history.load(bench, calls::some_rule(rng), malformed::random(rng))?,
+                2 => journal_calls::compare_some(bench, &history.store, rng)?,
                 _ => calls::compare_some(bench, &mut history.store, 1, rng)?,
             }
         }

@@ -2,6 +2,7 @@
 
 mod batch;
 mod bench;
+mod bounds;
 mod box_coverage;
 mod boxes;
 mod cages;
@@ -16,14 +17,26 @@ mod curve_examples;
 mod curved;
 mod curves;
 mod damage;
+mod entry;
 mod examples;
 mod fault;
 #[cfg(linked)]
 mod ffi;
+#[cfg(linked)]
+mod ffi_journal;
 mod guard;
 mod halves;
 mod handmade;
 mod histories;
+mod journal;
+mod journal_calls;
+mod journal_coverage;
+mod journal_damage;
+mod journal_examples;
+mod journaled;
+mod journals;
+#[cfg(linked)]
+mod lent;
 mod limits;
 mod lists;
 mod load;
@@ -45,8 +58,10 @@ mod random_cages;
 #[path = "../../include/rawplinth.rs"]
 #[cfg_attr(not(linked), allow(dead_code))]
 mod rawplinth;
+mod records;
 mod redraw;
 mod refine;
+mod replay;
 mod report;
 mod report_coverage;
 mod report_examples;
@@ -82,7 +97,7 @@ use rng::Rng;
 use tables::Service;
 use twin::Twin;
 
-/// 16 MB of stack; a call of the library needs at most 3 MB of it.
+/// 16 MB of stack; a call of the library needs at most 5.5 MB of it.
 const STACK: usize = 16 << 20;
 
 fn main() -> ExitCode {

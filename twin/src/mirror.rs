@@ -21,7 +21,8 @@ pub fn of_store(store: &Store, axis: usize) -> Store {
     image
 }
 
-/// The mirror image of a call. A box has none where a bound is the least number of all, which has no opposite.
+/// The mirror image of a call. A box has none where a bound is the least number of all, which has no opposite, and what
+/// records or replays has none, as its cages and boxes are bytes with checksums.
 pub fn of_call(call: &Call, axis: usize) -> Option<Call> {
     match call {
         Call::Load { rule, cage } => Some(Call::Load { rule: *rule, cage: of_cage(cage, axis) }),
@@ -31,6 +32,7 @@ pub fn of_call(call: &Call, axis: usize) -> Option<Call> {
             Some(Call::RefineBox { bounds, below })
         }
         Call::Reported(call) => Some(of_call(call, axis)?.reported()),
+        call if call.is_of_journal() => None,
         other => Some(other.clone()),
     }
 }

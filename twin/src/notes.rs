@@ -119,9 +119,11 @@ fn compare_altered(bench: &mut Bench, store: &Store, note: Vec<u32>) -> Outcome 
     Ok(())
 }
 
-/// Each entry of notes with each of some other numbers, one at a time.
+/// Each entry of notes with each of some other numbers, one at a time; one of the notes has a locked slot.
 pub fn altered(bench: &mut Bench, rng: &mut Rng) -> Outcome {
-    let stores: Vec<Store> = roomy_stores(rng).iter().flat_map(|store| refined_with_notes(store, 5, rng)).collect();
+    let mut stores: Vec<Store> = roomy_stores(rng).iter().flat_map(|store| refined_with_notes(store, 5, rng)).collect();
+    let locked = refined(&cages::tetrahedron(), &[], 4, rng).locked(2);
+    stores.push(noted(locked, 0, rng));
     for store in stores {
         let entries = read(&store).entries();
         for place in 0..entries.len() {

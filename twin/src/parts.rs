@@ -5,8 +5,9 @@ use std::time::Instant;
 use crate::bench::{Bench, Outcome};
 use crate::rng::Rng;
 use crate::{
-    boxes, curve_examples, curves, damage, examples, halves, handmade, histories, limits, lists, locks, malformed,
-    note_examples, notes, report_examples, reports, surgery, unsound, views,
+    boxes, curve_examples, curves, damage, examples, halves, handmade, histories, journal_damage, journal_examples,
+    journals, limits, lists, locks, malformed, note_examples, notes, records, report_examples, reports, surgery,
+    unsound, views,
 };
 
 type Part = fn(&mut Bench, &mut Rng) -> Outcome;
@@ -21,6 +22,12 @@ const PARTS: &[(&str, Part)] = &[
     ("curve tables of all lengths", curves::lengths),
     ("curves with all refusals", curves::orders),
     ("coordinates in curves", curves::coordinates),
+    ("journals as they are told", journal_examples::as_told),
+    ("records of all lengths", records::lengths),
+    ("replays with all refusals", journals::orders),
+    ("places in journals", journals::places),
+    ("headers of other journals", journal_damage::headers),
+    ("records of no kind", journal_damage::odd_records),
     ("views as they are told", views::as_told),
     ("view tables of all lengths", views::lengths),
     ("views with all refusals", views::orders),
@@ -83,6 +90,14 @@ const PARTS: &[(&str, Part)] = &[
     ("shells with boundary", |bench, rng| histories::shells(bench, 150, rng)),
     ("deep histories", |bench, rng| histories::deep(bench, 120, rng)),
     ("random histories", |bench, rng| histories::random(bench, 4_000, rng)),
+    ("random records", |bench, rng| records::random(bench, 60, rng)),
+    ("records that hold anything", |bench, rng| journal_damage::odd_content(bench, 60, rng)),
+    ("journals cut", journal_damage::cut),
+    ("journals changed", journal_damage::changed),
+    ("journals of garbage", journal_damage::garbage),
+    ("random journals", |bench, rng| journals::random(bench, 200, rng)),
+    ("journals of histories", |bench, rng| journals::of_histories(bench, 300, rng)),
+    ("longest records", records::long),
     ("views of every coordinate", views::every_coordinate),
     ("largest tables", histories::largest),
 ];
@@ -113,6 +128,10 @@ pub fn soak_round(bench: &mut Bench, rng: &mut Rng) -> Outcome {
     notes::late(bench, 4, rng)?;
     notes::back_to_load(bench, 1, rng)?;
     reports::redraws(bench, 4, rng)?;
+    records::random(bench, 1, rng)?;
+    journals::random(bench, 2, rng)?;
+    journals::of_histories(bench, 2, rng)?;
+    journal_damage::odd_content(bench, 1, rng)?;
     histories::shells(bench, 1, rng)?;
     histories::deep(bench, 1, rng)?;
     histories::random(bench, 20, rng)

@@ -1,5 +1,7 @@
 //! What a call is lent, the calls and their answers.
 
+pub use crate::bounds::Bounds;
+use crate::entry::Entry;
 pub use crate::rawplinth::{Counts, RAWPLINTH_HALF_AWAY as HALF_AWAY, RAWPLINTH_HALF_UP as HALF_UP};
 pub use crate::rawplinth::{RAWPLINTH_NOTE_ENTRIES as NOTE_ENTRIES, RAWPLINTH_REPORT_ENTRIES as REPORT_ENTRIES};
 use crate::rng::Rng;
@@ -92,6 +94,11 @@ pub struct Room {
     pub report: Vec<u32>,
     /// The tables that a list or a box is worked off in.
     pub spares: Tables,
+    /// The buffer that a record is written to.
+    pub record: Vec<u8>,
+    /// The table that a replay reads lists and notes into. Of this, and of the spare tables after a replay, nothing is
+    /// told: a service leaves both as they were.
+    pub numbers: Vec<u32>,
 }
 
 /// All that a caller lends: the mesh, which is tables and the counts that travel with them, and room beside it.
@@ -156,27 +163,6 @@ impl Store {
     }
 }
 
-/// A box: all points from its low corner to its high one in each coordinate, its faces included.
-#[derive(Clone, Copy, Debug, PartialEq, Eq)]
-pub struct Bounds {
-    pub low: [i32; 3],
-    pub high: [i32; 3],
-}
-
-impl Bounds {
-    pub const EVERYWHERE: Bounds = Bounds { low: [i32::MIN; 3], high: [i32::MAX; 3] };
-
-    /// The smallest box with these two points in it.
-    pub fn about(one: [i32; 3], other: [i32; 3]) -> Bounds {
-        let corner = |pick: fn(i32, i32) -> i32| std::array::from_fn(|axis| pick(one[axis], other[axis]));
-        Bounds { low: corner(i32::min), high: corner(i32::max) }
-    }
-
-    pub fn holds(&self, point: [i32; 3]) -> bool {
-        (0..3).all(|axis| self.low[axis] <= point[axis] && point[axis] <= self.high[axis])
-    }
-}
-
 /// One call with its arguments, apart from what it is lent.
 #[derive(Clone, Debug, PartialEq, Eq)]
 pub enum Call {
@@ -228,6 +214,17 @@ pub enum Call {
     },
     /// One that refines, given a buffer for its report.
     Reported(Box<Call>),
+    /// The header of a journal for tables with these slots, written to a buffer.
+    RecordHeader {
+        slots: [u32; 2],
+    },
+    /// The record of a change, written to a buffer.
+    Record(Entry),
+    /// The changes of a journal made again, from a place on.
+    Replay {
+        journal: Vec<u8>,
+        at: usize,
+    },
 }
 
 impl Call {
@@ -247,6 +244,11 @@ impl Call {
     pub fn reported(self) -> Call {
         assert!(self.refines(), "{self:?} has no report");
         Call::Reported(Box::new(self))
+    }
+
+    /// Whether it records or replays.
+    pub fn is_of_journal(&self) -> bool {
+        matches!(self, Call::RecordHeader { .. } | Call::Record(_) | Call::Replay { .. })
     }
 
     /// The same without a report.
@@ -279,6 +281,13 @@ pub struct Answer {
     pub foreseen: [u32; 2],
     /// The entries written to the buffer of a report.
     pub reported: u32,
+    /// The bytes written of a record or a header, 0 where they do not fit.
+    pub written: usize,
+    /// Why a replay stopped, by its number, the records that it replayed, and where the next one starts. The refusal is
+    /// that of the next one's call.
+    pub stop: u32,
+    pub records: usize,
+    pub end: usize,
 }
 
 /// Refuses with a number where its condition holds.

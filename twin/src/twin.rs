@@ -55,6 +55,9 @@ impl Twin {
             Call::ViewPoint { vertex } => self.view_point(tables, counts, *vertex as usize),
             Call::ViewTriangles => self.view_triangles(tables, counts, &mut room.view),
             Call::Reported(call) => self.reported(store, call),
+            Call::RecordHeader { slots } => Ok(self.record(counts, &self.header(*slots), &mut room.record)),
+            Call::Record(entry) => Ok(self.record(counts, &self.encode(entry), &mut room.record)),
+            Call::Replay { journal, at } => Ok(self.replay(store, journal, *at)),
         };
         answered.map(Made::from)
     }

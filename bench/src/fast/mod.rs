@@ -2,6 +2,7 @@
 //! names, so that callgrind can be told to count them alone.
 
 mod boxes;
+mod journal;
 mod list;
 mod load;
 mod note;
@@ -13,13 +14,15 @@ mod step;
 
 use crate::tables::{
     Answer, BOUNDARY, BatchForeseen, BatchWorked, Call, Counts, HALF_AWAY, HALF_UP, Lent, LimitRead,
-    MOST_TRIANGLE_SLOTS, MOST_VERTEX_SLOTS, Panel, PointSeen, PositionRead, RimRead, RingRead, Shown, Tables, Worked,
+    MOST_TRIANGLE_SLOTS, MOST_VERTEX_SLOTS, Panel, PointSeen, PositionRead, Replayed, RimRead, RingRead, Shown, Tables,
+    Worked,
 };
+use journal::Replay;
 
 const LAST_GENERATION: u8 = 20;
 
 pub fn answer(lent: &mut Lent, call: Call) -> Answer {
-    let Lent { tables, counts, cage, buffer, table, view, note, list, spares, .. } = lent;
+    let Lent { tables, counts, cage, buffer, table, view, note, list, spares, journal, numbers, record, .. } = lent;
     match call {
         Call::Load(rule) => Answer::Worked(fast_load(tables, *counts, rule, cage)),
         Call::Refine(triangle) => Answer::Worked(fast_refine(tables, *counts, triangle)),
@@ -38,7 +41,42 @@ pub fn answer(lent: &mut Lent, call: Call) -> Answer {
         Call::Preview => Answer::Preview(fast_preview(tables, *counts, list, spares)),
         Call::RefineBox(panel) => Answer::List(fast_refine_box(tables, *counts, panel, spares)),
         Call::Reported(refining) => report::answer(lent, refining),
+        Call::RefineEach => Answer::Worked(one_by_one(tables, *counts, list)),
+        Call::RecordLoad(rule) => Answer::Recorded(fast_record_load(record, rule, cage)),
+        Call::RecordRefine(triangle) => Answer::Recorded(fast_record_refine(record, triangle)),
+        Call::Replay => Answer::Replayed(fast_replay(Replay { tables, counts: *counts, spares, numbers }, journal)),
     }
+}
+
+/// The journal of the list's refines.
+pub fn journal_of_list(lent: &Lent) -> Vec<u8> {
+    journal::of_refines(&lent.tables, &lent.list)
+}
+
+/// Refines triangles by a call each, and answers the sums.
+fn one_by_one(tables: &mut Tables, counts: Counts, list: &[u32]) -> Worked {
+    list.iter().fold(Worked { counts, ..Worked::default() }, |sums, &triangle| {
+        let worked = fast_refine(tables, sums.counts, triangle);
+        Worked { splits: sums.splits + worked.splits, flips: sums.flips + worked.flips, ..worked }
+    })
+}
+
+#[unsafe(no_mangle)]
+#[inline(never)]
+fn fast_record_load(buffer: &mut [u8], rule: u32, cage: &[u8]) -> usize {
+    journal::record_load(buffer, rule, cage)
+}
+
+#[unsafe(no_mangle)]
+#[inline(never)]
+fn fast_record_refine(buffer: &mut [u8], triangle: u32) -> usize {
+    journal::record_refine(buffer, triangle)
+}
+
+#[unsafe(no_mangle)]
+#[inline(never)]
+fn fast_replay(replay: Replay, journal: &[u8]) -> Replayed {
+    replay.run(journal, 0)
 }
 
 #[unsafe(no_mangle)]

@@ -7,6 +7,7 @@ use crate::claims;
 use crate::damage;
 use crate::fault::{Fault, Seeded};
 use crate::handmade;
+use crate::journal_calls::edge_entries;
 use crate::malformed;
 use crate::mirror::{self, AXES};
 use crate::parts;
@@ -79,6 +80,8 @@ fn cases_are_read_back_as_they_were_written() {
     store.room.note = vec![0, 4, 4, u32::MAX, 7, 7];
     store.room.report = vec![3, 3, u32::MAX];
     store.room.spares = fitting_spares(&store, rng);
+    store.room.record = vec![0, 0, 255];
+    store.room.numbers = vec![u32::MAX, 1];
     let calls = [
         Call::Load { rule: 1, cage: vec![1, 1, 1, 255, 0] },
         Call::Load { rule: u32::MAX, cage: vec![] },
@@ -105,8 +108,12 @@ fn cases_are_read_back_as_they_were_written() {
         Call::RefineList { list: vec![3, 3, 3, u32::MAX] }.reported(),
         Call::Preview { list: vec![] }.reported(),
         Call::RefineBox { bounds: Bounds::EVERYWHERE, below: 20 }.reported(),
+        Call::RecordHeader { slots: [7, u32::MAX] },
+        Call::Replay { journal: vec![], at: 0 },
+        Call::Replay { journal: vec![82, 80, 80, 0], at: usize::MAX },
     ];
-    for call in calls {
+    let records = edge_entries(rng).into_iter().map(Call::Record);
+    for call in calls.into_iter().chain(records) {
         let case = Case { store: store.clone(), call };
         assert_eq!(case.to_string().parse(), Ok(case));
     }

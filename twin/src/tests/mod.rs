@@ -3,6 +3,7 @@
 mod boxes;
 mod curves;
 mod harness;
+mod journals;
 mod lists;
 mod locks;
 mod modules;

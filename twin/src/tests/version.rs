@@ -3,7 +3,7 @@
 use crate::rawplinth::RAWPLINTH_VERSION;
 
 /// The version that has the calls of the twin.
-const VERSION_OF_TWIN: u32 = 13;
+const VERSION_OF_TWIN: u32 = 14;
 
 #[test]
 fn the_declarations_have_the_version_of_the_twin() {
