@@ -1,4 +1,4 @@
-// The public calls that need no spare tables. None asks anything of its caller, but those named `known` are to be told
+// The public calls on one mesh, without spare tables and reports. None asks anything of its caller, but those named `known` are to be told
 // the first refusal of the mesh. What cannot be done is refused, and then nothing lent is written.
 use points::Point;
 use tables::Counts;

@@ -1,5 +1,6 @@
 -- The base chain falls and its count is exact; refine raises its triangle, writes and relinks slots known before the
--- work, and is Kobbelt's procedure; and no run of splits raises a triangle with fewer.
+-- work, 25 old ones at most, flips once for each split after the first, goes on wherever it may begin, and is Kobbelt's
+-- procedure; and no run of splits raises a triangle with fewer.
 pub mod Runs
 pub mod Chain
 pub mod Remembered

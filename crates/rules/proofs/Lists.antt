@@ -1,4 +1,5 @@
--- Triangles refined one after the other: what a list makes of a mesh, which entry fails, and with what.
+-- A list: what its entries fail with or make, that the call is all or nothing, what the spare tables hold, that work in
+-- them gives the same, and the list foreseen.
 pub mod AllOrNothing
 pub mod Entries
 pub mod ListCall

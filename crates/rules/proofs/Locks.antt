@@ -1,4 +1,5 @@
--- Locked triangles: which ones a refine would alter, and that each stands after every call but a load.
+-- Locked triangles: which ones a refine would alter, that each stands after every call but a load, and that its links
+-- follow, or go back with a refine taken back.
 pub mod Standing
 pub mod LeftAlone
 pub mod LockedFaces

@@ -1,4 +1,4 @@
--- The rim from a vertex on closes, and its curve.
+-- The rim from a vertex on closes and has each of its vertices once, and what its curve is.
 pub mod RimWalk
 pub mod Smoothing
 pub mod Curve

@@ -1,4 +1,5 @@
--- A split and its flips keep links, levels and fans, and what they count and leave alone.
+-- A split and its flips: they keep links, levels and fans; what they count, report, unlock and leave alone; and that
+-- links follow the sides that they name.
 pub mod Parts
 pub mod PartsKeep
 pub mod SplitKeeps

@@ -1,4 +1,4 @@
--- A refine flips once for each split after the first; so at most twice more than it splits.
+-- A refine flips once for each split after the first; so its flips are at most two more than its splits.
 use mathlib.Core.Path.{_≡_, refl, sym, ap, _∙_, subst}
 use mathlib.Core.Bool.{Bool, true, false}
 use mathlib.Core.List.{_++_}
