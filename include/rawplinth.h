@@ -1,7 +1,11 @@
 /* Rawplinth: root-three refinement of triangle meshes on tables that the caller lends.
 
    Link with librawplinth.a (make lib). The library keeps nothing between calls, takes no memory but stack, and makes no
-   system call. */
+   system call. How much stack is told at each call: load, replay and take_back need up to 3 MB, which a thread may have
+   to be given.
+
+   These are the calls as they are linked, with a pointer and a length for each table. In C use those of
+   rawplinth_mesh.h, which take a struct with the tables and the counts in their place. */
 #ifndef RAWPLINTH_H
 #define RAWPLINTH_H
 
@@ -220,12 +224,17 @@ typedef struct {
    Whatever they hold, a call does what it says or is refused, with the first number of its list that applies. Slots
    past the counts are written only where a call takes them into use.
 
+   Each call but load and record_.. tests all that is in use first, so that even one that reads one vertex takes time in
+   proportion to the mesh. Between calls a caller may read the tables, to draw a few triangles say: triangle t has its
+   corner i at positions[3*corners[3*t+i]] and the two entries behind it.
+
    A pointer must be valid for its entries, and not null even where there are none. What is lent to one call must not
    overlap, and nobody else may use it while the call runs: calls on different meshes may run at the same time. */
 
 /* Loads a cage: its numbers of vertices and triangles, 3 signed coordinates a vertex, 3 corners a triangle,
-   each number 4 bytes, low byte first. What is loaded depends neither on the counts nor on what the tables held. The
-   rule is the mesh's until the next load that is carried out.
+   each number 4 bytes, low byte first. Where the machine has the low byte first, these are the bytes of an array of
+   int32_t. What is loaded depends neither on the counts nor on what the tables held. The rule is the mesh's until the
+   next load that is carried out.
    Refuses with 1, 16, 2, 3, 4, 5, 6, in this order. Writes the first slots of all tables. Needs 2.7 MB of stack. */
 rawplinth_worked rawplinth_load(
     int32_t *positions, size_t positions_length,
@@ -282,6 +291,10 @@ rawplinth_worked rawplinth_refine_noted(
    refine_noted wrote is accepted until the mesh is next changed, and later too wherever this holds: then it may take
    back several refines. None that was altered, or is of another mesh, can do harm: it is refused with 21, or it takes a
    refine back all the same.
+   Notes kept in a stack undo refine after refine, as the note of one is accepted again when the next one is taken back.
+   A lock or unlock of a triangle that is in the note, or that the refine made, stands in the way with 21 until it is
+   reversed; of others it does not. Lists, boxes, whole steps and loads have no note: to undo one, keep a copy of the
+   tables and the counts.
    Refuses with 1, 7, 21, in this order. Writes corners, links, generations and locks of the slots in the note, and
    nothing else. Needs 0.25 MB of stack with at most 3000 vertices and triangles in use, else 2.4 MB, never above
    3 MB. */
