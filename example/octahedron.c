@@ -1,20 +1,12 @@
 /* Loads an octahedron, reads where ever more whole steps without rounding would take its vertices, and shows how the
    two rules round halves. */
-#include "rawplinth.h"
+#include "rawplinth_mesh.h"
 
 #include <stdio.h>
 
-enum { VERTICES = 6, TRIANGLES = 8 };
+enum { VERTICES = 6, TRIANGLES = 8, ENTRIES = RAWPLINTH_BLOCK_ENTRIES(VERTICES, TRIANGLES) };
 
-static int32_t positions[3 * VERTICES];
-static uint32_t corners[3 * TRIANGLES];
-static uint32_t links[3 * TRIANGLES];
-static uint8_t generations[TRIANGLES];
-static uint8_t locks[TRIANGLES];
-
-/* The five tables with their lengths, as every call takes them. */
-#define TABLES \
-    positions, 3 * VERTICES, corners, 3 * TRIANGLES, links, 3 * TRIANGLES, generations, TRIANGLES, locks, TRIANGLES
+static uint32_t block[ENTRIES];
 
 /* The sizes, the coordinates and the corners: 9 mm from the centre to each vertex. */
 static int32_t cage[] = {
@@ -24,33 +16,31 @@ static int32_t cage[] = {
 };
 
 /* Loads the cage by a rule. */
-static rawplinth_worked load(uint32_t rule)
+static rawplinth_worked load(rawplinth_mesh *mesh, uint32_t rule)
 {
-    rawplinth_counts fresh = {0, 0, RAWPLINTH_HALF_UP};
     uint8_t bytes[sizeof cage];
     for (size_t i = 0; i < sizeof bytes; i++)
         bytes[i] = (uint32_t)cage[i / 4] >> 8 * (i % 4) & 255;
-    return rawplinth_load(TABLES, fresh, rule, bytes, sizeof bytes);
+    return rawplinth_mesh_load(mesh, rule, bytes, sizeof bytes);
 }
 
 int main(void)
 {
-    rawplinth_worked done = load(RAWPLINTH_HALF_UP);
-    if (done.refusal != RAWPLINTH_OK)
+    rawplinth_mesh mesh = rawplinth_mesh_in(block, ENTRIES, VERTICES, TRIANGLES);
+    if (load(&mesh, RAWPLINTH_HALF_UP).refusal != RAWPLINTH_OK)
         return 1;
-    rawplinth_counts counts = done.counts;
 
     /* One entry for each coordinate of the vertices in use. */
     int32_t limits[3 * VERTICES];
-    rawplinth_limit_read read = rawplinth_limit(TABLES, counts, limits, 3 * VERTICES);
+    rawplinth_limit_read read = rawplinth_mesh_limit(&mesh, limits, 3 * VERTICES);
     if (read.refusal != RAWPLINTH_OK)
         return 1;
     for (int v = 0; v < VERTICES; v++) {
-        const int32_t *from = positions + 3 * v, *to = limits + 3 * v;
+        const int32_t *from = mesh.positions + 3 * v, *to = limits + 3 * v;
         printf("vertex %d: cage %5d %5d %5d, limit %5d %5d %5d\n", v, from[0], from[1], from[2], to[0], to[1], to[2]);
     }
 
-    read = rawplinth_limit(TABLES, counts, limits, 3 * VERTICES - 1);
+    read = rawplinth_mesh_limit(&mesh, limits, 3 * VERTICES - 1);
     printf("a table of %d entries: refused with %u\n", 3 * VERTICES - 1, read.refusal);
 
     /* With vertex 2 at 305834 and -305834 and all others at 0, vertex 1 has its limit at 43690.5 and -43690.5: rule 2
@@ -58,9 +48,9 @@ int main(void)
     for (int i = 0; i < 3 * VERTICES; i++)
         cage[2 + i] = i == 6 ? 305834 : i == 7 ? -305834 : 0;
     for (uint32_t rule = RAWPLINTH_HALF_UP; rule <= RAWPLINTH_HALF_AWAY; rule++) {
-        counts = load(rule).counts;
-        rawplinth_limit(TABLES, counts, limits, 3 * VERTICES);
-        printf("halves by rule %u: %d and %d\n", counts.rule, limits[3], limits[4]);
+        load(&mesh, rule);
+        rawplinth_mesh_limit(&mesh, limits, 3 * VERTICES);
+        printf("halves by rule %u: %d and %d\n", mesh.counts.rule, limits[3], limits[4]);
     }
     return 0;
 }
