@@ -21,7 +21,7 @@ run:
 lib:
 	@$(RT) staticlib rawplinth >/dev/null
 example: lib
-	@for name in tetrahedron octahedron list shell journal; do \
+	@for name in tetrahedron octahedron list shell journal editor; do \
 	    $(CC) $(CFLAGS) example/$$name.c target/staticlib/librawplinth.a -o target/$$name && target/$$name || exit 1; \
 	done
 twin: lib
