@@ -1,4 +1,4 @@
--- What requests make of a mesh.
+-- A fresh store, and what requests make of a mesh.
 use Prim.Native.Nat.{ℕ, zero, suc, _-_, _*_, _/_, _^_, _≤_}
 use mathlib.Core.List.{List, _++_}
 use mathlib.Core.Path.{_≡_}
@@ -6,6 +6,11 @@ use lib.ListN.{length}
 use Rattle.rules.specs.Calls.{refineCall}
 use Rattle.rules.specs.Numbers.{numberAt}
 use Rattle.rules.specs.Tables.{Mesh}
+use Rattle.tables.specs.declared.Counts.{Counts}
+
+-- The counts of a fresh store, with rule 1.
+abbrev pub fresh : Counts
+fresh = record { vertices = 0; triangles = 0; rule = 1 }
 
 -- The mesh after the first n requests in these bytes, each a triangle's number in four of them.
 unfoldable pub afterRequests : ℕ → List ℕ → Mesh → Mesh

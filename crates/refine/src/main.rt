@@ -2,11 +2,14 @@
 use libc::STDOUT_FILENO;
 use tables::Counts;
 use tables::Worked;
-ghost use Prim.Native.Nat.{_%_, _≤_};
+ghost use Prim.Native.Nat.{ℕ, _%_, _≤_};
+ghost use mathlib.Core.List.{List};
 ghost use mathlib.Core.Path.{_≡_};
 ghost use lib.ListN.{length, take};
+ghost use Rattle.rules.specs.Calls.{loadCall};
+ghost use Rattle.tables.specs.Answers.{workedOutcome};
 ghost use Rattle.tables.specs.Lent.{meshNow};
-ghost use Rattle.refine.specs.Requests.{afterBytes, AllAnswered};
+ghost use Rattle.refine.specs.Requests.{fresh, afterBytes, AllAnswered};
 
 // The counts after the requests of a read, and how many bytes of the buffer it filled.
 struct Answered {
@@ -28,7 +31,7 @@ fn print(answer: Worked) {
     put(answer.counts.triangles, b"\n");
 }
 
-// Loads the cage in a file by rule 1; one that is missing is empty. The buffer has a byte more than the largest cage of
+// Loads the cage in a file by rule 1, in a fresh store; one that is missing is empty. The buffer has a byte more than the largest cage of
 // this store, so that a longer file is longer here too.
 fn load(
     positions: &mut [i32],
@@ -38,7 +41,11 @@ fn load(
     locks: &mut [u8],
     path: &[u8],
 ) -> Worked
-    ensures { λ r. ⌜ r .counts .rule ≡ 1 ⌝ }
+    ensures { λ r. ⌜ ((bytes : List ℕ) × (
+        workedOutcome r (now (positions .exit)) (now (corners .exit)) (now (links .exit)) (now (generations .exit))
+        (now (locks .exit))
+        ≡ loadCall 1 bytes (meshNow fresh (now (positions .entry)) (now (corners .entry)) (now (links .entry))
+        (now (generations .entry)) (now (locks .entry))))) ⌝ }
 {
     let fresh = Counts {
         vertices: 0,

@@ -1,22 +1,7 @@
--- `refine::load` meets its contract: carried out or refused, a load by rule 1 in a store of rule 1 leaves rule 1.
+-- `refine::load` meets its contract: it is a load by rule 1, of what was read or of no bytes.
 use borrow.Author.Needs.{needs}
-use mathlib.Core.List.{List}
-use mathlib.Core.Path.{_≡_, refl, ap, _∙_}
-use Prim.Native.Nat.{ℕ}
-use Rattle.rules.proofs.Calls.CallRefusals.{load-judged}
-use Rattle.rules.proofs.Calls.FirstThatHolds.{Judged, carried, refused}
-use Rattle.rules.specs.Calls.{noRoom, Outcome, loadCall}
-use Rattle.rules.specs.Tables.{Mesh}
 use Rattle.refine.proofs.load.Statement.{statement}
 use Rattle.refine.proofs.load.Tie as tie
-
-judged-by-one : {n : ℕ} {m : Mesh} {success o : Outcome} → m .rule ≡ 1 → success .mesh .rule ≡ 1
-    → Judged n m noRoom success o → o .mesh .rule ≡ 1
-judged-by-one e s (carried z) = s
-judged-by-one e s (refused z) = e
-
-by-one : (bytes : List ℕ) (m : Mesh) → m .rule ≡ 1 → loadCall 1 bytes m .mesh .rule ≡ 1
-by-one bytes m e = judged-by-one e refl (load-judged 1 bytes m)
 
 open-read-requires : tie.Need-open-read-requires
 open-read-requires c κs = search needs
@@ -45,7 +30,7 @@ same-length-5 c = search needs
 returns : tie.Need-returns
 returns c =
     let at = c .before .before .before .before .before .before .before .before .before in
-    ap (λ (o : Outcome). o .mesh .rule) (at .load .ensures) ∙ by-one _ _ refl
+    (_, at .load .ensures)
 
 slice-aggregate-read-full : tie.Need-slice-aggregate-read-full
 slice-aggregate-read-full c = search needs
@@ -83,7 +68,7 @@ same-length-10 c = search needs
 returns-2 : tie.Need-returns-2
 returns-2 c =
     let at = c .before .before .before .before .before .before .before .before .before in
-    ap (λ (o : Outcome). o .mesh .rule) (at .load2 .ensures) ∙ by-one _ _ refl
+    (_, at .load2 .ensures)
 
 pub load-spec : {M : Type 1} → statement M
 load-spec =
