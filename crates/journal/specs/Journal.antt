@@ -149,9 +149,7 @@ stopAt bytes =
     ∷ 3 if not (holds bytes 0 8)
     ∷ 2 if ltb (length bytes) (recordLength bytes)
     ∷ 3 if not (holds bytes 12 (sizeAt bytes))
-    ∷ 4 if not (isKind (kindAt bytes) (sizeAt bytes))
-    ∷ []
-    )
+    ∷ 4 if not (isKind (kindAt bytes) (sizeAt bytes)) ∷ [])
 
 -- The same of the header, which is to be of tables with these slots; 6 where it is of others.
 unfoldable pub headerStop : ℕ → ℕ → List ℕ → ℕ
@@ -161,9 +159,7 @@ headerStop vertexSlots triangleSlots bytes =
     ∷ 2 if ltb (length bytes) 20
     ∷ 3 if not (holds bytes 0 16)
     ∷ 4 if not (eqb (numberAt bytes 0) 1246515282 && eqb (numberAt bytes 4) 1)
-    ∷ 6 if not (eqb (numberAt bytes 8) vertexSlots && eqb (numberAt bytes 12) triangleSlots)
-    ∷ []
-    )
+    ∷ 6 if not (eqb (numberAt bytes 8) vertexSlots && eqb (numberAt bytes 12) triangleSlots) ∷ [])
 
 -- The box of seven numbers.
 abbrev pub boxIn : List ℕ → Box

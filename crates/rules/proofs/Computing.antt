@@ -11,7 +11,7 @@ use Rattle.rules.specs.Calls.{Outcome, closedEven, loadRefusal, refineRe
 use Rattle.rules.specs.Calls.{positionRefusal, limitRefusal, loadCall, refineCall, wholeStepCall, ringCall}
 use Rattle.rules.specs.Calls.{positionCall, limitCall, altersLocked, someLocked, lockRefusal, lockCall}
 use Rattle.rules.specs.Calls.{viewRefusal, viewCall}
-use Rattle.rules.specs.History.{Change, changes, after, outcomes, lastLoad, edges, cageEdges}
+use Rattle.rules.specs.History.{Change, Call, changes, outcome, after, lastLoad, edges, cageEdges}
 use Rattle.rules.specs.Lists.{entryRefusal, entryWork, handle, handleAll, sparesRefusal, listCall}
 use Rattle.rules.specs.Lists.{previewCall}
 use Rattle.rules.specs.Notes.{differs, ninesOf, notedRefusal, notedCall, putBackAll, restored, sameInUse}
@@ -28,6 +28,11 @@ use Rattle.rules.specs.Step.{sumOver, movedCoordinate, moveVertices, ref
 use Rattle.rules.specs.Reports.{reportedCall, reportForeseen}
 use Rattle.rules.specs.Step.{limitPositions}
 use Rattle.rules.specs.Tables.{Mesh, topologyOf, meshOf, tablesAgree}
+
+-- The outcomes of a list of calls, each getting the mesh as the one before left it.
+unfoldable pub outcomes : List Call → Mesh → List Outcome
+outcomes [] m = []
+outcomes (c ∷ cs) m = let o = outcome c m in o ∷ outcomes cs (o .mesh)
 
 -- A declaration that says `unfolding computing` computes with every definition of the rules.
 unfoldable pub computing : Unit {0}

@@ -5,14 +5,14 @@ use mathlib.Core.List.{List, [], _∷_, _++_, map}
 use mathlib.Core.Path.{_≡_, refl}
 use lib.IntN.{ℤ, pos, negsuc}
 use lib.ListN.{replicate, take, drop, getD, set}
-use Rattle.rules.proofs.Computing.{computing, made, madeEach, fresh, sevens, boxOf, bytes, tetrahedron}
+use Rattle.rules.proofs.Computing.{computing, made, madeEach, fresh, sevens, boxOf, bytes, tetrahedron, outcomes}
 use Rattle.rules.proofs.Examples.{lineOf, triangleOf, pointOf, oneTriangle}
 use Rattle.rules.proofs.Refusals.{refusalAfter, cageAtOrigin, triangle, hinge, cutAtBoundary, firstNote}
 use Rattle.rules.specs.Below.{those}
 use Rattle.rules.specs.Boxes.{Box}
 use Rattle.rules.specs.Calls.{Outcome}
 use Rattle.rules.specs.History.{Change, loads, refines, steps, refinesEach, refinesInBox, setsLock, ringOf}
-use Rattle.rules.specs.History.{positionOf, limitsOf, asked, changes, asks, previewOf, outcome, outcomes}
+use Rattle.rules.specs.History.{positionOf, limitsOf, asked, changes, asks, previewOf, outcome}
 use Rattle.rules.specs.History.{refinesNoted, takesBack, reports, previewReported, curveOf, nothing, cage}
 use Rattle.rules.specs.History.{lastLoad, edges}
 use Rattle.rules.specs.Mirror.{mirror, mirrorTable}

@@ -79,9 +79,7 @@ boxRefusal b spares m =
     1 if not (tablesAgree m)
     ∷ 17 if not (sameSizes spares m)
     ∷ 18 if not (boxFits b)
-    ∷ 7 if not (isSound m)
-    ∷ []
-    )
+    ∷ 7 if not (isSound m) ∷ [])
 
 -- All or nothing, in spare tables, as a list is.
 unfoldable pub boxCall : Box → Spares → Mesh → Outcome

@@ -51,23 +51,31 @@ pub record Outcome : Type 0 where
   pub mesh : Mesh
   pub room : Room
 
--- An answer from its parts, with the counts of a mesh, where no spare tables are worked in.
-abbrev pub answerOf : ℕ → ℕ → ℕ → ℕ → ℤ × ℤ × ℤ → Mesh → Answer
-answerOf refusal splits flips n point m = record {
+-- An answer from its parts: the counts of the mesh and of the mesh in the spare tables are V, F and the rule.
+abbrev pub answerFrom : ℕ → ℕ → ℕ → ℕ → ℤ × ℤ × ℤ → ℕ × ℕ × ℕ → ℕ → ℕ × ℕ × ℕ → ℕ → Answer
+answerFrom refusal splits flips n point counts handled spareCounts reported = record {
   refusal = refusal;
   splits = splits;
   flips = flips;
   ringLength = n;
   point = point;
-  vertices = m .topology .vertices;
-  triangles = m .topology .triangles;
-  rule = m .rule;
-  handled = 0;
-  spareVertices = 0;
-  spareTriangles = 0;
-  spareRule = 0;
-  reported = 0;
+  vertices = counts .0;
+  triangles = counts .1;
+  rule = counts .2;
+  handled = handled;
+  spareVertices = spareCounts .0;
+  spareTriangles = spareCounts .1;
+  spareRule = spareCounts .2;
+  reported = reported;
 }
+
+-- V, F and the rule of a mesh.
+abbrev pub countsOf : Mesh → ℕ × ℕ × ℕ
+countsOf m = (m .topology .vertices, m .topology .triangles, m .rule)
+
+-- An answer where no spare tables are worked in.
+abbrev pub answerOf : ℕ → ℕ → ℕ → ℕ → ℤ × ℤ × ℤ → Mesh → Answer
+answerOf refusal splits flips n point m = answerFrom refusal splits flips n point (countsOf m) 0 (0, 0, 0) 0
 
 -- No room; a buffer, a table, spare tables alone.
 abbrev pub noRoom : Room
@@ -92,21 +100,9 @@ abbrev pub withReport : List ℕ → ℕ → Outcome → Outcome
 withReport report n o =
     let a = o .answer in
     let r = o .room in
-    outcomeOf (record {
-      refusal = a .refusal;
-      splits = a .splits;
-      flips = a .flips;
-      ringLength = a .ringLength;
-      point = a .point;
-      vertices = a .vertices;
-      triangles = a .triangles;
-      rule = a .rule;
-      handled = a .handled;
-      spareVertices = a .spareVertices;
-      spareTriangles = a .spareTriangles;
-      spareRule = a .spareRule;
-      reported = n;
-    }) (o .mesh) (record { buffer = r .buffer; table = r .table; spares = r .spares; report = report })
+    outcomeOf (answerFrom (a .refusal) (a .splits) (a .flips) (a .ringLength) (a .point)
+    (a .vertices, a .triangles, a .rule) (a .handled) (a .spareVertices, a .spareTriangles, a .spareRule) n) (o .mesh)
+    (record { buffer = r .buffer; table = r .table; spares = r .spares; report = report })
 
 -- What is answered where no position is asked for.
 abbrev pub zeroPoint : ℤ × ℤ × ℤ
@@ -132,6 +128,10 @@ pub data Test : Type 0 where
 abbrev pub firstOf : List Test → ℕ
 firstOf [] = 0
 firstOf (n if holds ∷ rest) = elim holds [ true ↦ n | false ↦ firstOf rest ]
+
+-- 1 and 7, which every call on a stored mesh begins with, and then these. (Refused inputs, below the table)
+abbrev pub onSound : Mesh → List Test → ℕ
+onSound m rest = firstOf (1 if not (tablesAgree m) ∷ 7 if not (isSound m) ∷ rest)
 
 -- Slots for v vertices and f triangles more. (Refused inputs, 11)
 abbrev pub roomFor : ℕ → ℕ → Mesh → Bool
@@ -195,75 +195,49 @@ loadRefusal rule bytes m =
     ∷ 3 if not (cornersFit c)
     ∷ 4 if not (coordinatesFit c)
     ∷ 5 if not (sidesDiffer c)
-    ∷ 6 if (not (fansFit c m) || someInnerOfTwo c m)
-    ∷ []
-    )
+    ∷ 6 if (not (fansFit c m) || someInnerOfTwo c m) ∷ [])
 
 unfoldable pub refineRefusal : ℕ → Mesh → ℕ
 refineRefusal t m =
     let tri = m .topology in
-    firstOf (
-    1 if not (tablesAgree m)
-    ∷ 7 if not (isSound m)
-    ∷ 8 if leb (tri .triangles) t
+    onSound m (
+    8 if leb (tri .triangles) t
     ∷ 9 if tooOld tri t
     ∷ 19 if altersLocked t m
-    ∷ 11 if not (roomFor (verticesOf tri t) (trianglesOf tri t) m)
-    ∷ []
-    )
+    ∷ 11 if not (roomFor (verticesOf tri t) (trianglesOf tri t) m) ∷ [])
 
 unfoldable pub wholeStepRefusal : Mesh → ℕ
 wholeStepRefusal m =
     let tri = m .topology in
-    firstOf (
-    1 if not (tablesAgree m)
-    ∷ 7 if not (isSound m)
-    ∷ 12 if not (closedEven tri)
+    onSound m (
+    12 if not (closedEven tri)
     ∷ 9 if eqb (generation tri 0) 20
     ∷ 13 if longRing tri
     ∷ 19 if someLocked m
-    ∷ 11 if not (roomFor (tri .triangles) (2 * tri .triangles) m)
-    ∷ []
-    )
+    ∷ 11 if not (roomFor (tri .triangles) (2 * tri .triangles) m) ∷ [])
 
 unfoldable pub lockRefusal : ℕ → Mesh → ℕ
-lockRefusal t m =
-    firstOf (1 if not (tablesAgree m) ∷ 7 if not (isSound m) ∷ 8 if leb (m .topology .triangles) t ∷ [])
+lockRefusal t m = onSound m (8 if leb (m .topology .triangles) t ∷ [])
 
 unfoldable pub limitRefusal : List ℤ → Mesh → ℕ
 limitRefusal table m =
     let tri = m .topology in
-    firstOf (
-    1 if not (tablesAgree m)
-    ∷ 7 if not (isSound m)
-    ∷ 12 if not (closedEven tri)
+    onSound m (
+    12 if not (closedEven tri)
     ∷ 13 if longRing tri
-    ∷ 15 if not (eqb (length table) (3 * tri .vertices))
-    ∷ []
-    )
+    ∷ 15 if not (eqb (length table) (3 * tri .vertices)) ∷ [])
 
 unfoldable pub ringRefusal : ℕ → List ℕ → Mesh → ℕ
 ringRefusal v buffer m =
-    firstOf (
-    1 if not (tablesAgree m)
-    ∷ 7 if not (isSound m)
-    ∷ 8 if leb (m .topology .vertices) v
-    ∷ 14 if ltb (length buffer) (length (ring (m .topology) v))
-    ∷ []
-    )
+    onSound m (
+    8 if leb (m .topology .vertices) v
+    ∷ 14 if ltb (length buffer) (length (ring (m .topology) v)) ∷ [])
 
 unfoldable pub positionRefusal : ℕ → Mesh → ℕ
-positionRefusal v m =
-    firstOf (1 if not (tablesAgree m) ∷ 7 if not (isSound m) ∷ 8 if leb (m .topology .vertices) v ∷ [])
+positionRefusal v m = onSound m (8 if leb (m .topology .vertices) v ∷ [])
 
 unfoldable pub viewRefusal : ℕ → Mesh → ℕ
-viewRefusal n m =
-    firstOf (
-    1 if not (tablesAgree m)
-    ∷ 7 if not (isSound m)
-    ∷ 20 if ltb n (9 * m .topology .triangles)
-    ∷ []
-    )
+viewRefusal n m = onSound m (20 if ltb n (9 * m .topology .triangles) ∷ [])
 
 -- ---- the calls
 

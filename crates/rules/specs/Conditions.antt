@@ -209,14 +209,14 @@ pub record LowestWanted (b : Box) (m : Mesh) (t : ℕ) : Type 0 where
   pub lowest : (s : ℕ) → s < t → ¬ Wanted b m s
 
 -- Work w with k turns of the box, none of which fails, is x: in each the lowest such triangle is refined.
-pub data Turns (b : Box) : ℕ → Work → Work → Type 0 where
-  noTurn : {w : Work} → Turns b 0 w w
+pub data BoxTurns (b : Box) : ℕ → Work → Work → Type 0 where
+  noTurn : {w : Work} → BoxTurns b 0 w w
   oneTurn : {t k : ℕ} {w x : Work} → LowestWanted b (w .mesh) t → MayRefine t (w .mesh)
-      → Turns b k (refine t w) x → Turns b (suc k) w x
+      → BoxTurns b k (refine t w) x → BoxTurns b (suc k) w x
 
 -- After k turns, which make w, the lowest such triangle fails with n. It is not skipped.
 pub record TurnFails (b : Box) (m : Mesh) (k : ℕ) (w : Work) (n : ℕ) : Type 0 where
-  pub turns : Turns b k (atFirst m) w
+  pub turns : BoxTurns b k (atFirst m) w
   pub triangle : ℕ
   pub next : LowestWanted b (w .mesh) triangle
   pub fails : RefineFails triangle (w .mesh) n

@@ -84,11 +84,6 @@ unfoldable pub after : List Call → Mesh → Mesh
 after [] m = m
 after (c ∷ cs) m = after cs (outcome c m .mesh)
 
--- The outcomes of such a list.
-unfoldable pub outcomes : List Call → Mesh → List Outcome
-outcomes [] m = []
-outcomes (c ∷ cs) m = let o = outcome c m in o ∷ outcomes cs (o .mesh)
-
 -- ---- the cage of the last accepted load
 
 -- No load accepted yet, or the bytes of the last one.

@@ -3,8 +3,8 @@ use Prim.Native.Nat.{ℕ, zero, suc}
 use mathlib.Core.Bool.{Bool, true, false, not}
 use mathlib.Core.List.{List, [], _∷_}
 use lib.Dec.{leb, ltb}
-use Rattle.rules.specs.Calls.{Answer, Outcome, spareRoom, outcomeOf, zeroPoint, firstOf, _if_, unless}
-use Rattle.rules.specs.Calls.{refineRefusal}
+use Rattle.rules.specs.Calls.{Answer, Outcome, answerFrom, countsOf, spareRoom, outcomeOf, zeroPoint, firstOf}
+use Rattle.rules.specs.Calls.{_if_, unless, refineRefusal}
 use Rattle.rules.specs.Sound.{isSound}
 use Rattle.rules.specs.Spares.{Spares, copied, sameSizes}
 use Rattle.rules.specs.Split.{Work, atFirst, refine}
@@ -68,21 +68,8 @@ sparesRefusal spares m =
 
 -- An answer with the counts of m, and of the mesh n in the spare tables.
 abbrev pub sparesAnswer : ℕ → ℕ → ℕ → Mesh → ℕ → Mesh → Answer
-sparesAnswer refusal splits flips m handled n = record {
-  refusal = refusal;
-  splits = splits;
-  flips = flips;
-  ringLength = 0;
-  point = zeroPoint;
-  vertices = m .topology .vertices;
-  triangles = m .topology .triangles;
-  rule = m .rule;
-  handled = handled;
-  spareVertices = n .topology .vertices;
-  spareTriangles = n .topology .triangles;
-  spareRule = n .rule;
-  reported = 0;
-}
+sparesAnswer refusal splits flips m handled n =
+    answerFrom refusal splits flips 0 zeroPoint (countsOf m) handled (countsOf n) 0
 
 -- All or nothing: after a failure the mesh stands. The slots in use of the spare tables hold the mesh after the last
 -- entry, or turn, that succeeded, in either case, and their other slots keep their content.

@@ -9,10 +9,10 @@ use lib.ListN.{length, getD, set}
 use lib.Signed.{leZ}
 use Rattle.rules.specs.Below.{all, those, fill}
 use Rattle.rules.specs.Calls.{Outcome, outcomeOf, answerOf, bufferRoom, noRoom, zeroPoint, worked, unless, firstOf}
-use Rattle.rules.specs.Calls.{_if_, refineRefusal}
+use Rattle.rules.specs.Calls.{_if_, onSound, refineRefusal}
 use Rattle.rules.specs.Sound.{Sound, isSound}
 use Rattle.rules.specs.Split.{atFirst, refine}
-use Rattle.rules.specs.Tables.{Mesh, tablesAgree, sides, origin, link, generation, lock, putTriangle, withCounts}
+use Rattle.rules.specs.Tables.{Mesh, sides, origin, link, generation, lock, putTriangle, withCounts}
 use Rattle.rules.specs.Tables.{withTopology, withLocks}
 
 -- ---- what a note says
@@ -164,8 +164,7 @@ accepted note m =
     && sameInUse m (refined (notedTriangle note) old)
 
 unfoldable pub takeBackRefusal : List ℕ → Mesh → ℕ
-takeBackRefusal note m =
-    firstOf (1 if not (tablesAgree m) ∷ 7 if not (isSound m) ∷ 21 if not (accepted note m) ∷ [])
+takeBackRefusal note m = onSound m (21 if not (accepted note m) ∷ [])
 
 -- No splits and no flips are answered.
 unfoldable pub takeBackCall : List ℕ → Mesh → Outcome

@@ -67,8 +67,8 @@ weights = 0 ∷ 0 ∷ 43691 ∷ 36409 ∷ 29127 ∷ 24627 ∷ 21845 ∷ 20047 �
 unfoldable pub weight : ℕ → ℕ
 weight n = getD weights n 0
 
--- Where a vertex moves, in one coordinate: it is at p and has n ring entries that add up to s. Kobbelt's (2), times
--- 65536 n over the same, rounded by the rule. (Whole step, N/D; request c)
+-- Where a vertex moves, in one coordinate: it is at p and has n ring entries that add up to s. Kobbelt's (2) as N / D,
+-- with N = n (65536 - w) p + w s and D = 65536 n, rounded by the rule. (Whole step; request c)
 unfoldable pub moved : ℕ → ℕ → ℤ → ℤ → ℤ
 moved rule n p s = rounded rule (pos n *ℤ (pos 65536 -ℤ pos (weight n)) *ℤ p +ℤ pos (weight n) *ℤ s) (65536 * n)
 

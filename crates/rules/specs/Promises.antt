@@ -15,7 +15,7 @@ use Rattle.rules.specs.Calls.{Outcome, outcomeOf, withReport, noRoom, bu
 use Rattle.rules.specs.Calls.{refusedWith, worked}
 use Rattle.rules.specs.Calls.{splitsOf, rimSplitsOf, refineCall}
 use Rattle.rules.specs.Cage.{Cage}
-use Rattle.rules.specs.Conditions.{InnerOfTwo, Risen, Handled, Between, Wanted, Turns}
+use Rattle.rules.specs.Conditions.{InnerOfTwo, Risen, Handled, Between, Wanted, BoxTurns}
 use Rattle.rules.specs.History.{Call, changes, asks, loads, refines, steps, refinesEach, refinesInBox, setsLock}
 use Rattle.rules.specs.History.{refinesNoted, takesBack, reports, ringOf, positionOf, limitsOf, previewOf}
 use Rattle.rules.specs.History.{previewReported, pointSeen}
@@ -302,7 +302,7 @@ pub record ListMakes (list : List ℕ) (m : Mesh) (w : Work) : Type 0 where
 -- What a box that is carried out makes of a mesh.
 pub record BoxMakes (b : Box) (m : Mesh) (p : Progress) : Type 0 where
   pub sound : Sound (p .work .mesh)
-  pub turns : Turns b (p .handled) (atFirst m) (p .work)
+  pub turns : BoxTurns b (p .handled) (atFirst m) (p .work)
   -- What the engraver relies on: no triangle below the generation has a corner in the box.
   pub noneLeft : (t : ℕ) → t < p .work .mesh .topology .triangles → ¬ Wanted b (p .work .mesh) t
   pub triangles : p .work .mesh .topology .triangles ≡ m .topology .triangles + 2 * p .work .splits

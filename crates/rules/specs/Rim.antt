@@ -6,11 +6,10 @@ use lib.Dec.{eqb, ltb, leb}
 use lib.IntN.{ℤ, pos, _+ℤ_, _*ℤ_}
 use lib.ListN.{length, getD}
 use Rattle.rules.specs.Below.{any, fill}
-use Rattle.rules.specs.Calls.{Outcome, outcomeOf, answerOf, zeroPoint, tableRoom, firstOf, _if_, unless}
+use Rattle.rules.specs.Calls.{Outcome, outcomeOf, answerOf, zeroPoint, tableRoom, _if_, onSound, unless}
 use Rattle.rules.specs.Numbers.{halfUp}
 use Rattle.rules.specs.Ring.{firstSide}
-use Rattle.rules.specs.Sound.{isSound}
-use Rattle.rules.specs.Tables.{Topology, Mesh, tablesAgree, sides, origin, target, link, boundary, coordinate}
+use Rattle.rules.specs.Tables.{Topology, Mesh, sides, origin, target, link, boundary, coordinate}
 
 -- v is a rim vertex, a side out of it is on the boundary: OnBoundary as a test.
 unfoldable pub onRim : Topology → ℕ → Bool
@@ -53,14 +52,10 @@ curveAt m l i =
 unfoldable pub curveRefusal : ℕ → List ℤ → Mesh → ℕ
 curveRefusal v table m =
     let tri = m .topology in
-    firstOf (
-    1 if not (tablesAgree m)
-    ∷ 7 if not (isSound m)
-    ∷ 8 if leb (tri .vertices) v
+    onSound m (
+    8 if leb (tri .vertices) v
     ∷ 24 if not (onRim tri v)
-    ∷ 25 if ltb (length table) (9 * length (rim tri v))
-    ∷ []
-    )
+    ∷ 25 if ltb (length table) (9 * length (rim tri v)) ∷ [])
 
 -- The curve of the rim of v, three points for each of its n vertices, goes into the first entries of the table, and
 -- later ones keep their content; n is answered.

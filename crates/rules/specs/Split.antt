@@ -11,8 +11,8 @@ use Rattle.rules.specs.Tables.{Topology, Mesh, meshOf, withTopology, ori
 use Rattle.rules.specs.Tables.{isBase, coordinate, putThree, putTriangle, relink, withCounts}
 
 -- The 1-to-3 split of t = (A,B,C), with no flip yet; refine uses it where t is even. P is the new vertex V; the new
--- slots are f = F and e = F + 1. The old sides become the bases: A→B stays, B→C moves to slot f, C→A to slot e, and
--- their partners' links name the new places.
+-- slots are f = F and e = F + 1. t becomes (A,B,P), f (B,C,P) and e (C,A,P), one generation up. The old sides become
+-- the bases: A→B stays, B→C moves to slot f, C→A to slot e, and their partners' links name the new places.
 --
 --            C                         C
 --           / \                       /|\
@@ -40,9 +40,9 @@ faceCut t m =
     withCounts (suc p) (f + 2) three
 
 -- The 1-to-3 split of an odd t = (A,B,P) whose base A→B is on the boundary (the outline's rim), with no flip yet. A'
--- and B' are the new vertices V and V + 1; the new slots are f = F and e = F + 1. The base goes, and the other two
--- sides become bases: P→A moves to side 0 of t, B→P to slot e, and their partners' links name the new places. (Request
--- b)
+-- and B' are the new vertices V and V + 1; the new slots are f = F and e = F + 1. t becomes (P,A,A') and e (B,P,B'), two
+-- generations up, and f (A',B',P), three up. The base goes, and the other two sides become bases: P→A moves to side 0 of
+-- t, B→P to slot e, and their partners' links name the new places. (Request b)
 --
 --               P                            P
 --             .   .                       . / \ .
@@ -68,8 +68,8 @@ rimCut t m =
     withCounts (v + 2) (f + 2) three
 
 -- The flip (edge flip) of s = (A,B,P) and u = (B,A,Q), whose bases meet; in sound tables both are then of one odd
--- generation.
--- B→P moves to side 0 of u and A→Q to side 0 of s; P→A and Q→B stay.
+-- generation. s becomes (A,Q,P) and u (B,P,Q), one generation up. B→P moves to side 0 of u and A→Q to side 0 of s; P→A
+-- and Q→B stay.
 --
 --            P                         P
 --           / \                       /|\
@@ -112,21 +112,12 @@ atFirst m = record { mesh = m; splits = 0; flips = 0; report = [] }
 abbrev pub withSplit : ℕ → Mesh → Work → Work
 withSplit t m w =
     let f = w .mesh .topology .triangles in
-    record {
-      mesh = m;
-      splits = suc (w .splits);
-      flips = w .flips;
-      report = w .report ++ (t ∷ f ∷ (f + 1) ∷ []);
-    }
+    record { mesh = m; splits = suc (w .splits); flips = w .flips; report = w .report ++ (t ∷ f ∷ (f + 1) ∷ []) }
 
 -- One more flip, of s and u: it reports them in this order. (Request m)
 abbrev pub withFlip : ℕ → ℕ → Mesh → Work → Work
-withFlip s u m w = record {
-  mesh = m;
-  splits = w .splits;
-  flips = suc (w .flips);
-  report = w .report ++ (s ∷ u ∷ []);
-}
+withFlip s u m w =
+    record { mesh = m; splits = w .splits; flips = suc (w .flips); report = w .report ++ (s ∷ u ∷ []) }
 
 -- Another mesh.
 abbrev pub withMesh : Mesh → Work → Work

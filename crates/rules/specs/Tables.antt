@@ -25,13 +25,7 @@ pub record Mesh : Type 0 where
 
 -- Every topology and every mesh is built by these two.
 abbrev pub topologyOf : ℕ → ℕ → List ℕ → List ℕ → List ℕ → Topology
-topologyOf v f corners links generations = record {
-  vertices = v;
-  triangles = f;
-  corners = corners;
-  links = links;
-  generations = generations;
-}
+topologyOf v f c l g = record { vertices = v; triangles = f; corners = c; links = l; generations = g }
 
 abbrev pub meshOf : Topology → List ℤ → List ℕ → ℕ → Mesh
 meshOf t positions locks rule = record { topology = t; positions = positions; locks = locks; rule = rule }
@@ -50,6 +44,13 @@ abbrev pub withRule : ℕ → Mesh → Mesh
 withRule rule m = meshOf (m .topology) (m .positions) (m .locks) rule
 
 -- ---- sides (half-edges): side i of triangle t is the number 3 * t + i
+--
+--              b
+--             / \          h = v→a is side 0 of (v,a,b), next h is a→b, and previous h is b→v.
+--            /   \         link h is a→v, in the triangle below.
+--           v-----a        rotate h is v→b, in the triangle to the left: the next side out of v.
+--            \   /
+--             \ /
 
 -- The number of sides in use.
 abbrev pub sides : Topology → ℕ

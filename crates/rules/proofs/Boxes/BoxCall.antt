@@ -20,7 +20,7 @@ use Rattle.rules.proofs.Splits.Bases.{reached}
 use Rattle.rules.specs.Boxes.{Box, refineInBox, boxRefusal, boxCall}
 use Rattle.rules.specs.Calls.{Outcome, spareRoom, refusedWith}
 use Rattle.rules.specs.Conditions.{TooOld, TooFewSlots, BoxFits, Wanted, LowestWanted}
-use Rattle.rules.specs.Conditions.{Turns, RefineFails, old, guarded, crowded}
+use Rattle.rules.specs.Conditions.{BoxTurns, RefineFails, old, guarded, crowded}
 use Rattle.rules.specs.Conditions.{TurnFails, SomeTurnFails, Condition, _when_, First, this, later, none}
 use Rattle.rules.specs.Conditions.{boxConditions}
 use Rattle.rules.specs.Lists.{Progress, begun, allOrNothing}
@@ -72,11 +72,11 @@ module _ (b : Box) (m : Mesh) where
     pub box-run : Run b m (begun m) progress
     box-run = run b _ (begun m) refl (going-begins S) (omega (arith, S .someTriangle))
 
-    abbrev all-turns : Turns b (progress .handled) (atFirst m) (progress .work)
+    abbrev all-turns : BoxTurns b (progress .handled) (atFirst m) (progress .work)
     all-turns =
         let R = box-run in
         let e : R .made ≡ progress .handled = omega (arith, R .handled) in
-        subst (λ (k : ℕ). Turns b k (atFirst m) (progress .work)) e (R .turns)
+        subst (λ (k : ℕ). BoxTurns b k (atFirst m) (progress .work)) e (R .turns)
 
     -- A turn fails with the number that is computed, and no other.
     pub fails-same : {k n : ℕ} {w : Work} → TurnFails b m k w n → (k ≡ progress .handled) × (n ≡ progress .refusal)

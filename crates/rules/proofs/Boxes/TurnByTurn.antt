@@ -13,12 +13,12 @@ use Rattle.rules.proofs.Spares.Adds.{refine-adds}
 use Rattle.rules.proofs.Splits.Bases.{reached}
 use Rattle.rules.specs.Boxes.{Box, lowestWanted, refineWanted}
 use Rattle.rules.specs.Calls.{refineRefusal}
-use Rattle.rules.specs.Conditions.{Wanted, LowestWanted, Turns, noTurn, oneTurn, RefineFails}
+use Rattle.rules.specs.Conditions.{Wanted, LowestWanted, BoxTurns, noTurn, oneTurn, RefineFails}
 use Rattle.rules.specs.Lists.{Progress, goesOn}
 use Rattle.rules.specs.Split.{Work, refine}
 use Rattle.rules.specs.Tables.{Mesh, triangleSlots}
 
--- Turns from p on end as q: no triangle is wanted any more, or the lowest that is fails.
+-- BoxTurns from p on end as q: no triangle is wanted any more, or the lowest that is fails.
 pub data Ends (b : Box) (q : Progress) : Type 0 where
   whole : q .refusal ≡ 0 → ((t : ℕ) → t < reached (q .work) .triangles → ¬ Wanted b (q .work .mesh) t) → Ends b q
   short : (t : ℕ) → LowestWanted b (q .work .mesh) t → RefineFails t (q .work .mesh) (q .refusal) → Ends b q
@@ -27,7 +27,7 @@ pub record Run (b : Box) (m : Mesh) (p q : Progress) : Type 0 where
   pub going : Going m (q .work)
   pub made : ℕ
   pub handled : q .handled ≡ p .handled + made
-  pub turns : Turns b made (p .work) (q .work)
+  pub turns : BoxTurns b made (p .work) (q .work)
   pub splits : p .work .splits + made ≤ q .work .splits
   pub ends : Ends b q
 
@@ -145,11 +145,11 @@ none-made b (suc n) p none =
 fails-of : {s t n : ℕ} {m : Mesh} → s ≡ t → RefineFails s m n → RefineFails t m n
 fails-of {n = n} {m} e = subst (λ (i : ℕ). RefineFails i m n) e
 
-turns-of : (w : Work) {b : Box} {s t k : ℕ} {x : Work} → s ≡ t → Turns b k (refine s w) x → Turns b k (refine t w) x
-turns-of w {b} {k = k} {x = x} e = subst (λ (i : ℕ). Turns b k (refine i w) x) e
+turns-of : (w : Work) {b : Box} {s t k : ℕ} {x : Work} → s ≡ t → BoxTurns b k (refine s w) x → BoxTurns b k (refine t w) x
+turns-of w {b} {k = k} {x = x} e = subst (λ (i : ℕ). BoxTurns b k (refine i w) x) e
 
-pub stops-same : {b : Box} {j k t n : ℕ} {w x : Work} {q : Progress} → Turns b k w x → LowestWanted b (x .mesh) t
-    → RefineFails t (x .mesh) n → Turns b j w (q .work) → Ends b q → (k ≡ j) × (n ≡ q .refusal)
+pub stops-same : {b : Box} {j k t n : ℕ} {w x : Work} {q : Progress} → BoxTurns b k w x → LowestWanted b (x .mesh) t
+    → RefineFails t (x .mesh) n → BoxTurns b j w (q .work) → Ends b q → (k ≡ j) × (n ≡ q .refusal)
 stops-same noTurn N F noTurn (whole z nothing) = absurd (nothing _ (N .inUse) (N .wanted))
 stops-same noTurn N F noTurn (short t M K) = (refl, fails-once F (fails-of (lowest-same M N) K))
 stops-same noTurn N F (oneTurn M f U) E = absurd (cannot-fail f (fails-of (lowest-same N M) F))

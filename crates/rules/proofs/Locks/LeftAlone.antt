@@ -14,7 +14,7 @@ use Rattle.rules.proofs.Soundness.Relaxed.{sound-manifold}
 use Rattle.rules.proofs.Spares.Adds.{refine-adds}
 use Rattle.rules.proofs.Splits.Bases.{reached}
 use Rattle.rules.specs.Boxes.{Box}
-use Rattle.rules.specs.Conditions.{Alters, AltersLocked, Locked, Handled, allDone, passedOver, refined, Turns}
+use Rattle.rules.specs.Conditions.{Alters, AltersLocked, Locked, Handled, allDone, passedOver, refined, BoxTurns}
 use Rattle.rules.specs.Conditions.{noTurn, oneTurn}
 use Rattle.rules.specs.Promises.{AgreeInUse}
 use Rattle.rules.specs.Sound.{Sound}
@@ -96,7 +96,7 @@ handled-leaves {w = w} G L (refined l _ M H) =
     let a = refine-leaves w F (M .unlocked) L in
     handled-leaves (going-on G F) (a .1) H ∙ a .0
 
-pub turns-leave : {m : Mesh} {b : Box} {k : ℕ} {w v : Work} {x : ℕ} → Going m w → Locked (w .mesh) x → Turns b k w v
+pub turns-leave : {m : Mesh} {b : Box} {k : ℕ} {w v : Work} {x : ℕ} → Going m w → Locked (w .mesh) x → BoxTurns b k w v
     → generation (reached v) x ≡ generation (reached w) x
 turns-leave G L noTurn = refl
 turns-leave {w = w} G L (oneTurn N M T) =
