@@ -13,8 +13,8 @@ use Rattle.crc.specs.Crc.{crc32}
 use Rattle.rules.specs.History.{Call, after}
 use Rattle.rules.specs.Spares.{SameSizes}
 use Rattle.rules.specs.Tables.{Mesh, vertexSlots, triangleSlots}
-use Rattle.journal.specs.Journal.{Entry, bodyOf, encode, recordsOf, headerOf, stopAt, sizeAt, recordLength, holds}
-use Rattle.journal.specs.Journal.{decode}
+use Rattle.journal.specs.Journal.{Entry, bodyOf, encode, headerOf, stopAt, sizeAt, recordLength, holds}
+use Rattle.journal.specs.Records.{recordsOf, decode}
 use Rattle.journal.specs.Recording.{Recordable, AllRecordable, recorded, RoomForEach, CutAt, CutReplay}
 use Rattle.journal.specs.Recording.{journalOf, SlotsFit}
 use Rattle.journal.specs.Replay.{Lent, startedAt, replay}

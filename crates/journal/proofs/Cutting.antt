@@ -13,9 +13,9 @@ use Rattle.crc.proofs.Bytes.{take-bytes, drop-bytes}
 use Rattle.crc.specs.Bytes.{AreBytes}
 use Rattle.crc.specs.Crc.{crc32}
 use Rattle.rules.specs.Numbers.{numberAt}
-use Rattle.journal.specs.Journal.{Entry, fourBytes, bodyOf, recordOf, encode, recordsOf, sizeAt}
-use Rattle.journal.specs.Journal.{kindAt, bodyAt, recordLength, stopAt, entryAt, Records, noRecords}
-use Rattle.journal.specs.Journal.{following, decode}
+use Rattle.journal.specs.Journal.{Entry, fourBytes, bodyOf, recordOf, encode, sizeAt}
+use Rattle.journal.specs.Journal.{kindAt, bodyAt, recordLength, stopAt, entryAt}
+use Rattle.journal.specs.Records.{recordsOf, Records, noRecords, following, decode}
 use Rattle.journal.specs.Recording.{Recordable, AllRecordable}
 use Rattle.journal.proofs.Entries.{entry-made}
 use Rattle.journal.proofs.Numbers.{number-earlier, number-take, number-fits, four-at}

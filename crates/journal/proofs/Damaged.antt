@@ -14,7 +14,8 @@ use Rattle.crc.specs.Bytes.{AreBytes}
 use Rattle.rules.specs.History.{Call, after}
 use Rattle.rules.specs.Spares.{SameSizes}
 use Rattle.rules.specs.Tables.{Mesh, vertexSlots, triangleSlots}
-use Rattle.journal.specs.Journal.{Entry, encode, recordsOf, headerOf, stopAt}
+use Rattle.journal.specs.Journal.{Entry, encode, headerOf, stopAt}
+use Rattle.journal.specs.Records.{recordsOf}
 use Rattle.journal.specs.Recording.{AllRecordable, recorded, RoomForEach, journalOf}
 use Rattle.journal.specs.Recording.{SlotsFit, ChangedReplay}
 use Rattle.journal.specs.Replay.{Lent, startedAt, replay}

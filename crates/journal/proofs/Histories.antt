@@ -13,13 +13,15 @@ use Rattle.rules.proofs.Calls.EveryCall.{question-stands}
 use Rattle.rules.specs.History.{Change, changed, Question, Call, changes, asks, asked, outcome, after}
 use Rattle.rules.specs.Spares.{Spares, SameSizes}
 use Rattle.rules.specs.Tables.{Mesh, vertexSlots, triangleSlots}
-use Rattle.journal.specs.Journal.{Entry, encode, recordsOf, headerOf, stopAt, recordLength}
+use Rattle.journal.specs.Journal.{Entry, encode, headerOf, stopAt, recordLength}
+use Rattle.journal.specs.Records.{recordsOf}
 use Rattle.journal.specs.Recording.{Recordable, AllRecordable, entryFor, recorded, callsOf, EachCarried}
-use Rattle.journal.specs.Recording.{RoomForEach, noRecord, journalOf, SlotsFit}
+use Rattle.journal.specs.Recording.{RoomForEach, noRecord, journalOf, SlotsFit, Deed, makes, replays, deedDone}
+use Rattle.journal.specs.Recording.{callsIn, afterDeeds, callsInAll}
 use Rattle.journal.specs.Replay.{callOf, numbersOf, Lent, Replay, replayFirst, startedAt, replay}
 use Rattle.journal.proofs.Changes.{refused-mesh, change-slots, sizes-on, carried-again}
 use Rattle.journal.proofs.Headers.{length-header, header-read}
-use Rattle.journal.proofs.Journals.{call-slots, replay-good}
+use Rattle.journal.proofs.Journals.{call-slots, replay-good, replay-mesh}
 use Rattle.journal.proofs.Replaying.{nextCall, Advances, Replays, halts, advances, replays-is}
 use Rattle.journal.proofs.Writing.{entry-whole, entry-at, entry-length}
 
@@ -298,3 +300,18 @@ first-calls (asks q ∷ calls) m done later x =
 pub same-later : (xs ys zs : List Entry) → xs ++ ys ≡ xs ++ zs → ys ≡ zs
 same-later xs ys zs e =
     sym (drop-append-seam xs ys) ∙ ap (drop (length xs)) e ∙ drop-append-seam xs zs
+
+-- ---- replays among the calls
+
+one-deed : (d : Deed) (m : Mesh) → deedDone d m ≡ after (callsIn d m) m
+unfolding after
+one-deed (makes c) m = refl
+one-deed (replays lent bytes at) m = replay-mesh lent bytes at m
+
+pub deeds-are-calls : (ds : List Deed) (m : Mesh) → afterDeeds ds m ≡ after (callsInAll ds m) m
+unfolding after afterDeeds callsInAll
+deeds-are-calls [] m = refl
+deeds-are-calls (d ∷ ds) m =
+    deeds-are-calls ds (deedDone d m)
+    ∙ ap (after (callsInAll ds (deedDone d m))) (one-deed d m)
+    ∙ sym (after-both (callsIn d m) (callsInAll ds (deedDone d m)) m)

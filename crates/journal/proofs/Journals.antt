@@ -16,7 +16,8 @@ use Rattle.rules.proofs.Soundness.Relaxed.{SameSlots}
 use Rattle.rules.specs.History.{Call, changes, asks, outcome, after}
 use Rattle.rules.specs.Spares.{Spares}
 use Rattle.rules.specs.Tables.{Mesh, vertexSlots, triangleSlots}
-use Rattle.journal.specs.Journal.{Entry, stopAt, headerStop, Records, noRecords, decode}
+use Rattle.journal.specs.Journal.{Entry, stopAt, headerStop}
+use Rattle.journal.specs.Records.{Records, noRecords, decode}
 use Rattle.journal.specs.Recording.{callsOf, StopsWith, noRecord, tooMany, refuses, ReplayOf, andThen}
 use Rattle.journal.specs.Replay.{Lent, Replay, stopped, replayFirst, startedAt, replayIf, replay}
 use Rattle.journal.proofs.Changes.{slots-same, change-slots, vertex-slots, triangle-slots}

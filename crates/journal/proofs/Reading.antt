@@ -12,7 +12,7 @@ use Rattle.crc.specs.Crc.{crc32}
 use Rattle.rules.specs.Calls.{firstOf, _if_}
 use Rattle.rules.specs.Numbers.{numberAt}
 use Rattle.journal.specs.Journal.{sizeAt, kindAt, bodyAt, recordLength, isKind, holds, stopAt, entryAt}
-use Rattle.journal.specs.Journal.{Records, noRecords, following, decodeFirst, decode}
+use Rattle.journal.specs.Records.{Records, noRecords, following, decodeFirst, decode}
 
 -- ---- a whole record
 

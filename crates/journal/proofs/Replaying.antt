@@ -12,7 +12,8 @@ use lib.ListN.{length, take, drop, length-drop, take-append-drop, drop-of-length
 use lib.Seq.{drop-drop, take-at, length-take-le}
 use Rattle.rules.specs.History.{Change, changed, after}
 use Rattle.rules.specs.Tables.{Mesh}
-use Rattle.journal.specs.Journal.{Entry, stopAt, entryAt, recordLength, Records, decode}
+use Rattle.journal.specs.Journal.{Entry, stopAt, entryAt, recordLength}
+use Rattle.journal.specs.Records.{Records, decode}
 use Rattle.journal.specs.Recording.{callsOf, EachCarried, StopsWith, noRecord, tooMany, refuses, ReplayOf}
 use Rattle.journal.specs.Replay.{callOf, numbersOf, Lent, Replay, stopped, oneMore, replayFirst}
 use Rattle.journal.proofs.Cutting.{longer, goes-shorter, none-shorter, part-read}

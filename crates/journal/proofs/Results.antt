@@ -14,11 +14,12 @@ use Rattle.rules.specs.Notes.{noteSlots, takeBackCall}
 use Rattle.rules.specs.Sound.{Sound}
 use Rattle.rules.specs.Spares.{Spares, SameSizes, sameSizes}
 use Rattle.rules.specs.Tables.{Mesh, vertexSlots, triangleSlots}
-use Rattle.journal.specs.Journal.{Entry, encode, recordsOf, headerOf, stopAt, headerStop, entryAt, recordLength}
-use Rattle.journal.specs.Journal.{wrote, noRecords, following, decode}
+use Rattle.journal.specs.Journal.{Entry, encode, headerOf, stopAt, headerStop, entryAt, recordLength}
+use Rattle.journal.specs.Journal.{wrote}
+use Rattle.journal.specs.Records.{recordsOf, noRecords, following, decode}
 use Rattle.journal.specs.Recording.{InRange, Recordable, AllRecordable, entryFor, recorded, journalOf}
 use Rattle.journal.specs.Recording.{SlotsFit, CutAt, callsOf, EachCarried, RoomForEach, ReplayOf, CutReplay}
-use Rattle.journal.specs.Recording.{ChangedReplay, LentAlike, andThen}
+use Rattle.journal.specs.Recording.{ChangedReplay, LentAlike, andThen, Deed, afterDeeds, callsInAll}
 use Rattle.journal.specs.Replay.{callOf, Lent, Replay, stopped, replayFirst, startedAt, replay}
 use Rattle.journal.proofs.Appending.{written-recordable}
 use Rattle.journal.proofs.Changed.{record-changed, header-changed, written-changed, damaged-stops}
@@ -29,6 +30,7 @@ use Rattle.journal.proofs.Cutting.{trimmed-read}
 use Rattle.journal.proofs.Damaged.{records-bytes, changed-replayed}
 use Rattle.journal.proofs.Headers.{header-torn, header-read, header-written}
 use Rattle.journal.proofs.Histories.{history-again, history-replayed, history-alone, after-both, recorded-both}
+use Rattle.journal.proofs.Histories.{deeds-are-calls}
 use Rattle.journal.proofs.Journals.{after-slots, replay-bad, replay-of, replay-mesh, replay-all, in-parts}
 use Rattle.journal.proofs.Journals.{same-front, replay-stops}
 use Rattle.journal.proofs.Lending.{lent-alike}
@@ -299,27 +301,21 @@ pub changed-history : (lent : Lent) (calls : List Call) (m : Mesh) (i v : ℕ) �
     i < length journal → v ≢ getD journal i 0 → ChangedReplay calls m i (replay lent (set journal i v) 0 m)
 changed-history = changed-replayed
 
--- ---- any bytes
+-- ---- any bytes, at any time
 
--- After any calls, and then the replay of any bytes: once a load among them all was accepted, the customer's third
--- demand holds.
-pub replay-keeps-on : (lent : Lent) (log : List ℕ) (at : ℕ) (before : List Call) (m : Mesh) (bytes : List ℕ) →
-    let r = replay lent log at (after before m) in
-    let calls = callsOf (lent .spares) (take (r .records) (decode (drop (max 20 at) log) .entries)) in
-    lastLoad (before ++ calls) m nothing ≡ cage bytes → Kept bytes (r .mesh) × Sound (r .mesh)
-replay-keeps-on lent log at before m bytes e =
-    let q = after-both before _ m ∙ sym (replay-mesh lent log at (after before m)) in
+-- Replays of any bytes may stand anywhere among the calls: what is left is what all their calls leave. So every theorem
+-- about lists of calls speaks of replays too.
+pub replays-are-calls : (deeds : List Deed) (m : Mesh) → afterDeeds deeds m ≡ after (callsInAll deeds m) m
+replays-are-calls = deeds-are-calls
+
+-- The customer's third demand: once a load among them all was accepted, the claim holds.
+pub third-demand-with-replays : (deeds : List Deed) (m : Mesh) (bytes : List ℕ)
+    → lastLoad (callsInAll deeds m) m nothing ≡ cage bytes
+    → Kept bytes (afterDeeds deeds m) × Sound (afterDeeds deeds m)
+third-demand-with-replays deeds m bytes e =
+    let q = sym (deeds-are-calls deeds m) in
     (subst (Kept bytes) q (third-demand _ m bytes e), subst Sound q (sound-after _ m bytes e))
 
--- After the replay of any bytes on any tables: once a load among them was accepted, the customer's third demand holds.
-pub replay-keeps : (lent : Lent) (log : List ℕ) (at : ℕ) (m : Mesh) (bytes : List ℕ) →
-    let r = replay lent log at m in
-    let calls = callsOf (lent .spares) (take (r .records) (decode (drop (max 20 at) log) .entries)) in
-    lastLoad calls m nothing ≡ cage bytes → Kept bytes (r .mesh) × Sound (r .mesh)
-unfolding after
-replay-keeps lent log at m bytes = replay-keeps-on lent log at [] m bytes
-
 -- Sound tables stay sound.
-pub replay-keeps-sound : (lent : Lent) (log : List ℕ) (at : ℕ) (m : Mesh) → Sound m
-    → Sound (replay lent log at m .mesh)
-replay-keeps-sound lent log at m S = subst Sound (sym (replay-mesh lent log at m)) (sound-kept _ m S)
+pub sound-kept-with-replays : (deeds : List Deed) (m : Mesh) → Sound m → Sound (afterDeeds deeds m)
+sound-kept-with-replays deeds m S = subst Sound (sym (deeds-are-calls deeds m)) (sound-kept _ m S)

@@ -11,9 +11,9 @@ use Rattle.crc.proofs.Changed.{crc-fits}
 use Rattle.crc.specs.Bytes.{AreBytes}
 use Rattle.crc.specs.Crc.{crc32}
 use Rattle.rules.specs.Numbers.{numberAt}
-use Rattle.journal.specs.Journal.{Entry, fourBytes, kindOf, bodyOf, sealed, recordOf, encode, recordsOf}
+use Rattle.journal.specs.Journal.{Entry, fourBytes, kindOf, bodyOf, sealed, recordOf, encode}
 use Rattle.journal.specs.Journal.{sizeAt, kindAt, bodyAt, recordLength, isKind, entryOf, entryAt}
-use Rattle.journal.specs.Journal.{Records, following, decode}
+use Rattle.journal.specs.Records.{recordsOf, Records, following, decode}
 use Rattle.journal.specs.Recording.{Recordable, AllRecordable}
 use Rattle.journal.proofs.Bytes.{both-bytes, four-bytes, sealed-bytes}
 use Rattle.journal.proofs.Entries.{entry-back, body-bytes, kind-fits, kind-of}

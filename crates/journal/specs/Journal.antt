@@ -78,16 +78,12 @@ bodyOf (takenBack note) = bytesOf note
 abbrev pub sealed : List ℕ → List ℕ
 sealed bytes = bytes ++ fourBytes (crc32 bytes)
 
--- The record of a kind and a body; of a change; the records of some changes; the header.
+-- The record of a kind and a body; of a change; the header.
 unfoldable pub recordOf : ℕ → List ℕ → List ℕ
 recordOf kind body = sealed (fourBytes (length body) ++ fourBytes kind) ++ sealed body
 
 abbrev pub encode : Entry → List ℕ
 encode e = recordOf (kindOf e) (bodyOf e)
-
-unfoldable pub recordsOf : List Entry → List ℕ
-recordsOf [] = []
-recordsOf (e ∷ rest) = encode e ++ recordsOf rest
 
 unfoldable pub headerOf : ℕ → ℕ → List ℕ
 headerOf vertexSlots triangleSlots =
@@ -188,26 +184,3 @@ entryOf kind body =
 -- The change of the record at the front.
 abbrev pub entryAt : List ℕ → Entry
 entryAt bytes = entryOf (kindAt bytes) (bodyAt bytes)
-
--- What some bytes hold: the changes of the records that they begin with, and where the first part starts that is none.
-pub record Records : Type 0 where
-  pub entries : List Entry
-  pub end : ℕ
-
-abbrev pub noRecords : Records
-noRecords = record { entries = []; end = 0 }
-
--- A record of this length before the others.
-abbrev pub following : Entry → ℕ → Records → Records
-following e n r = record { entries = e ∷ r .entries; end = n + r .end }
-
--- At most n of them; there are no more records than bytes.
-unfoldable pub decodeFirst : ℕ → List ℕ → Records
-decodeFirst zero bytes = noRecords
-decodeFirst (suc n) bytes = elim (eqb (stopAt bytes) 0) [
-  | true ↦ following (entryAt bytes) (recordLength bytes) (decodeFirst n (drop (recordLength bytes) bytes))
-  | false ↦ noRecords
-]
-
-unfoldable pub decode : List ℕ → Records
-decode bytes = decodeFirst (length bytes) bytes

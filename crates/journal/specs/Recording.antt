@@ -1,5 +1,5 @@
 -- What a history leaves in a journal, and what a record can hold.
-use Prim.Native.Nat.{ℕ, _+_, _≤_, _<_}
+use Prim.Native.Nat.{ℕ, _+_, _≤_, _<_, max}
 use mathlib.Core.Bool.{true, false}
 use mathlib.Core.List.{List, [], _∷_, _++_}
 use mathlib.Core.Logic.{_≢_, _⊎_}
@@ -10,13 +10,14 @@ use lib.ListN.{length, getD, take, drop}
 use Rattle.crc.specs.Bytes.{AreBytes}
 use Rattle.rules.specs.Boxes.{Box}
 use Rattle.rules.specs.History.{Change, loads, refines, steps, refinesEach, refinesInBox, setsLock, refinesNoted}
-use Rattle.rules.specs.History.{takesBack, reports, changed, Call, changes, asks, asked, after}
+use Rattle.rules.specs.History.{takesBack, reports, changed, Call, changes, asks, asked, outcome, after}
 use Rattle.rules.specs.Reports.{Refining, one, withNote, each, inBox}
 use Rattle.rules.specs.Spares.{Spares}
 use Rattle.rules.specs.Tables.{Mesh, vertexSlots, triangleSlots}
 use Rattle.journal.specs.Journal.{Entry, loaded, refined, stepped, refinedEach, refinedInBox, lockSet, takenBack}
-use Rattle.journal.specs.Journal.{bodyOf, encode, recordsOf, headerOf, stopAt, entryAt, Records, decode}
-use Rattle.journal.specs.Replay.{callOf, numbersOf, Lent, Replay}
+use Rattle.journal.specs.Journal.{bodyOf, encode, headerOf, stopAt, entryAt}
+use Rattle.journal.specs.Records.{recordsOf, Records, decode}
+use Rattle.journal.specs.Replay.{callOf, numbersOf, Lent, Replay, replay}
 
 -- ---- what a record can hold
 
@@ -108,7 +109,32 @@ unfoldable pub callsOf : Spares → List Entry → List Call
 callsOf spares [] = []
 callsOf spares (e ∷ entries) = changes (callOf spares e) ∷ callsOf spares entries
 
--- Each of them, made from m on, is carried out.
+-- What is done to a mesh: a call, or the replay of a journal from a place on, with what is lent for it.
+pub data Deed : Type 0 where
+  makes : Call → Deed
+  replays : Lent → List ℕ → ℕ → Deed
+
+-- The mesh that it leaves.
+abbrev pub deedDone : Deed → Mesh → Mesh
+deedDone (makes c) m = outcome c m .mesh
+deedDone (replays lent bytes at) m = replay lent bytes at m .mesh
+
+-- The calls that it makes; those of a replay are the calls of the records that it replays.
+abbrev pub callsIn : Deed → Mesh → List Call
+callsIn (makes c) m = c ∷ []
+callsIn (replays lent bytes at) m =
+    callsOf (lent .spares) (take (replay lent bytes at m .records) (decode (drop (max 20 at) bytes) .entries))
+
+-- The mesh after a list of deeds, and all their calls.
+unfoldable pub afterDeeds : List Deed → Mesh → Mesh
+afterDeeds [] m = m
+afterDeeds (d ∷ ds) m = afterDeeds ds (deedDone d m)
+
+unfoldable pub callsInAll : List Deed → Mesh → List Call
+callsInAll [] m = []
+callsInAll (d ∷ ds) m = callsIn d m ++ callsInAll ds (deedDone d m)
+
+-- Each of these changes, made from m on, is carried out.
 abbrev pub EachCarried : Spares → List Entry → Mesh → Type 0
 EachCarried spares [] m = Unit {0}
 EachCarried spares (e ∷ entries) m =

@@ -49,13 +49,8 @@ stopped stop refusal m = record { records = 0; end = 0; stop = stop; refusal = r
 
 -- A record of this length replayed before.
 abbrev pub oneMore : ℕ → Replay → Replay
-oneMore n r = record {
-  records = suc (r .records);
-  end = n + r .end;
-  stop = r .stop;
-  refusal = r .refusal;
-  mesh = r .mesh;
-}
+oneMore n r =
+    record { records = suc (r .records); end = n + r .end; stop = r .stop; refusal = r .refusal; mesh = r .mesh }
 
 -- Records replayed from the front of some bytes on, at most n of them. Beside what `stopAt` tells a replay stops with 7
 -- where the table is too short for a change's numbers, and with 5 where its call is refused.
@@ -77,13 +72,8 @@ replayFirst (suc n) lent bytes m =
 
 -- The end counted from the front of a journal.
 abbrev pub startedAt : ℕ → Replay → Replay
-startedAt at r = record {
-  records = r .records;
-  end = at + r .end;
-  stop = r .stop;
-  refusal = r .refusal;
-  mesh = r .mesh;
-}
+startedAt at r =
+    record { records = r .records; end = at + r .end; stop = r .stop; refusal = r .refusal; mesh = r .mesh }
 
 -- A journal replayed from a place on, or from its first record where the place is before it.
 abbrev pub replayIf : ℕ → Lent → List ℕ → ℕ → Mesh → Replay
