@@ -1,7 +1,7 @@
 -- Working room for a cage whose sizes fit.
 use mathlib.Core.Path.{_≡_, sym}
 use mathlib.Core.List.{List}
-use Prim.Native.Nat.{ℕ, _+_, _*_, _≤_}
+use Prim.Native.Nat.{ℕ, _*_}
 use native.Mathlib.Omega.{arith}
 use lib.ListN.{length, replicate, length-replicate}
 use Rattle.rules.specs.Cage.{cageOf}
@@ -9,7 +9,7 @@ use Rattle.rules.specs.Conditions.{SizesFit}
 use Rattle.rules.specs.Numbers.{numberAt}
 use Rattle.rules.specs.Tables.{Mesh, TablesAgree}
 use Rattle.soundness.proofs.Starts.{zeroed}
-use Rattle.cage.specs.Decoded.{Sized, WorkingRoom}
+use Rattle.cage.specs.Decoded.{Sized, Within, WorkingRoom}
 
 -- A cage whose sizes fit is as long as they say.
 pub sized : {bytes : List ℕ} {m : Mesh} {v f : ℕ} → v ≡ numberAt bytes 0 → f ≡ numberAt bytes 4 → TablesAgree m
@@ -23,17 +23,17 @@ sized e g A S = record {
   size = rw (e, g) (S .size);
 }
 
--- Zeros for the sides and the vertices of a cage with k vertices and triangles together.
-pub room-within : {bytes : List ℕ} {v f : ℕ} (k : ℕ) → Sized bytes v f → length bytes ≤ 8 + 12 * k
+-- Zeros for the sides and the vertices of a cage of at most k vertices and triangles.
+pub room-within : {v f : ℕ} (k : ℕ) → Within k v f
     → WorkingRoom v f (replicate (3 * k) 0) (replicate (3 * k) 0) (replicate k 0) (replicate (3 * k) 0) (replicate k 0)
-room-within k Z l =
+room-within k W =
     let e = length-replicate {A = ℕ} (3 * k) 0 in
     record {
-      originRoom = omega (arith, Z .size);
-      partnerRoom = omega (arith, Z .size);
-      headRoom = zeroed k _ (omega (arith, Z .size));
-      nextRoom = omega (arith, Z .size);
-      slotRoom = zeroed k _ (omega (arith, Z .size));
+      originRoom = omega (arith, W .triangles);
+      partnerRoom = omega (arith, W .triangles);
+      headRoom = zeroed k _ (W .vertices);
+      nextRoom = omega (arith, W .triangles);
+      slotRoom = zeroed k _ (W .vertices);
     }
 
 -- Room for the sides of every cage, whatever it holds, and zeros for its vertices.

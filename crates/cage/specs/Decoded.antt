@@ -39,6 +39,16 @@ pub record Holds (c : Cage) (origins partners : List ℕ) : Type 0 where
 abbrev pub cornerFits : ℕ → List ℕ → ℕ → Bool
 cornerFits v corners h = ltb (getD corners h 0) v && not (eqb (getD corners h 0) (getD corners (next h) 0))
 
+-- The three corners of triangle t are such.
+abbrev pub triangleFits : ℕ → List ℕ → ℕ → Bool
+triangleFits v corners t =
+    (cornerFits v corners (3 * t) && cornerFits v corners (3 * t + 1)) && cornerFits v corners (3 * t + 2)
+
+-- At most n vertices and triangles.
+pub record Within (n v f : ℕ) : Type 0 where
+  pub vertices : v ≤ n
+  pub triangles : f ≤ n
+
 -- Working room for a cage of v vertices and f triangles.
 pub record WorkingRoom (v f : ℕ) (origins partners heads nexts slots : List ℕ) : Type 0 where
   pub originRoom : 3 * f ≤ length origins

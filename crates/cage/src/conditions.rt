@@ -8,9 +8,8 @@ ghost use Rattle.rules.specs.Cage.{sizesFit, cornersFit};
 ghost use Rattle.rules.specs.Numbers.{numberAt, signed, inRange};
 ghost use Rattle.tables.specs.declared.Counts.{Counts};
 ghost use Rattle.tables.specs.Lent.{meshNow};
-ghost use Rattle.cage.specs.Decoded.{decoded, cornerFits};
+ghost use Rattle.cage.specs.Decoded.{decoded, triangleFits};
 use crate::wide;
-use tables::sides::next;
 
 // Whether the cage is as long as its sizes say, and these are at least 1 and within the slots.
 // In 64 bits nothing wraps.
@@ -56,43 +55,41 @@ pub fn decode(cage: &[u8], from: usize, count: usize, corners: &mut [u32])
     }
 }
 
-// Whether the origin of side h is a vertex, and not its target.
-fn corner_fits(corners: &[u32], triangles: usize, vertices: u32, h: usize) -> bool
-    requires { ⌜ (triangles ≤ 65536) × (3 * triangles ≤ length (now corners)) × (h < 3 * triangles) ⌝ }
-    ensures { λ r. ⌜ r ≡ cornerFits vertices (now (corners .entry)) h ⌝ }
+// Whether the corners of triangle t are vertices, and none of them is there twice.
+fn triangle_fits(corners: &[u32], triangles: usize, vertices: u32, t: usize) -> bool
+    requires { ⌜ (triangles ≤ 65536) × (3 * triangles ≤ length (now corners)) × (t < triangles) ⌝ }
+    ensures { λ r. ⌜ r ≡ triangleFits vertices (now (corners .entry)) t ⌝ }
 {
-    let a = corners[h];
-    let e = next(h);
-    let b = corners[e];
-    a < vertices && a != b
+    let a = corners[3 * t];
+    let b = corners[3 * t + 1];
+    let c = corners[3 * t + 2];
+    ((a < vertices) & (a != b)) & ((b < vertices) & (b != c)) & ((c < vertices) & (c != a))
 }
 
-// Whether every corner is a vertex, and no triangle repeats one.
+// Whether every corner is a vertex, and no triangle repeats one. No early return: the loop then reads several at once.
 pub fn corners_fit(corners: &[u32], triangles: usize, vertices: u32) -> bool
     requires { ⌜ (triangles ≤ 65536) × (3 * triangles ≤ length (now corners)) ⌝ }
     ensures { λ r. ⌜ r ≡ cornersFit (decoded vertices triangles (now (corners .entry))) ⌝ }
 {
-    let mut h: usize = 0;
-    while h < 3 * triangles {
-        if !corner_fits(corners, triangles, vertices, h) {
-            return false;
-        }
-        h += 1;
+    let mut fit = true;
+    let mut t: usize = 0;
+    while t < triangles {
+        fit = fit & triangle_fits(corners, triangles, vertices, t);
+        t += 1;
     }
-    true
+    fit
 }
 
-// Whether the first coordinates are in range.
+// Whether the first coordinates are in range, read in the same way.
 pub fn coordinates_fit(cage: &[u8], count: usize) -> bool
     requires { ⌜ 8 + 4 * count ≤ length (now cage) ⌝ }
     ensures { λ r. ⌜ r ≡ all count (λ i. inRange (signed (numberAt (now (cage .entry)) (8 + 4 * i)))) ⌝ }
 {
+    let mut fit = true;
     let mut i: usize = 0;
     while i < count {
-        if !points::in_range(points::signed_at(cage, 8 + 4 * i)) {
-            return false;
-        }
+        fit = fit & points::in_range(points::signed_at(cage, 8 + 4 * i));
         i += 1;
     }
-    true
+    fit
 }

@@ -2,8 +2,6 @@
 use tables::Counts;
 use tables::Worked;
 ghost use mathlib.Core.Path.{_≡_};
-ghost use Prim.Native.Nat.{_≤_};
-ghost use lib.ListN.{length};
 ghost use Rattle.rules.specs.Cage.{cageOf};
 ghost use Rattle.rules.specs.Calls.{loadRefusal, loadCall};
 ghost use Rattle.tables.specs.Answers.{workedOutcome};
@@ -14,6 +12,7 @@ ghost use Rattle.cage.specs.Decoded.{Sized, WorkingRoom, Holds};
 mod conditions;
 mod fans;
 mod pairing;
+mod rooms;
 mod writing;
 
 // The same number, as wide as an index.
@@ -95,110 +94,7 @@ fn load_by(
     refusal
 }
 
-// The same with working room for 256 vertices and triangles together.
-fn load_within_256(
-    corners: &mut [u32],
-    links: &mut [u32],
-    cage: &[u8],
-    vertices: u32,
-    triangles: u32,
-) -> u32
-    requires { ⌜ Sized (now cage) vertices triangles × SideRoom triangles (now corners) (now links) ⌝ }
-    requires { ⌜ length (now cage) ≤ 3080 ⌝ }
-    ensures { λ r. ⌜ Refuses (now (cage .entry)) r ⌝ }
-    ensures { λ r. ⌜ SidesLeft (cageOf (now (cage .entry))) r (now (corners .entry)) (now (links .entry))
-        (now (corners .exit)) (now (links .exit)) ⌝ }
-{
-    let mut origins = [0u32; 768];
-    let mut partners = [0u32; 768];
-    let mut heads = [0u32; 256];
-    let mut nexts = [0u32; 768];
-    let mut slots = [0u32; 256];
-    load_by(
-        corners,
-        links,
-        cage,
-        vertices,
-        triangles,
-        &mut origins,
-        &mut partners,
-        &mut heads,
-        &mut nexts,
-        &mut slots,
-    )
-}
-
-// The same for 3072.
-fn load_within_3072(
-    corners: &mut [u32],
-    links: &mut [u32],
-    cage: &[u8],
-    vertices: u32,
-    triangles: u32,
-) -> u32
-    requires { ⌜ Sized (now cage) vertices triangles × SideRoom triangles (now corners) (now links) ⌝ }
-    requires { ⌜ length (now cage) ≤ 36872 ⌝ }
-    ensures { λ r. ⌜ Refuses (now (cage .entry)) r ⌝ }
-    ensures { λ r. ⌜ SidesLeft (cageOf (now (cage .entry))) r (now (corners .entry)) (now (links .entry))
-        (now (corners .exit)) (now (links .exit)) ⌝ }
-{
-    let mut origins = [0u32; 9216];
-    let mut partners = [0u32; 9216];
-    let mut heads = [0u32; 3072];
-    let mut nexts = [0u32; 9216];
-    let mut slots = [0u32; 3072];
-    load_by(
-        corners,
-        links,
-        cage,
-        vertices,
-        triangles,
-        &mut origins,
-        &mut partners,
-        &mut heads,
-        &mut nexts,
-        &mut slots,
-    )
-}
-
-// Room for the sides of the largest cage. What it holds is not said, so that no proof writes it out.
-fn side_room() -> [u32; 196608] {
-    [0u32; 196608]
-}
-
-// The same for the maxima.
-fn load_within_98304(
-    corners: &mut [u32],
-    links: &mut [u32],
-    cage: &[u8],
-    vertices: u32,
-    triangles: u32,
-) -> u32
-    requires { ⌜ Sized (now cage) vertices triangles × SideRoom triangles (now corners) (now links) ⌝ }
-    ensures { λ r. ⌜ Refuses (now (cage .entry)) r ⌝ }
-    ensures { λ r. ⌜ SidesLeft (cageOf (now (cage .entry))) r (now (corners .entry)) (now (links .entry))
-        (now (corners .exit)) (now (links .exit)) ⌝ }
-{
-    let mut origins = side_room();
-    let mut partners = side_room();
-    let mut heads = [0u32; 32768];
-    let mut nexts = side_room();
-    let mut slots = [0u32; 32768];
-    load_by(
-        corners,
-        links,
-        cage,
-        vertices,
-        triangles,
-        &mut origins,
-        &mut partners,
-        &mut heads,
-        &mut nexts,
-        &mut slots,
-    )
-}
-
-// The same for all, with the conditions 1, 16 and 2. A small cage has little room to clear.
+// The same with the conditions 1, 16 and 2.
 fn load_sides(
     positions: &[i32],
     corners: &mut [u32],
@@ -224,13 +120,7 @@ fn load_sides(
     }
     let v = points::number_at(cage, 0);
     let f = points::number_at(cage, 4);
-    if cage.len() <= 3080 {
-        return load_within_256(corners, links, cage, v, f);
-    }
-    if cage.len() <= 36872 {
-        return load_within_3072(corners, links, cage, v, f);
-    }
-    load_within_98304(corners, links, cage, v, f)
+    rooms::load_in_room(corners, links, cage, v, f)
 }
 
 // Loads the cage, to be rounded by this rule. A refusal leaves the tables and the counts.

@@ -1,5 +1,4 @@
--- `cage::load_sides` meets its contract: conditions 1, 16 and 2 are decided here, the others with room of a fitting
--- size.
+-- `cage::load_sides` meets its contract: conditions 1, 16 and 2 are decided here, the others in a room.
 use borrow.Author.Needs.{needs}
 use borrow.Author.Tests.{not-true, not-false}
 use Prim.Native.Nat.{ℕ}
@@ -152,8 +151,8 @@ number-at-requires c κs = omega (arith, loadable c none .1 .header)
 number-at-requires-2 : tie.Need-number-at-requires-2
 number-at-requires-2 c κs = omega (arith, loadable (c .before) none .1 .header)
 
-load-within-256-requires : tie.Need-load-within-256-requires
-load-within-256-requires c κs = let at = c .before .before in (room (at .before), at .if4 .taken)
+load-in-room-requires : tie.Need-load-in-room-requires
+load-in-room-requires c κs = room (c .before .before)
 
 same-length-7 : tie.Need-same-length-7
 same-length-7 c = search needs
@@ -164,38 +163,8 @@ same-length-8 c = search needs
 returns-4 : tie.Need-returns-4
 returns-4 c =
     let at = c .before .before .before .before in
-    let left = at .load-within-256 .ensures in
-    (told (at .before .before .before .before) (left .0), left .1)
-
-load-within-3072-requires : tie.Need-load-within-3072-requires
-load-within-3072-requires c κs = let at = c .before .before in (room (at .before .before), at .if5 .taken)
-
-same-length-9 : tie.Need-same-length-9
-same-length-9 c = search needs
-
-same-length-10 : tie.Need-same-length-10
-same-length-10 c = search needs
-
-returns-5 : tie.Need-returns-5
-returns-5 c =
-    let at = c .before .before .before .before in
-    let left = at .load-within-3072 .ensures in
-    (told (at .before .before .before .before .before) (left .0), left .1)
-
-load-within-98304-requires : tie.Need-load-within-98304-requires
-load-within-98304-requires c κs = room (c .before .before .before .before)
-
-same-length-11 : tie.Need-same-length-11
-same-length-11 c = search needs
-
-same-length-12 : tie.Need-same-length-12
-same-length-12 c = search needs
-
-returns-6 : tie.Need-returns-6
-returns-6 c =
-    let at = c .before .before .before .before in
-    let left = at .load-within-98304 .ensures in
-    (told (at .before .before .before .before .before) (left .0), left .1)
+    let left = at .load-in-room .ensures in
+    (told (at .before .before .before) (left .0), left .1)
 
 pub load-sides-spec : {M : Type 1} → statement M
 load-sides-spec =
@@ -215,15 +184,7 @@ load-sides-spec =
     returns-3
     number-at-requires
     number-at-requires-2
-    load-within-256-requires
+    load-in-room-requires
     same-length-7
     same-length-8
-    returns-4
-    load-within-3072-requires
-    same-length-9
-    same-length-10
-    returns-5
-    load-within-98304-requires
-    same-length-11
-    same-length-12
-    returns-6)
+    returns-4)

@@ -1,8 +1,8 @@
--- `cage::load_within_3072` meets its contract.
+-- `cage::rooms::load_within_2048` meets its contract.
 use borrow.Author.Needs.{needs}
 use Rattle.cage.proofs.Room.{room-within}
-use Rattle.cage.proofs.load_within_3072.Statement.{statement}
-use Rattle.cage.proofs.load_within_3072.Tie as tie
+use Rattle.cage.proofs.rooms.load_within_2048.Statement.{statement}
+use Rattle.cage.proofs.rooms.load_within_2048.Tie as tie
 
 slice-aggregate-load-by : tie.Need-slice-aggregate-load-by
 slice-aggregate-load-by c = search needs
@@ -22,7 +22,7 @@ slice-aggregate-load-by-5 c = search needs
 load-by-requires : tie.Need-load-by-requires
 load-by-requires c κs =
     let pre = c .before .before .before .before .before .before .before .before .before .before .pre in
-    (pre .0, room-within 3072 (pre .0 .0) (pre .1))
+    (pre .0, room-within 2048 (pre .1))
 
 same-length : tie.Need-same-length
 same-length c = search needs
@@ -33,8 +33,8 @@ same-length-2 c = search needs
 returns : tie.Need-returns
 returns c = search needs
 
-pub load-within-3072-spec : {M : Type 1} → statement M
-load-within-3072-spec =
+pub load-within-2048-spec : {M : Type 1} → statement M
+load-within-2048-spec =
     tie.close
     (tie.spec
     slice-aggregate-load-by

@@ -1,8 +1,8 @@
--- `cage::load_within_256` meets its contract.
+-- `cage::rooms::load_within_256` meets its contract.
 use borrow.Author.Needs.{needs}
 use Rattle.cage.proofs.Room.{room-within}
-use Rattle.cage.proofs.load_within_256.Statement.{statement}
-use Rattle.cage.proofs.load_within_256.Tie as tie
+use Rattle.cage.proofs.rooms.load_within_256.Statement.{statement}
+use Rattle.cage.proofs.rooms.load_within_256.Tie as tie
 
 slice-aggregate-load-by : tie.Need-slice-aggregate-load-by
 slice-aggregate-load-by c = search needs
@@ -22,7 +22,7 @@ slice-aggregate-load-by-5 c = search needs
 load-by-requires : tie.Need-load-by-requires
 load-by-requires c κs =
     let pre = c .before .before .before .before .before .before .before .before .before .before .pre in
-    (pre .0, room-within 256 (pre .0 .0) (pre .1))
+    (pre .0, room-within 256 (pre .1))
 
 same-length : tie.Need-same-length
 same-length c = search needs

@@ -1,17 +1,8 @@
--- `cage::load_within_98304` meets its contract.
+-- `cage::rooms::load_within_16384` meets its contract.
 use borrow.Author.Needs.{needs}
-use Rattle.cage.proofs.Room.{greatest-room}
-use Rattle.cage.proofs.load_within_98304.Statement.{statement}
-use Rattle.cage.proofs.load_within_98304.Tie as tie
-
-side-room-requires : tie.Need-side-room-requires
-side-room-requires c κs = search needs
-
-side-room-requires-2 : tie.Need-side-room-requires-2
-side-room-requires-2 c κs = search needs
-
-side-room-requires-3 : tie.Need-side-room-requires-3
-side-room-requires-3 c κs = search needs
+use Rattle.cage.proofs.Room.{room-within}
+use Rattle.cage.proofs.rooms.load_within_16384.Statement.{statement}
+use Rattle.cage.proofs.rooms.load_within_16384.Tie as tie
 
 slice-aggregate-load-by : tie.Need-slice-aggregate-load-by
 slice-aggregate-load-by c = search needs
@@ -30,14 +21,8 @@ slice-aggregate-load-by-5 c = search needs
 
 load-by-requires : tie.Need-load-by-requires
 load-by-requires c κs =
-    let arrays = c .before .before .before .before .before .before .before in
-    let pre = arrays .before .before .before .before .before .before .pre in (
-      pre,
-      greatest-room (pre .0)
-          (slice-aggregate-load-by (c .before .before .before .before))
-          (slice-aggregate-load-by-2 (c .before .before .before))
-          (slice-aggregate-load-by-4 (c .before)),
-    )
+    let pre = c .before .before .before .before .before .before .before .before .before .before .pre in
+    (pre .0, room-within 16384 (pre .1))
 
 same-length : tie.Need-same-length
 same-length c = search needs
@@ -48,13 +33,10 @@ same-length-2 c = search needs
 returns : tie.Need-returns
 returns c = search needs
 
-pub load-within-98304-spec : {M : Type 1} → statement M
-load-within-98304-spec =
+pub load-within-16384-spec : {M : Type 1} → statement M
+load-within-16384-spec =
     tie.close
     (tie.spec
-    side-room-requires
-    side-room-requires-2
-    side-room-requires-3
     slice-aggregate-load-by
     slice-aggregate-load-by-2
     slice-aggregate-load-by-3
