@@ -9,7 +9,7 @@ use Rattle.rules.specs.Conditions.{SizesFit}
 use Rattle.rules.specs.Numbers.{numberAt}
 use Rattle.rules.specs.Tables.{Mesh, TablesAgree}
 use Rattle.soundness.proofs.Starts.{zeroed}
-use Rattle.cage.specs.Decoded.{Sized, Within, WorkingRoom}
+use Rattle.cage.specs.Loading.{Sized, Within, WorkingRoom}
 
 -- A cage whose sizes fit is as long as they say.
 pub sized : {bytes : List ℕ} {m : Mesh} {v f : ℕ} → v ≡ numberAt bytes 0 → f ≡ numberAt bytes 4 → TablesAgree m

@@ -8,7 +8,7 @@ use Rattle.rules.proofs.Numbers.Fill.{fill-same}
 use Rattle.rules.specs.Below.{fill}
 use Rattle.rules.specs.Cage.{Cage}
 use Rattle.cage.specs.Answers.{SidesLeft}
-use Rattle.cage.specs.Decoded.{Holds}
+use Rattle.cage.specs.Loading.{Holds}
 
 -- Where it is refused, they stand.
 pub stand : {c : Cage} {r : ℕ} {corners links : List ℕ} → r ≢ 0 → SidesLeft c r corners links corners links

@@ -1,5 +1,3 @@
 -- What the contracts of cage cite beside the rules.
-pub mod Decoded
-pub mod Pairing
-pub mod Fans
+pub mod Loading
 pub mod Answers

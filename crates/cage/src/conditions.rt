@@ -8,8 +8,9 @@ ghost use Rattle.rules.specs.Cage.{sizesFit, cornersFit};
 ghost use Rattle.rules.specs.Numbers.{numberAt, signed, inRange};
 ghost use Rattle.tables.specs.declared.Counts.{Counts};
 ghost use Rattle.tables.specs.Lent.{meshNow};
-ghost use Rattle.cage.specs.Decoded.{decoded, triangleFits};
-use crate::wide;
+ghost use Rattle.pairing.specs.Decoded.{decoded};
+ghost use Rattle.cage.specs.Loading.{triangleFits};
+use pairing::wide;
 
 // Whether the cage is as long as its sizes say, and these are at least 1 and within the slots.
 // In 64 bits nothing wraps.

@@ -7,20 +7,11 @@ ghost use Rattle.rules.specs.Calls.{loadRefusal, loadCall};
 ghost use Rattle.tables.specs.Answers.{workedOutcome};
 ghost use Rattle.tables.specs.Lent.{meshNow};
 ghost use Rattle.cage.specs.Answers.{Refuses, SideRoom, SidesLeft};
-ghost use Rattle.cage.specs.Decoded.{Sized, WorkingRoom, Holds};
+ghost use Rattle.cage.specs.Loading.{Sized, WorkingRoom, Holds};
 
 mod conditions;
-mod fans;
-mod pairing;
 mod rooms;
 mod writing;
-
-// The same number, as wide as an index.
-fn wide(x: u32) -> usize
-    ensures { λ r. ⌜ r ≡ x ⌝ }
-{
-    x as usize
-}
 
 // The refusal of a cage whose sizes fit: 3 to 6, or 0 and the cage's origins and partners are held.
 fn refusal_of(
@@ -50,7 +41,7 @@ fn refusal_of(
     if !pairing::pair(origins, f, v, heads, nexts, slots, partners) {
         return 5;
     }
-    if !fans::fit(origins, partners, triangles, vertices, heads, nexts) {
+    if !pairing::fans::fit(origins, partners, triangles, vertices, heads, nexts) {
         return 6;
     }
     0

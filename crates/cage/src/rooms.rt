@@ -4,7 +4,7 @@ ghost use mathlib.Core.Bool.{true};
 ghost use mathlib.Core.Path.{_≡_};
 ghost use Rattle.rules.specs.Cage.{cageOf};
 ghost use Rattle.cage.specs.Answers.{Refuses, SideRoom, SidesLeft};
-ghost use Rattle.cage.specs.Decoded.{Sized, Within};
+ghost use Rattle.cage.specs.Loading.{Sized, Within};
 
 // The refusal of a cage of up to 32 vertices and triangles. Where it is 0 the corners and links are written.
 fn load_within_32(

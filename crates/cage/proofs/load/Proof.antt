@@ -6,7 +6,7 @@ use Rattle.rules.proofs.Calls.Carried.{LoadFound, load-found}
 use Rattle.rules.proofs.Loads.LoadTests.{load-refused, load-carried}
 use Rattle.rules.specs.Tables.{Mesh}
 use Rattle.tables.specs.Lent.{meshNow}
-use Rattle.cage.specs.Decoded.{Sized}
+use Rattle.cage.specs.Loading.{Sized}
 use Rattle.cage.proofs.Room.{sized}
 use Rattle.cage.proofs.load.Proof.Written.{written}
 use Rattle.cage.proofs.load.Statement.{statement}

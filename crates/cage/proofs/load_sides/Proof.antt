@@ -17,7 +17,7 @@ use Rattle.rules.specs.Tables.{Mesh, TablesAgree, tablesAgree}
 use Rattle.tables.specs.declared.Counts.{Counts}
 use Rattle.tables.specs.Lent.{meshNow}
 use Rattle.cage.specs.Answers.{Refuses, SideRoom}
-use Rattle.cage.specs.Decoded.{Sized}
+use Rattle.cage.specs.Loading.{Sized}
 use Rattle.cage.proofs.Room.{sized}
 use Rattle.cage.proofs.Sides.{stand}
 use Rattle.cage.proofs.load_sides.Statement.{statement}

@@ -4,8 +4,8 @@ use native.Mathlib.Omega.{arith}
 use mathlib.Core.Path.{sym, _∙_}
 use Rattle.cage.proofs.refusal_of.Proof.Refusals.{Fits, decode-read, refuses-3, refuses-4, readable, refuses-5}
 use Rattle.cage.proofs.refusal_of.Proof.Refusals.{holds, refuses-6, refuses-none}
-use Rattle.cage.specs.Decoded.{decoded}
-use Rattle.cage.specs.Pairing.{Matched}
+use Rattle.pairing.specs.Decoded.{decoded}
+use Rattle.pairing.specs.Pairing.{Matched}
 use borrow.Author.Needs.{needs}
 use Rattle.cage.proofs.refusal_of.Statement.{statement}
 use Rattle.cage.proofs.refusal_of.Tie as tie

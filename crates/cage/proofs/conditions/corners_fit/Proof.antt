@@ -7,7 +7,7 @@ use mathlib.Core.Path.{_≡_, refl, _∙_}
 use Rattle.rules.proofs.Numbers.Decide.{all-and}
 use Rattle.rules.specs.Below.{all}
 use Rattle.rules.specs.Cage.{cornersFit}
-use Rattle.cage.specs.Decoded.{cornerFits}
+use Rattle.cage.specs.Loading.{cornerFits}
 use Rattle.cage.proofs.conditions.corners_fit.Statement.{statement}
 use Rattle.cage.proofs.conditions.corners_fit.Tie as tie
 

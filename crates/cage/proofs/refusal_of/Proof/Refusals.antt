@@ -25,9 +25,10 @@ use Rattle.rules.specs.Numbers.{numberAt, signed, inRange, KnownRule, knownRule
 use Rattle.rules.specs.Sound.{hasOneFan}
 use Rattle.rules.specs.Tables.{Topology, Mesh, TablesAgree, tablesAgree, topologyOf}
 use Rattle.cage.specs.Answers.{Refuses}
-use Rattle.cage.specs.Decoded.{decoded, Readable, Sized, Holds}
-use Rattle.cage.specs.Fans.{TellsFit}
-use Rattle.cage.specs.Pairing.{Matched}
+use Rattle.pairing.specs.Decoded.{decoded, Readable}
+use Rattle.cage.specs.Loading.{Sized, Holds}
+use Rattle.pairing.specs.Fans.{TellsFit}
+use Rattle.pairing.specs.Pairing.{Matched}
 
 -- ---- matching links
 
