@@ -3,7 +3,7 @@ use mathlib.Core.Path.{_≡_}
 use mathlib.Core.Bool.{Bool}
 use mathlib.Core.Logic.{_≢_, _⊎_, _↔_}
 use mathlib.Core.List.{List, [], _∷_, _++_}
-use Prim.Native.Nat.{ℕ, suc, _+_, _-_, _*_, _%_, _≤_, _<_}
+use Prim.Native.Nat.{ℕ, suc, _+_, _-_, _*_, _/_, _%_, _≤_, _<_}
 use lib.Dec.{T}
 use lib.IntN.{ℤ, pos, natAbs, _-ℤ_, _*ℤ_}
 use lib.ListN.{length, getD}
@@ -12,7 +12,7 @@ use Rattle.rules.proofs.Boxes.BoxCall.{box-in-spares, nothing-wanted, b
 use Rattle.rules.proofs.Calls.CallRefusals.{load-refusal, refine-refusal, whole-step-refusal, ring-refusal}
 use Rattle.rules.proofs.Calls.CallRefusals.{lock-refusal, view-refusal, position-refusal, limit-refusal}
 use Rattle.rules.proofs.Calls.CallRefusals.{taken-at-boundary, noted-refusal, take-back-refusal, curve-refusal}
-use Rattle.rules.proofs.Calls.Carried.{may-refine}
+use Rattle.rules.proofs.Calls.Carried.{may-refine, StepFound}
 use Rattle.rules.proofs.Calls.EveryCall.{refused-is, no-ten}
 use Rattle.rules.proofs.Calls.Histories.{every-history, history-sound, history-keeps-sound, history-none-of-two}
 use Rattle.rules.proofs.Loads.InnerOfTwo.{some-inner-of-two-is, back-to-back}
@@ -43,6 +43,7 @@ use Rattle.rules.proofs.Rings.RingTheory.{ring-makes}
 use Rattle.rules.proofs.Numbers.Rounding.{nearest-third, nearest-third-only, rounded-nearest, nearest-only}
 use Rattle.rules.proofs.Soundness.SoundTest.{sound-is}
 use Rattle.rules.proofs.Spares.Adds.{refine-adds}
+use Rattle.rules.proofs.Steps.Closed.{closedStep, step-closed}
 use Rattle.rules.specs.Boxes.{Box, refineInBox, boxRefusal, boxCall}
 use Rattle.rules.specs.Cage.{Cage, cageOf, loaded, someInnerOfTwo}
 use Rattle.rules.specs.Calls.{outcomeOf, withReport, worked, loadCall, refineCall, wholeStepCall, ringRead}
@@ -76,7 +77,7 @@ use Rattle.rules.specs.Runs.{MayRun, ran, LeastDisturbance}
 use Rattle.rules.specs.Sound.{Sound, isSound}
 use Rattle.rules.specs.Spares.{Spares, copied, meshIn, SameSizes}
 use Rattle.rules.specs.Split.{Work, atFirst, chainOdd, refine}
-use Rattle.rules.specs.Step.{wholeStep, limitPositions}
+use Rattle.rules.specs.Step.{refineFirst, wholeStep, limitPositions}
 use Rattle.rules.specs.Tables.{Mesh, TablesAgree, vertexSlots, triangleSlots, origin, boundary, link}
 use Rattle.rules.specs.Tables.{generation, withRule}
 
@@ -534,6 +535,18 @@ pub whole-step-carried : (m : Mesh) → wholeStepCall m .answer .refusal ≡ 0
     → let w = wholeStep m in
     (wholeStepCall m ≡ worked w) × StepMakes (generation (m .topology) 0) m w
 whole-step-carried = whole-step-makes
+
+-- Its splits and flips in closed form: each old side has one child, which the corners and links of its own triangle
+-- decide.
+pub whole-step-closed : (m : Mesh) → StepFound m →
+    let w = refineFirst (m .topology .triangles) (atFirst m) in
+    w ≡ record {
+      mesh = closedStep m;
+      splits = m .topology .triangles;
+      flips = 3 * m .topology .triangles / 2;
+      report = w .report;
+    }
+whole-step-closed = step-closed
 
 -- ---- locked triangles (Request i)
 

@@ -2,6 +2,9 @@
 pub mod StepTopology
 pub mod StepPositions
 pub mod WholeStep
-pub mod StepLoop
+pub mod Children
+pub mod Stage
+pub mod StageSplit
+pub mod Closed
 pub mod Limits
 pub mod StepRefusals

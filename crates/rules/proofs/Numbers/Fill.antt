@@ -1,12 +1,12 @@
 -- Lists whose first n entries are written from a function, read back.
-use mathlib.Core.Path.{_≡_, refl, _∙_}
+use mathlib.Core.Path.{_≡_, refl, sym, ap, _∙_, subst}
 use mathlib.Core.List.{List}
-use Prim.Native.Nat.{ℕ, zero, suc, _+_, _*_, _≤_, _<_}
+use Prim.Native.Nat.{ℕ, zero, suc, _+_, _-_, _*_, _≤_, _<_}
 use native.Mathlib.Numerals.{add-one}
 use native.Mathlib.Omega.{arith}
-use native.Mathlib.Decide.{ℕ-discrete}
+use native.Mathlib.Decide.{ℕ-discrete, decLt}
 use lib.ListN.{length, getD, set, drop, length-set}
-use lib.Seq.{getD-set-same, getD-set-other, drop-set-lt, set-set, set-comm}
+use lib.Seq.{getD-set-same, getD-set-other, drop-set-lt, set-set, set-comm, ext-getD, getD-drop}
 use Rattle.rules.specs.Below.{fill}
 use Rattle.rules.specs.Tables.{putThree}
 
@@ -66,3 +66,18 @@ module _ {A : Type 0} where
       let b : 3 * v + 1 ≡ suc (3 * v) = omega arith in
       let c : 3 * v + 2 ≡ suc (suc (3 * v)) = omega arith in
       rw (e, a, b, c) refl
+
+  -- A list that has these entries first, and past them the old ones, is the one so written.
+  pub fill-is : (d : A) (n : ℕ) (f : ℕ → A) (l a : List A) → length a ≡ length l → n ≤ length l
+      → drop n a ≡ drop n l → ((i : ℕ) → i < n → getD a i d ≡ f i) → a ≡ fill n f l
+  fill-is d n f l a size room past first =
+      ext-getD d a (fill n f l) (size ∙ sym (length-fill n f l)) (λ i _. go i (decLt i n))
+    where
+      go : (i : ℕ) → Dec (i < n) → getD a i d ≡ getD (fill n f l) i d
+      go i (yes q) = first i q ∙ sym (getD-fill n f l i d room q)
+      go i (no q) =
+          let e : n + (i - n) ≡ i = omega arith in
+          subst (λ (j : ℕ). getD a j d ≡ getD (fill n f l) j d) e
+          (sym (getD-drop n a (i - n) d)
+          ∙ ap (λ (t : List A). getD t (i - n) d) (past ∙ sym (drop-fill n f l n (omega arith)))
+          ∙ getD-drop n (fill n f l) (i - n) d)

@@ -27,7 +27,7 @@ use Rattle.rules.specs.Actions.{cutsFace, cutsRim}
 use Rattle.rules.specs.Numbers.{InRange}
 use Rattle.rules.specs.Promises.{odds, Listed}
 use Rattle.rules.specs.Split.{Work, faceCut, flip, withSplit, withFlip, centre, facePlaced, settle, settleAll}
-use Rattle.rules.specs.Split.{faceSplit, thirdOf, firstThird, secondThird, rimCut, rimPlaced, rimSplit}
+use Rattle.rules.specs.Split.{faceSplit, newUnlocked, thirdOf, firstThird, secondThird, rimCut, rimPlaced, rimSplit}
 use Rattle.rules.specs.Tables.{Topology, Mesh, meshOf, withTopology, origin, boundary, link, generation, isBase}
 use Rattle.rules.specs.Tables.{coordinate, putThree, withCounts}
 
@@ -202,6 +202,14 @@ pub face-positions : (t : ℕ) (w : Work)
 unfolding faceSplit facePlaced
 face-positions t w = simp settle-positions
 
+-- It clears the locks of its new slots, and no other.
+pub face-locks : (t : ℕ) (w : Work)
+    → faceSplit t w .mesh .locks ≡ newUnlocked (reached w .triangles) (w .mesh .locks)
+unfolding faceSplit facePlaced
+face-locks t w =
+    let f = reached w .triangles in
+    settled-leaves (t ∷ f ∷ (f + 1) ∷ []) (withSplit t (facePlaced t (w .mesh)) w) .2
+
 -- ---- any split, with what is counted and placed
 
 -- The split of v into children of generation g, with p vertices and r boundary sides more. The face split has r = 0 and
@@ -255,29 +263,50 @@ third-fits h i j m t F b x y z a = (all 0 (omega arith), all 1 (omega arith), al
     all k q = third-in-range (at h k x q) (at i k y q) (at j k z q)
 
 module _ (v : ℕ) (w : Work) (F : Manifold (reached w)) (b : v < reached w .triangles) (R : Room 1 (reached w)) where
-  pub face-splitting : generation (reached w) v % 2 ≡ 0
-      → Splitting v (suc (generation (reached w) v)) 1 0 w (faceSplit v w)
-  unfolding faceSplit facePlaced centre
-  face-splitting even =
+  pub face-parted : Parted v (faceParts v (reached w)) (reached w) (faceCut v (reached w))
+  face-parted =
       let rc = R .corners in
       let rl = R .links in
       let rg = R .generations in
       let m : Topology = reached w in
-      let S : Parted v (faceParts v m) m (faceCut v m) =
-      rw (split-is v m) (parted-is v (faceParts v m) m F b (omega arith) (omega arith) (omega arith)) in
-      let N : Manifold (faceCut v m) =
-      split-manifold v m (faceCut v m) F b even S (omega arith) (omega arith) (omega arith) in
-      splitting-of v _ 1 0 _ w (facePlaced v (w .mesh)) F b (face-cut v m (faceCut v m) F b even S N)
-      (λ h o. elim o [
-        | inl e ↦ inl (omega arith)
-        | inr (inl e) ↦ inr (inl (omega arith))
-        | inr (inr (inl e)) ↦ inr (inr (inl (omega arith)))
-        | inr (inr (inr e)) ↦ absurd e
-      ])
-      (split-odds v m (faceCut v m) b even S)
-      (places-new (w .mesh) (facePlaced v (w .mesh)) _ (S .vertices) refl
-      (unlocks-new (w .mesh) (facePlaced v (w .mesh)) (S .triangles) refl) refl
-      (third-fits 0 1 2 (w .mesh) v F b (omega arith) (omega arith) (omega arith)))
+      rw (split-is v m) (parted-is v (faceParts v m) m F b (omega arith) (omega arith) (omega arith))
+
+  module _ (even : generation (reached w) v % 2 ≡ 0) where
+    face-cut-made :
+        let m : Topology = reached w in
+        Cut v (suc (generation m v)) (v ∷ m .triangles ∷ (m .triangles + 1) ∷ []) 1 0 m (faceCut v m)
+    face-cut-made =
+        let rc = R .corners in
+        let rl = R .links in
+        let rg = R .generations in
+        let m : Topology = reached w in
+        face-cut v m (faceCut v m) F b even face-parted
+        (split-manifold v m (faceCut v m) F b even face-parted (omega arith) (omega arith) (omega arith))
+
+    pub face-settled : Settled (v ∷ reached w .triangles ∷ (reached w .triangles + 1) ∷ [])
+        (faceCut v (reached w)) (reached (faceSplit v w))
+    unfolding faceSplit facePlaced
+    face-settled =
+        let C = face-cut-made in
+        settled-of (settles-all (reached w .vertices) _ _ (withSplit v (facePlaced v (w .mesh)) w) (C .manifold)
+        (C .children) (C .distinct))
+
+    pub face-splitting : Splitting v (suc (generation (reached w) v)) 1 0 w (faceSplit v w)
+    unfolding faceSplit facePlaced centre
+    face-splitting =
+        let m : Topology = reached w in
+        let S = face-parted in
+        splitting-of v _ 1 0 _ w (facePlaced v (w .mesh)) F b face-cut-made
+        (λ h o. elim o [
+          | inl e ↦ inl (omega arith)
+          | inr (inl e) ↦ inr (inl (omega arith))
+          | inr (inr (inl e)) ↦ inr (inr (inl (omega arith)))
+          | inr (inr (inr e)) ↦ absurd e
+        ])
+        (split-odds v m (faceCut v m) b even S)
+        (places-new (w .mesh) (facePlaced v (w .mesh)) _ (S .vertices) refl
+        (unlocks-new (w .mesh) (facePlaced v (w .mesh)) (S .triangles) refl) refl
+        (third-fits 0 1 2 (w .mesh) v F b (omega arith) (omega arith) (omega arith)))
 
   pub rim-splitting : generation (reached w) v % 2 ≡ 1 → link (reached w) (3 * v) ≡ boundary
       → Splitting v (generation (reached w) v + 2) 2 2 w (rimSplit v w)
@@ -331,16 +360,12 @@ module _ (v : ℕ) (w : Work) (F : Manifold (reached w)) (b : v < reached w .tri
       → faceSplit v w .report ≡ w .report ++ toldAs false (reached w) v
   unfolding faceSplit facePlaced
   face-report even =
-      let rc = R .corners in
-      let rl = R .links in
-      let rg = R .generations in
       let m : Topology = reached w in
       let n : Topology = faceCut v m in
       let f : ℕ = m .triangles in
-      let S : Parted v (faceParts v m) m n =
-      rw (split-is v m) (parted-is v (faceParts v m) m F b (omega arith) (omega arith) (omega arith)) in
-      let N : Manifold n = split-manifold v m n F b even S (omega arith) (omega arith) (omega arith) in
-      let C = face-cut v m n F b even S N in
+      let S = face-parted v w F b R in
+      let C = face-cut-made v w F b R even in
+      let N : Manifold n = C .manifold in
       let k : Mesh = facePlaced v (w .mesh) in
       let x : pairOf n v ≡ pairAt m v (3 * v) =
       pair-of-side v v (3 * v) m n F N (C .generations) (omega arith) (omega arith) (S .own .links .0) in

@@ -93,7 +93,7 @@ module _ (g : ℕ) (even : g % 2 ≡ 0) (d : Work) (F : Manifold (reached d)) (K
       }
 
   -- The corners of a triangle still to come stand where they stood.
-  centre-stays : (i k : ℕ) (e : Work) → i < reached d .triangles → k < 3 → Midway g i d e
+  pub centre-stays : (i k : ℕ) (e : Work) → i < reached d .triangles → k < 3 → Midway g i d e
       → centre (e .mesh) i k ≡ centre (d .mesh) i k
   unfolding centre
   centre-stays i k e l j M = rw (at 0 (omega arith), at 1 (omega arith), at 2 (omega arith))

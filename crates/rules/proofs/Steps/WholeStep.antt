@@ -36,10 +36,10 @@ closed-none-odd {m} C = none-odd m (λ t l. rw (C .all t l) (C .even))
 -- The step on its way, and the next triangle, which it refines by a split.
 module _ (m : Mesh) (S : Sound m) (C : ClosedEven (m .topology))
     (R : RoomFor (m .topology .triangles) (2 * m .topology .triangles) m) where
-  room : Room (m .topology .triangles) (m .topology)
+  pub room : Room (m .topology .triangles) (m .topology)
   room = sound-room (m .topology .triangles) (S .tables) R
 
-  slots : 3 * (m .topology .vertices + m .topology .triangles) ≤ length (m .positions)
+  pub slots : 3 * (m .topology .vertices + m .topology .triangles) ≤ length (m .positions)
   slots = omega (arith, S .tables .positions, R .vertices)
 
   pub midway : (i : ℕ) → i ≤ m .topology .triangles
@@ -53,7 +53,7 @@ module _ (m : Mesh) (S : Sound m) (C : ClosedEven (m .topology))
       refine-even (C .common) (C .even) (atFirst m) (sound-manifold S) (sound-bases S) (C .all) room slots i
       (refineFirst i (atFirst m)) l (midway i (omega arith))
 
-  all-up : (t : ℕ) → t < reached (refineFirst (m .topology .triangles) (atFirst m)) .triangles
+  pub all-up : (t : ℕ) → t < reached (refineFirst (m .topology .triangles) (atFirst m)) .triangles
       → generation (reached (refineFirst (m .topology .triangles) (atFirst m))) t ≡ suc (suc (C .common))
   all-up =
       two-up (C .common) (C .even) (atFirst m) (sound-manifold S) (sound-bases S) (C .all) room slots
