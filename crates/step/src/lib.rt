@@ -1,5 +1,4 @@
 // The whole step on sound tables: what it refuses, and its work.
-use split::Work;
 use tables::BOUNDARY;
 use tables::Counts;
 use tables::Worked;
@@ -11,18 +10,19 @@ ghost use lib.Dec.{eqb};
 ghost use lib.IntN.{ℤ};
 ghost use lib.ListN.{length, getD};
 ghost use Rattle.rules.proofs.Calls.Carried.{StepFound};
+ghost use Rattle.rules.proofs.Steps.Closed.{closedStep};
 ghost use Rattle.rules.specs.Below.{all};
-ghost use Rattle.rules.specs.Calls.{closedEven, someLocked, wholeStepRefusal, wholeStepCall};
+ghost use Rattle.rules.specs.Calls.{closedEven, someLocked, wholeStepRefusal, wholeStepCall, worked};
 ghost use Rattle.rules.specs.Sound.{Sound};
-ghost use Rattle.rules.specs.Split.{atFirst};
-ghost use Rattle.rules.specs.Step.{moveVertices, refineFirst, wholeStep};
+ghost use Rattle.rules.specs.Step.{moveVertices, wholeStep};
 ghost use Rattle.rules.specs.Tables.{Mesh, topologyOf, meshOf, boundary};
 ghost use Rattle.tables.specs.Answers.{workedOutcome};
 ghost use Rattle.tables.specs.Lent.{meshNow};
-ghost use Rattle.split.specs.Made.{workNow};
 ghost use Rattle.rings.specs.Sums.{Cleared, RingSums};
+ghost use Rattle.step.specs.Children.{stepped};
 ghost use Rattle.step.specs.Moves.{Movable};
 
+mod children;
 pub mod limits;
 
 // Whether none of the first n sides is on the boundary.
@@ -30,14 +30,13 @@ fn none_on_boundary(links: &[u32], n: usize) -> bool
     requires { ⌜ n ≤ length (now links) ⌝ }
     ensures { λ r. ⌜ r ≡ all n (λ h. not (eqb (getD (now (links .entry)) h 0) boundary)) ⌝ }
 {
+    let mut inner = true;
     let mut h: usize = 0;
     while h < n {
-        if links[h] == BOUNDARY {
-            return false;
-        }
+        inner = inner & (links[h] != BOUNDARY);
         h += 1;
     }
-    true
+    inner
 }
 
 // Whether the first n triangles are of generation g.
@@ -45,14 +44,13 @@ fn all_of(generations: &[u8], n: usize, g: u8) -> bool
     requires { ⌜ n ≤ length (now generations) ⌝ }
     ensures { λ r. ⌜ r ≡ all n (λ t. eqb (getD (now (generations .entry)) t 0) g) ⌝ }
 {
+    let mut same = true;
     let mut t: usize = 0;
     while t < n {
-        if generations[t] != g {
-            return false;
-        }
+        same = same & (generations[t] == g);
         t += 1;
     }
-    true
+    same
 }
 
 // Whether no side is on the boundary and all triangles are of one even generation.
@@ -87,7 +85,7 @@ fn some_locked(locks: &[u8], triangles: u32) -> bool
     some
 }
 
-// The face split of each triangle, in the order of their slots.
+// All old triangles split and flipped: their children, with the centres of the old triangles as new vertices.
 fn split_all(
     positions: &mut [i32],
     corners: &mut [u32],
@@ -95,27 +93,20 @@ fn split_all(
     generations: &mut [u8],
     locks: &mut [u8],
     counts: Counts,
-) -> Work
+)
     requires { ⌜ StepFound (meshNow counts (now positions) (now corners) (now links) (now generations) (now locks)) ⌝ }
-    ensures { λ r. ⌜ ((more : List ℕ) × (
-        workNow (counts .rule) more r
-        (now (positions .exit)) (now (corners .exit)) (now (links .exit)) (now (generations .exit)) (now (locks .exit))
-        ≡ refineFirst (counts .triangles) (atFirst (meshNow counts (now (positions .entry)) (now (corners .entry))
-        (now (links .entry)) (now (generations .entry)) (now (locks .entry)))))) ⌝ }
+    ensures { λ _. ⌜
+        meshNow (stepped counts) (now (positions .exit)) (now (corners .exit)) (now (links .exit))
+        (now (generations .exit)) (now (locks .exit))
+        ≡ closedStep (meshNow counts (now (positions .entry)) (now (corners .entry)) (now (links .entry))
+        (now (generations .entry)) (now (locks .entry))) ⌝ }
 {
     let f = counts.triangles;
-    let mut t: u32 = 0;
-    let mut work = Work {
-        vertices: counts.vertices,
-        triangles: f,
-        splits: 0,
-        flips: 0,
-    };
-    while t < f {
-        work = split::split_at(positions, corners, links, generations, locks, work, t);
-        t += 1;
-    }
-    work
+    let g = generations[0] + 2;
+    children::place_centres(positions, corners, counts);
+    children::write_all(corners, links, counts);
+    children::set_generations(generations, 3 * (f as usize), g);
+    children::unlock_new(locks, f);
 }
 
 // Each vertex moved by the length and the sum of its ring, and by the rule.
@@ -182,20 +173,30 @@ fn whole_step(
     counts: Counts,
     lengths: &[u8],
     sums: &[i32],
-) -> Work
+) -> Worked
     requires { ⌜ (let m = meshNow counts (now positions) (now corners) (now links) (now generations) (now locks) in
         StepFound m × RingSums m (now lengths) (now sums)) ⌝ }
-    ensures { λ r. ⌜ ((more : List ℕ) × (
-        workNow (counts .rule) more r
-        (now (positions .exit)) (now (corners .exit)) (now (links .exit)) (now (generations .exit)) (now (locks .exit))
-        ≡ wholeStep (meshNow counts (now (positions .entry)) (now (corners .entry)) (now (links .entry))
-        (now (generations .entry)) (now (locks .entry))))) ⌝ }
+    ensures { λ r. ⌜
+        workedOutcome r (now (positions .exit)) (now (corners .exit)) (now (links .exit)) (now (generations .exit))
+        (now (locks .exit))
+        ≡ worked (wholeStep (meshNow counts (now (positions .entry)) (now (corners .entry)) (now (links .entry))
+        (now (generations .entry)) (now (locks .entry)))) ⌝ }
 {
     let v = counts.vertices;
+    let f = counts.triangles;
     let rule = counts.rule;
-    let work = split_all(positions, corners, links, generations, locks, counts);
+    split_all(positions, corners, links, generations, locks, counts);
     move_all(positions, v, rule, lengths, sums);
-    work
+    Worked {
+        refusal: 0,
+        splits: f,
+        flips: 3 * f / 2,
+        counts: Counts {
+            vertices: v + f,
+            triangles: 3 * f,
+            rule,
+        },
+    }
 }
 
 // The whole step, with two arrays lent, zero at first, for the length of each ring and the sum of its positions.
@@ -235,7 +236,7 @@ fn step_by(
             counts,
         };
     }
-    let work = whole_step(
+    whole_step(
         positions,
         corners,
         links,
@@ -244,17 +245,7 @@ fn step_by(
         counts,
         lengths,
         sums,
-    );
-    Worked {
-        refusal: 0,
-        splits: work.splits,
-        flips: work.flips,
-        counts: Counts {
-            vertices: work.vertices,
-            triangles: work.triangles,
-            rule: counts.rule,
-        },
-    }
+    )
 }
 
 // The same for up to 128 vertices.
@@ -319,6 +310,37 @@ fn step_within_2048(
     )
 }
 
+// The same for up to 12288 vertices. A mesh in one piece that has room for a step has no more.
+fn step_within_12288(
+    positions: &mut [i32],
+    corners: &mut [u32],
+    links: &mut [u32],
+    generations: &mut [u8],
+    locks: &mut [u8],
+    counts: Counts,
+) -> Worked
+    requires { ⌜ Sound (meshNow counts (now positions) (now corners) (now links) (now generations) (now locks))
+        × (counts .vertices ≤ 12288) ⌝ }
+    ensures { λ r. ⌜
+        workedOutcome r (now (positions .exit)) (now (corners .exit)) (now (links .exit)) (now (generations .exit))
+        (now (locks .exit))
+        ≡ wholeStepCall (meshNow counts (now (positions .entry)) (now (corners .entry)) (now (links .entry))
+        (now (generations .entry)) (now (locks .entry))) ⌝ }
+{
+    let mut lengths = [0u8; 12288];
+    let mut sums = [0i32; 36864];
+    step_by(
+        positions,
+        corners,
+        links,
+        generations,
+        locks,
+        counts,
+        &mut lengths,
+        &mut sums,
+    )
+}
+
 // The same for up to 32768 vertices.
 fn step_within_32768(
     positions: &mut [i32],
@@ -371,6 +393,9 @@ pub fn smoothing_step(
     }
     if counts.vertices <= 2048 {
         return step_within_2048(positions, corners, links, generations, locks, counts);
+    }
+    if counts.vertices <= 12288 {
+        return step_within_12288(positions, corners, links, generations, locks, counts);
     }
     step_within_32768(positions, corners, links, generations, locks, counts)
 }

@@ -1,39 +1,27 @@
 -- `step::all_of` meets its contract.
 use borrow.Author.Needs.{needs}
-use borrow.Author.Tests.{eq-eqb, ne-eqb}
 use native.Mathlib.Omega.{arith}
-use Prim.Native.Nat.{ℕ, _-_, _≤_}
-use mathlib.Core.Bool.{Bool, true}
-use mathlib.Core.List.{List}
-use mathlib.Core.Path.{_≡_, sym}
+use Prim.Native.Nat.{_-_, _≤_}
+use mathlib.Core.Path.{_≡_, refl}
 use lib.Dec.{eqb}
 use lib.ListN.{getD}
-use Rattle.rules.proofs.Numbers.Decide.{all-more, all-fails}
+use Rattle.rules.proofs.Numbers.Decide.{all-and}
 use Rattle.rules.specs.Below.{all}
 use Rattle.step.proofs.all_of.Statement.{statement}
 use Rattle.step.proofs.all_of.Tie as tie
 
-abbrev isOf : List ℕ → ℕ → ℕ → Bool
-isOf generations g t = eqb (getD generations t 0) g
-
 abbrev Inv-loop : tie.InvT-loop
-Inv-loop generations n g t₀ t = (t ≤ n) × (all t (isOf generations g) ≡ true)
+Inv-loop generations n g same₀ t₀ same t = (t ≤ n) × (same ≡ all t (λ i. eqb (getD generations i 0) g))
 
 abbrev μ-loop : tie.MeasureT-loop
-μ-loop generations n g t₀ t = n - t
+μ-loop generations n g same₀ t₀ same t = n - t
 
 loop-holds : tie.Need-loop-holds Inv-loop μ-loop
 unfolding all
-loop-holds c = search needs
+loop-holds c = (omega arith, refl)
 
-shared-slice-read-if1 : tie.Need-shared-slice-read-if1 Inv-loop μ-loop
-shared-slice-read-if1 c = search needs
-
-returns : tie.Need-returns Inv-loop μ-loop
-returns c =
-    let turn = c .before .before in
-    let args = turn .before .before .args in
-    sym (all-fails _ _ (isOf (args .generations .now) (args .g)) (turn .loop-test .taken) (ne-eqb _ _ (c .if1 .taken)))
+shared-slice-read-same : tie.Need-shared-slice-read-same Inv-loop μ-loop
+shared-slice-read-same c = search needs
 
 add-t : tie.Need-add-t Inv-loop μ-loop
 add-t c = search needs
@@ -42,26 +30,14 @@ loop-less : tie.Need-loop-less Inv-loop μ-loop
 loop-less c = search needs
 
 loop-again : tie.Need-loop-again Inv-loop μ-loop
-loop-again c =
-    let head = c .before .before .before in
-    let args = head .before .args in
-    (omega arith, all-more _ (isOf (args .generations .now) (args .g)) (head .loop .inv .1) (eq-eqb _ _ (c .if1 .left)))
+loop-again c = (omega arith, all-and _ _ (c .before .before .loop .inv .1) refl)
 
-returns-2 : tie.Need-returns-2 Inv-loop μ-loop
-returns-2 c =
+returns : tie.Need-returns Inv-loop μ-loop
+returns c =
     let e : c .before .loop .t ≡ c .before .before .args .n = omega arith in
-    sym (rw e at (c .before .loop .inv .1))
+    rw e at (c .before .loop .inv .1)
 
 pub all-of-spec : {M : Type 1} → statement M
 all-of-spec =
     tie.close
-    (tie.spec
-    Inv-loop
-    μ-loop
-    loop-holds
-    shared-slice-read-if1
-    returns
-    add-t
-    loop-less
-    loop-again
-    returns-2)
+    (tie.spec Inv-loop μ-loop loop-holds shared-slice-read-same add-t loop-less loop-again returns)

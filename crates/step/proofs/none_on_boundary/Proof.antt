@@ -1,43 +1,32 @@
 -- `step::none_on_boundary` meets its contract.
 use borrow.Author.Needs.{needs}
-use borrow.Author.Tests.{eq-eqb, ne-eqb}
 use native.Mathlib.Omega.{arith}
-use Prim.Native.Nat.{ℕ, _-_, _≤_}
-use mathlib.Core.Bool.{Bool, true, not}
-use mathlib.Core.List.{List}
-use mathlib.Core.Path.{_≡_, sym, ap}
+use Prim.Native.Nat.{_-_, _≤_}
+use mathlib.Core.Bool.{not}
+use mathlib.Core.Path.{_≡_, refl}
 use lib.Dec.{eqb}
 use lib.ListN.{getD}
-use Rattle.rules.proofs.Numbers.Decide.{all-more, all-fails}
+use Rattle.rules.proofs.Numbers.Decide.{all-and}
 use Rattle.rules.specs.Below.{all}
 use Rattle.rules.specs.Tables.{boundary}
 use Rattle.step.proofs.none_on_boundary.Statement.{statement}
 use Rattle.step.proofs.none_on_boundary.Tie as tie
 
-abbrev inner : List ℕ → ℕ → Bool
-inner links h = not (eqb (getD links h 0) boundary)
-
 abbrev Inv-loop : tie.InvT-loop
-Inv-loop links n h₀ h = (h ≤ n) × (all h (inner links) ≡ true)
+Inv-loop links n inner₀ h₀ inner h = (h ≤ n) × (inner ≡ all h (λ i. not (eqb (getD links i 0) boundary)))
 
 abbrev μ-loop : tie.MeasureT-loop
-μ-loop links n h₀ h = n - h
+μ-loop links n inner₀ h₀ inner h = n - h
 
 loop-holds : tie.Need-loop-holds Inv-loop μ-loop
 unfolding all
-loop-holds c = search needs
+loop-holds c = (omega arith, refl)
 
-mul-if1 : tie.Need-mul-if1 Inv-loop μ-loop
-mul-if1 c = search needs
+mul-inner : tie.Need-mul-inner Inv-loop μ-loop
+mul-inner c = search needs
 
-shared-slice-read-if1 : tie.Need-shared-slice-read-if1 Inv-loop μ-loop
-shared-slice-read-if1 c = search needs
-
-returns : tie.Need-returns Inv-loop μ-loop
-returns c =
-    let turn = c .before .before in
-    sym (all-fails _ _ (inner (turn .before .before .args .links .now)) (turn .loop-test .taken)
-    (ap not (eq-eqb _ _ (c .if1 .taken))))
+shared-slice-read-inner : tie.Need-shared-slice-read-inner Inv-loop μ-loop
+shared-slice-read-inner c = search needs
 
 add-h : tie.Need-add-h Inv-loop μ-loop
 add-h c = search needs
@@ -46,16 +35,12 @@ loop-less : tie.Need-loop-less Inv-loop μ-loop
 loop-less c = search needs
 
 loop-again : tie.Need-loop-again Inv-loop μ-loop
-loop-again c =
-    let head = c .before .before .before in (
-      omega arith,
-      all-more _ (inner (head .before .args .links .now)) (head .loop .inv .1) (ap not (ne-eqb _ _ (c .if1 .left))),
-    )
+loop-again c = (omega arith, all-and _ _ (c .before .before .loop .inv .1) refl)
 
-returns-2 : tie.Need-returns-2 Inv-loop μ-loop
-returns-2 c =
+returns : tie.Need-returns Inv-loop μ-loop
+returns c =
     let e : c .before .loop .h ≡ c .before .before .args .n = omega arith in
-    sym (rw e at (c .before .loop .inv .1))
+    rw e at (c .before .loop .inv .1)
 
 pub none-on-boundary-spec : {M : Type 1} → statement M
 none-on-boundary-spec =
@@ -64,10 +49,9 @@ none-on-boundary-spec =
     Inv-loop
     μ-loop
     loop-holds
-    mul-if1
-    shared-slice-read-if1
-    returns
+    mul-inner
+    shared-slice-read-inner
     add-h
     loop-less
     loop-again
-    returns-2)
+    returns)

@@ -1,121 +1,101 @@
--- `step::split_all` meets its contract: the loop of the whole step.
+-- `step::split_all` meets its contract: what it writes is the closed form.
 use borrow.Author.Needs.{needs}
-use Prim.Native.Nat.{_-_, _≤_, ℕ, _<_}
+use Prim.Native.Nat.{ℕ, _+_, _*_}
 use native.Mathlib.Omega.{arith}
-use mathlib.Core.List.{List, []}
-use mathlib.Core.Path.{_≡_, refl, _∙_}
-use Rattle.rules.proofs.Calls.Carried.{StepFound}
-use Rattle.rules.proofs.Soundness.Relaxed.{SameSlots}
-use Rattle.rules.proofs.Steps.StepLoop.{step-slots, step-on, step-splits, step-flips, step-next}
-use Rattle.rules.specs.Split.{atFirst, Work}
-use Rattle.rules.specs.Step.{refineFirst}
-use Rattle.rules.specs.Tables.{Mesh}
+use mathlib.Core.List.{List}
+use mathlib.Core.Path.{_≡_, refl}
+use lib.IntN.{ℤ}
+use Rattle.rules.proofs.Links.Rows.{putRows}
+use Rattle.rules.proofs.Steps.Children.{childOf}
+use Rattle.rules.proofs.Steps.Closed.{childCorners, childLinks, withCentres, unlockedNew, closedStep}
+use Rattle.rules.specs.Below.{fill}
+use Rattle.rules.specs.Tables.{Mesh, topologyOf, meshOf, sides, generation}
 use Rattle.tables.specs.Lent.{meshNow}
-use Rattle.split.specs.Made.{workNow, MaySplit}
 use Rattle.step.proofs.split_all.Statement.{statement}
 use Rattle.step.proofs.split_all.Tie as tie
 
--- What the next face split asks.
-next-may-split : {m : Mesh} {i : ℕ} {w : Work} → StepFound m → w ≡ refineFirst i (atFirst m)
-    → i < m .topology .triangles → MaySplit i w
-next-may-split {m} {i} R at l =
-    let n : i ≤ m .topology .triangles = omega arith in
-    let S = step-next R at n l in
-    let few = R .sound .tables .fewTriangles in
-    let room = R .sound .triangleRoom in
-    record {
-      tables = S .tables;
-      slot = omega (arith, S .inUse, S .room .triangles);
-      room = S .room;
-      young = omega (arith, S .young);
-      splits = omega (arith, step-splits R at n);
-      flips = omega (arith, step-flips R at n);
-    }
+closed-of : (m : Mesh) {positions : List ℤ} {corners links generations locks : List ℕ} →
+    let d = m .topology in
+    positions ≡ withCentres (d .triangles) m
+    → corners ≡ putRows (sides d) (childOf d) (childCorners d) (d .corners)
+    → links ≡ putRows (sides d) (childOf d) (childLinks d) (d .links)
+    → generations ≡ fill (3 * d .triangles) (λ _. generation d 0 + 2) (d .generations)
+    → locks ≡ unlockedNew (d .triangles) (d .triangles) (m .locks)
+    → meshOf (topologyOf (d .vertices + d .triangles) (3 * d .triangles) corners links generations) positions locks
+    (m .rule)
+    ≡ closedStep m
+unfolding closedStep
+closed-of m ep ec el eg ek = rw (ep, ec, el, eg, ek) refl
 
-abbrev Inv-loop : tie.InvT-loop
-Inv-loop positions₀ corners₀ links₀ generations₀ locks₀ f t₀ work₀ positions corners links generations locks t work =
-    (t ≤ f) × ((rule : ℕ) →
-    let m = workNow rule [] work₀ positions₀ corners₀ links₀ generations₀ locks₀ .mesh in
-    StepFound m → (report : List ℕ)
-    × (workNow rule report work positions corners links generations locks ≡ refineFirst t (atFirst m)))
+slice-read-g : tie.Need-slice-read-g
+slice-read-g c = search needs
 
-abbrev μ-loop : tie.MeasureT-loop
-μ-loop _ _ _ _ _ f _ _ _ _ _ _ _ t _ = f - t
+add-g : tie.Need-add-g
+add-g c =
+    let found = c .before .before .before .before .before .pre in
+    omega (arith, found .sound .generations 0 (found .sound .someTriangle))
 
-loop-holds : tie.Need-loop-holds Inv-loop μ-loop
-unfolding refineFirst
-loop-holds c = (omega arith, λ rule F. ([], refl))
+place-centres-requires : tie.Need-place-centres-requires
+place-centres-requires c κs = search needs
 
-split-at-requires : tie.Need-split-at-requires Inv-loop μ-loop
-split-at-requires c κs =
-    let head = c .before .before .before .before .before .before in
-    let start = head .before .before .before .before .before in
-    let rule = start .args .counts .rule in
-    let taken = c .before .before .before .before .before .loop-test .taken in
-    (rule, _, next-may-split (start .pre) (head .loop .inv .1 rule (start .pre) .1) taken)
+write-all-requires : tie.Need-write-all-requires
+write-all-requires c κs = search needs
 
-add-t : tie.Need-add-t Inv-loop μ-loop
-add-t c = search needs
+cast-set-generations : tie.Need-cast-set-generations
+cast-set-generations c = search needs
 
-loop-less : tie.Need-loop-less Inv-loop μ-loop
-loop-less c = search needs
+mul-set-generations : tie.Need-mul-set-generations
+mul-set-generations c = search needs
 
-loop-again : tie.Need-loop-again Inv-loop μ-loop
-loop-again c =
-    let at-split-at = c .before .before .before .before .before .before .before .before .before in
-    let turn = at-split-at .before .before .before .before .before .before in
-    let head = turn .before in (
-      omega arith,
-      λ rule F.
-          let (before, so-far) = head .loop .inv .1 rule F in
-          let (report, e) = at-split-at .split-at .ensures rule before in
-          (report, e ∙ step-on F so-far (head .loop .inv .0) (turn .loop-test .taken)),
-    )
+set-generations-requires : tie.Need-set-generations-requires
+set-generations-requires c κs = search needs
 
--- At the end of the loop the tables have the slots that they had.
-slots : (c : tie.At-loop Inv-loop μ-loop) →
-    let args = c .before .before .before .before .before .args in
-    let l = c .loop in
-    SameSlots
-    (meshNow (args .counts) (args .positions .now) (args .corners .now) (args .links .now) (args .generations .now)
-    (args .locks .now))
-    (workNow (args .counts .rule) [] (l .work) (l .positions) (l .corners) (l .links) (l .generations) (l .locks) .mesh)
-slots c =
-    let start = c .before .before .before .before .before in
-    step-slots (start .pre) (c .loop .inv .1 (start .args .counts .rule) (start .pre) .1) (c .loop .inv .0)
+unlock-new-requires : tie.Need-unlock-new-requires
+unlock-new-requires c κs = search needs
 
-same-length : tie.Need-same-length Inv-loop μ-loop
-same-length c = slots (c .before) .positions
+same-length : tie.Need-same-length
+same-length c = search needs
 
-same-length-2 : tie.Need-same-length-2 Inv-loop μ-loop
-same-length-2 c = slots (c .before) .corners
+same-length-2 : tie.Need-same-length-2
+same-length-2 c = search needs
 
-same-length-3 : tie.Need-same-length-3 Inv-loop μ-loop
-same-length-3 c = slots (c .before) .links
+same-length-3 : tie.Need-same-length-3
+same-length-3 c = search needs
 
-same-length-4 : tie.Need-same-length-4 Inv-loop μ-loop
-same-length-4 c = slots (c .before) .generations
+same-length-4 : tie.Need-same-length-4
+same-length-4 c = search needs
 
-same-length-5 : tie.Need-same-length-5 Inv-loop μ-loop
-same-length-5 c = slots (c .before) .locks
+same-length-5 : tie.Need-same-length-5
+same-length-5 c = search needs
 
-returns : tie.Need-returns Inv-loop μ-loop
+returns : tie.Need-returns
 returns c =
-    let start = c .before .before .before .before .before .before in
-    let e : c .before .loop .t ≡ start .args .counts .triangles = omega arith in
-    rw e at (c .before .loop .inv .1 (start .args .counts .rule) (start .pre))
+    let at-locks = c .before .before in
+    let at-generations = at-locks .before .before .before .before in
+    let at-children = at-generations .before .before .before .before .before .before in
+    let at-centres = at-children .before .before .before .before in
+    let start = at-centres .before .before .before .before .before .before .before .before in
+    let args = start .args in
+    let l = args .links .now in
+    let g = args .generations .now in
+    let k = args .locks .now in
+    let children = at-children .write-all .ensures g in
+    closed-of (meshNow (args .counts) (args .positions .now) (args .corners .now) l g k)
+    (at-centres .place-centres .ensures l g k) (children .0) (children .1) (at-generations .set-generations .ensures)
+    (at-locks .unlock-new .ensures)
 
 pub split-all-spec : {M : Type 1} → statement M
 split-all-spec =
     tie.close
     (tie.spec
-    Inv-loop
-    μ-loop
-    loop-holds
-    split-at-requires
-    add-t
-    loop-less
-    loop-again
+    slice-read-g
+    add-g
+    place-centres-requires
+    write-all-requires
+    cast-set-generations
+    mul-set-generations
+    set-generations-requires
+    unlock-new-requires
     same-length
     same-length-2
     same-length-3

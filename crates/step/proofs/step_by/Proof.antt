@@ -1,10 +1,9 @@
 -- `step::step_by` meets its contract.
 use borrow.Author.Needs.{needs}
 use native.Mathlib.Omega.{arith}
-use mathlib.Core.Path.{sym, _∙_, ap}
+use mathlib.Core.Path.{sym, _∙_}
 use Rattle.rules.proofs.Calls.Carried.{step-found}
 use Rattle.rules.proofs.Steps.StepRefusals.{step-refused, step-carried}
-use Rattle.rules.specs.Calls.{worked}
 use Rattle.step.proofs.step_by.Statement.{statement}
 use Rattle.step.proofs.step_by.Tie as tie
 
@@ -76,7 +75,7 @@ same-length-14 c = omega (arith, at-step c .whole-step .kept, at-refusal c .refu
 
 returns-2 : tie.Need-returns-2
 returns-2 c =
-    ap worked (at-step c .whole-step .ensures .1)
+    at-step c .whole-step .ensures
     ∙ step-carried _ (sym (carried c .if1 .left) ∙ at-refusal c .refusal .ensures .0)
 
 pub step-by-spec : {M : Type 1} → statement M

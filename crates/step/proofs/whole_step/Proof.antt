@@ -1,46 +1,57 @@
 -- `step::whole_step` meets its contract.
 use borrow.Author.Needs.{needs}
-use Prim.Native.Nat.{ℕ}
+use Prim.Native.Nat.{ℕ, _*_, _/_}
 use native.Mathlib.Omega.{arith}
-use mathlib.Core.List.{List}
-use mathlib.Core.Path.{_≡_, refl}
-use lib.IntN.{ℤ}
+use mathlib.Core.List.{List, []}
+use mathlib.Core.Path.{_≡_, refl, sym, ap, _∙_}
+use lib.IntN.{ℤ, pos}
+use lib.ListN.{length, getD}
 use Rattle.rules.proofs.Calls.Carried.{StepFound}
-use Rattle.rules.proofs.Steps.StepLoop.{step-places}
-use Rattle.rules.specs.Split.{Work, atFirst}
-use Rattle.rules.specs.Step.{moveVertices, refineFirst, wholeStep}
-use Rattle.rules.specs.Tables.{Mesh, meshOf}
+use Rattle.rules.proofs.Steps.Closed.{withCentres, centres-leave, closedStep, step-closed}
+use Rattle.rules.specs.Calls.{Outcome, worked}
+use Rattle.rules.specs.Split.{Work, withMesh}
+use Rattle.rules.specs.Step.{moveVertices, wholeStep}
+use Rattle.rules.specs.Tables.{Mesh, meshOf, withPositions}
 use Rattle.rings.specs.Sums.{RingSums}
 use Rattle.step.specs.Moves.{Movable}
+use Rattle.step.proofs.ChildRows.{length-placed}
 use Rattle.step.proofs.whole_step.Statement.{statement}
 use Rattle.step.proofs.whole_step.Tie as tie
 
--- The step is its splits and then its moves.
-whole-step-steps : (m : Mesh) (w : Work) (positions : List ℤ) → w ≡ refineFirst (m .topology .triangles) (atFirst m)
-    → positions ≡ moveVertices (m .topology .vertices) m (w .mesh .positions)
-    → _≡_ {A = Work} (record {
-      mesh = meshOf (w .mesh .topology) positions (w .mesh .locks) (w .mesh .rule);
-      splits = w .splits;
-      flips = w .flips;
-      report = w .report;
+-- The step is its closed form and then its moves.
+whole-step-steps : (m : Mesh) → StepFound m → (w : Mesh) (positions : List ℤ) → w ≡ closedStep m
+    → positions ≡ moveVertices (m .topology .vertices) m (w .positions)
+    → worked (record {
+      mesh = meshOf (w .topology) positions (w .locks) (w .rule);
+      splits = m .topology .triangles;
+      flips = 3 * m .topology .triangles / 2;
+      report = [];
     })
-    (wholeStep m)
+    ≡ worked (wholeStep m)
 unfolding wholeStep
-whole-step-steps m w positions ew ep = rw (ep, ew, wholeStep)
+whole-step-steps m R w positions ew ep =
+    let after : Work → Outcome = λ x.
+    worked (withMesh (withPositions (moveVertices (m .topology .vertices) m (x .mesh .positions)) (x .mesh)) x) in
+    rw (ep, ew) refl ∙ sym (ap after (step-closed m R))
 
 -- After the splits the vertices still stand where they stood.
-movable : {m : Mesh} {lengths : List ℕ} {sums : List ℤ} {w : Work} → StepFound m → RingSums m lengths sums
-    → w ≡ refineFirst (m .topology .triangles) (atFirst m)
-    → Movable (m .topology .vertices) (m .rule) m (w .mesh .positions) lengths sums
-movable {m} F R e =
-    let P = step-places F e (omega arith) in
+movable : {m : Mesh} {lengths : List ℕ} {sums : List ℤ} {w : Mesh} → StepFound m → RingSums m lengths sums
+    → w ≡ closedStep m → Movable (m .topology .vertices) (m .rule) m (w .positions) lengths sums
+unfolding closedStep
+movable {m} {w = w} F R e =
+    let p : w .positions ≡ withCentres (m .topology .triangles) m = ap (λ (x : Mesh). x .positions) e in
     let S = F .sound in
     record {
       all = refl;
       rule = refl;
       few = omega (arith, S .tables .fewVertices, S .vertexRoom);
-      room = omega (arith, S .tables .positions, S .vertexRoom, P .size);
-      old = P .old;
+      room = omega (
+        arith,
+        S .tables .positions,
+        S .vertexRoom,
+        ap length p ∙ length-placed m (m .topology .triangles),
+      );
+      old = λ i l. ap (λ (x : List ℤ). getD x i (pos 0)) p ∙ centres-leave (m .topology .triangles) m i l;
       rings = R;
     }
 
@@ -51,7 +62,16 @@ move-all-requires : tie.Need-move-all-requires
 move-all-requires c κs =
     let at-split = c .before .before .before .before .before .before .before .before .before .before in
     let start = at-split .before .before .before .before .before .before .before .before .before .before .before in
-    (_, movable (start .pre .0) (start .pre .1) (at-split .split-all .ensures .1))
+    (_, movable (start .pre .0) (start .pre .1) (at-split .split-all .ensures))
+
+mul-t25 : tie.Need-mul-t25
+mul-t25 c = search needs
+
+add-t27 : tie.Need-add-t27
+add-t27 c = search needs
+
+mul-t28 : tie.Need-mul-t28
+mul-t28 c = search needs
 
 module _ (c : tie.After-positions2) where
   abbrev at-split : tie.After-split-all
@@ -74,11 +94,10 @@ same-length-5 c = omega (arith, at-split c .split-all .kept)
 
 returns : tie.Need-returns
 returns c =
-    let (report, split) = at-split c .split-all .ensures in
-    let start = at-split c .before .before .before .before .before .before .before .before .before .before .before in (
-      report,
-      whole-step-steps _ _ _ split (c .before .move-all .ensures _ (movable (start .pre .0) (start .pre .1) split)),
-    )
+    let start = at-split c .before .before .before .before .before .before .before .before .before .before .before in
+    let split = at-split c .split-all .ensures in
+    whole-step-steps _ (start .pre .0) _ _ split
+    (c .before .move-all .ensures _ (movable (start .pre .0) (start .pre .1) split))
 
 pub whole-step-spec : {M : Type 1} → statement M
 whole-step-spec =
@@ -86,6 +105,9 @@ whole-step-spec =
     (tie.spec
     split-all-requires
     move-all-requires
+    mul-t25
+    add-t27
+    mul-t28
     same-length
     same-length-2
     same-length-3
