@@ -235,7 +235,8 @@ typedef struct {
    each number 4 bytes, low byte first. Where the machine has the low byte first, these are the bytes of an array of
    int32_t. What is loaded depends neither on the counts nor on what the tables held. The rule is the mesh's until the
    next load that is carried out.
-   Refuses with 1, 16, 2, 3, 4, 5, 6, in this order. Writes the first slots of all tables. Needs 2.7 MB of stack. */
+   Refuses with 1, 16, 2, 3, 4, 5, 6, in this order. Writes the first slots of all tables. Needs 2.8 MB of stack,
+   and 0.1 MB with at most 2,048 vertices and triangles. */
 rawplinth_worked rawplinth_load(
     int32_t *positions, size_t positions_length,
     uint32_t *corners, size_t corners_length,
@@ -661,7 +662,7 @@ size_t rawplinth_record_take_back(
    such a record is refused with 17. The numbers of a list or a note are read into `numbers`, which needs as many
    entries as the longest has: RAWPLINTH_NOTE_ENTRIES (229) do where no list and no note that was recorded is longer.
    What the spare tables and `numbers` hold before does not matter, and what they hold then is not told.
-   Refuses nothing: it stops. Writes the mesh, the spare tables and `numbers`. Needs 2.7 MB of stack; record_.. need
+   Refuses nothing: it stops. Writes the mesh, the spare tables and `numbers`. Needs 2.8 MB of stack; record_.. need
    2 KB. */
 rawplinth_replayed rawplinth_replay(
     int32_t *positions, size_t positions_length,
