@@ -4,7 +4,6 @@ pub mod Numbers
 pub mod Reading
 pub mod Stopping
 pub mod Entries
-pub mod Calling
 pub mod Writing
 pub mod Appending
 pub mod Signed
@@ -16,7 +15,6 @@ pub mod Lending
 pub mod Notes
 pub mod Journals
 pub mod Histories
-pub mod Going
 pub mod Cuts
 pub mod Changed
 pub mod Damaged

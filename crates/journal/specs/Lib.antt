@@ -5,4 +5,3 @@ pub mod Records
 pub mod Replay
 pub mod Recording
 pub mod Appending
-pub mod Making

@@ -1,6 +1,6 @@
 // The journal's calls under the names by which C and Rust link them (include/rawplinth.h).
-use journal::Replayed;
 use points::Point;
+use replaying::Replayed;
 use tables::Counts;
 ghost use mathlib.Core.Bool.{true, false};
 ghost use mathlib.Core.Path.{_≡_};
@@ -9,8 +9,8 @@ ghost use Rattle.points.specs.Axes.{boxOf};
 ghost use Rattle.tables.specs.Lent.{meshNow, sparesNow};
 ghost use Rattle.journal.specs.Journal.{headerOf, encode, wrote};
 ghost use Rattle.journal.specs.Journal.{loaded, refined, stepped, refinedEach, refinedInBox, lockSet, takenBack};
-ghost use Rattle.journal.specs.Making.{replayTold};
 ghost use Rattle.journal.specs.Replay.{replay};
+ghost use Rattle.replaying.specs.Replaying.{replayTold};
 
 // Writes the header of a journal of tables with these slots.
 #[no_mangle]
@@ -126,7 +126,7 @@ pub extern "C" fn rawplinth_replay(
         (meshNow counts (now (positions .entry)) (now (corners .entry)) (now (links .entry))
         (now (generations .entry)) (now (locks .entry))) ⌝ }
 {
-    journal::replay(
+    replaying::replay(
         positions,
         corners,
         links,
