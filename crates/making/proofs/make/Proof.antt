@@ -1,4 +1,4 @@
--- `journal::making::make` meets its contract.
+-- `making::make` meets its contract.
 use mathlib.Core.Logic.{inl, inr}
 use mathlib.Core.Path.{refl}
 use Rattle.making.proofs.Calling.{list-is, box-is, back-is, room-for-numbers, sizes, made, made-as}

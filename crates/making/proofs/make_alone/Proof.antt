@@ -1,4 +1,4 @@
--- `journal::making::make_alone` meets its contract.
+-- `making::make_alone` meets its contract.
 use Prim.Native.Nat.{_≤_}
 use mathlib.Core.Path.{refl}
 use native.Mathlib.Omega.{arith}

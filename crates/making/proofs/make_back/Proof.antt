@@ -1,4 +1,4 @@
--- `journal::making::make_back` meets its contract.
+-- `making::make_back` meets its contract.
 use Rattle.making.proofs.Calling.{count-read}
 use borrow.Author.Needs.{needs}
 use Rattle.making.proofs.make_back.Statement.{statement}

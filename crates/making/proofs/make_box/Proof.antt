@@ -1,4 +1,4 @@
--- `journal::making::make_box` meets its contract.
+-- `making::make_box` meets its contract.
 use mathlib.Core.Path.{refl}
 use Rattle.making.proofs.Calling.{made-box}
 use borrow.Author.Needs.{needs}

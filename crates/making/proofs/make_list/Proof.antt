@@ -1,4 +1,4 @@
--- `journal::making::make_list` meets its contract.
+-- `making::make_list` meets its contract.
 use mathlib.Core.Path.{refl}
 use Rattle.making.proofs.Calling.{count-read, made-list}
 use borrow.Author.Needs.{needs}

@@ -1,4 +1,4 @@
--- `journal::making::numbers_of` meets its contract.
+-- `making::numbers_of` meets its contract.
 use borrow.Author.Tests.{eqb-true, eqb-false}
 use mathlib.Core.Logic.{inl, inr}
 use Rattle.making.proofs.Calling.{many-numbers, no-numbers}

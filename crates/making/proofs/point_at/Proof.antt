@@ -1,4 +1,4 @@
--- `journal::making::point_at` meets its contract.
+-- `making::point_at` meets its contract.
 use borrow.Author.Needs.{needs}
 use mathlib.Core.Path.{refl}
 use mir.Syntax.{w32}

@@ -1,4 +1,4 @@
--- `journal::making::read_numbers` meets its contract: the first i numbers are read.
+-- `making::read_numbers` meets its contract: the first i numbers are read.
 use Prim.Native.Nat.{_-_, _≤_}
 use native.Mathlib.Omega.{arith}
 use mathlib.Core.Path.{_≡_}

@@ -1,4 +1,4 @@
--- `journal::one_more` meets its contract: the next record is replayed, or stops the replay.
+-- `replaying::one_more` meets its contract: the next record is replayed, or stops the replay.
 use Prim.Native.Nat.{_<_, _^_}
 use native.Mathlib.Omega.{arith}
 use mathlib.Core.Path.{refl}

@@ -1,4 +1,4 @@
--- `journal::replay` meets its contract: its header, the place to begin at, and the records from there on.
+-- `replaying::replay` meets its contract: its header, the place to begin at, and the records from there on.
 use Prim.Native.Nat.{_<_, _^_}
 use native.Mathlib.Omega.{arith}
 use lib.ListN.{length}

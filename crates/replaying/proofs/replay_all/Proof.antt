@@ -1,4 +1,4 @@
--- `journal::replay_all` meets its contract: what is left to replay shrinks record by record.
+-- `replaying::replay_all` meets its contract: what is left to replay shrinks record by record.
 use Prim.Native.Nat.{_+_, _-_}
 use mathlib.Core.Path.{_≡_, refl, sym, _∙_}
 use lib.ListN.{length}
