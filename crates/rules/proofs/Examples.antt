@@ -1,20 +1,23 @@
 -- Runs computed from the rules: the twelve facts of the tetrahedron run, the nine triangles of Figure 8, base chains
 -- that end at the boundary, and the splits that raise a triangle. (The tetrahedron run; requests b, k)
-use Prim.Native.Nat.{ℕ, zero, suc, _+_, _-_, _*_}
+use Prim.Native.Nat.{ℕ, zero, suc, _+_, _-_, _*_, _≤_, _<_}
+use native.Mathlib.Omega.{arith}
 use mathlib.Core.Bool.{Bool, false, not, _&&_, _||_}
 use mathlib.Core.List.{List, [], _∷_, _++_, map}
+use mathlib.Core.Logic.{inl, inr}
 use mathlib.Core.Path.{_≡_, refl}
 use lib.Dec.{eqb, ltb}
 use lib.IntN.{ℤ, pos}
+use lib.ListN.{length, replicate}
 use Rattle.rules.proofs.Computing.{computing, made, madeEach, fresh, tetrahedron, bytes}
 use Rattle.rules.proofs.Refusals.{hinge}
 use Rattle.rules.specs.Below.{any}
 use Rattle.rules.specs.Calls.{Outcome, refineCall}
 use Rattle.rules.specs.History.{Change, loads, refines, steps}
-use Rattle.rules.specs.Runs.{ran}
+use Rattle.rules.specs.Conditions.{TooOld, Risen, isEven}
+use Rattle.rules.specs.Runs.{MayRun, ran, LeastDisturbance}
 use Rattle.rules.specs.Split.{Work, atFirst, chainAt, splitAt, refine}
 use Rattle.rules.specs.Tables.{Mesh, origin, generation, coordinate, topologyOf, meshOf, boundary, link, odd}
-use lib.ListN.{replicate}
 
 -- ---- what the facts speak of
 
@@ -263,4 +266,41 @@ runs-of-four = record {
   fewer = refl;
   fewerAtBoundary = refl;
   besideLeft = refl;
+}
+
+-- ---- a refine of one split is least (request k)
+
+unfoldable pub fourFaces : Mesh
+unfolding fresh tetrahedron
+fourFaces = made (loads 1 tetrahedron ∷ []) (fresh 5 6)
+
+-- No run without a split raises slot 0, and every other has one or more.
+none-fewer : (other : List ℕ) → MayRun other (atFirst fourFaces)
+    → Risen fourFaces 0 (ran other (atFirst fourFaces) .mesh) → refineCall 0 fourFaces .answer .splits ≤ length other
+unfolding computing fresh tetrahedron fourFaces
+none-fewer [] M R = let r : 0 < 0 = R in absurd (omega (arith, r))
+none-fewer (x ∷ rest) M R = omega arith
+
+still-young : ¬ TooOld (fourFaces .topology) 0
+unfolding computing fresh tetrahedron fourFaces
+still-young (inl e) = let f : zero ≡ 20 = e in omega (arith, f)
+still-young (inr b) = let f : zero ≡ 19 = b .0 in omega (arith, f)
+
+pub one-split : LeastDisturbance 0 fourFaces (refineCall 0 fourFaces)
+unfolding computing fresh tetrahedron fourFaces
+one-split = record {
+  run = 0 ∷ [];
+  mayRun = (
+    record {
+      inUse = omega arith;
+      splittable = isEven refl;
+      young = still-young;
+      room = record { vertices = omega arith; triangles = omega arith };
+    },
+    tt,
+  );
+  outcome = refl;
+  splits = refl;
+  raises = omega arith;
+  least = none-fewer;
 }

@@ -8,6 +8,7 @@ use lib.ListN.{replicate, take, drop, getD, set}
 use Rattle.rules.proofs.Computing.{computing, made, madeEach, fresh, sevens, boxOf, bytes, tetrahedron, outcomes}
 use Rattle.rules.proofs.Examples.{lineOf, triangleOf, pointOf, oneTriangle}
 use Rattle.rules.proofs.Refusals.{refusalAfter, cageAtOrigin, triangle, hinge, cutAtBoundary, firstNote}
+use Rattle.rules.specs.Actions.{placeAfter, flips, renameTwo}
 use Rattle.rules.specs.Below.{those}
 use Rattle.rules.specs.Boxes.{Box}
 use Rattle.rules.specs.Calls.{Outcome}
@@ -20,14 +21,20 @@ use Rattle.rules.specs.Numbers.{nearestThird, rounded}
 use Rattle.rules.specs.Reports.{one, each, inBox}
 use Rattle.rules.specs.Rim.{rim}
 use Rattle.rules.specs.Sound.{isSound}
+use Rattle.rules.specs.Split.{faceCut, flip}
 use Rattle.rules.specs.Tables.{Mesh, topologyOf, meshOf, withLocks, sides, origin, link, generation, coordinate}
-use Rattle.rules.specs.Tables.{triangleSlots, boundary}
+use Rattle.rules.specs.Tables.{Topology, triangleSlots, boundary}
 
 unfoldable pub store : Mesh
 unfolding fresh
 store = fresh 12 20
 
--- The tetrahedron in it, and after a whole step.
+-- Tables of 4 and 6 slots, 7 in each entry.
+unfoldable pub lentSevens : Mesh
+lentSevens =
+    meshOf (topologyOf 0 0 (replicate 18 7) (replicate 18 7) (replicate 6 7)) (replicate 12 (pos 7)) (replicate 6 7) 1
+
+-- The tetrahedron in the store, and after a whole step.
 unfoldable pub solid : Mesh
 unfolding computing store tetrahedron
 solid = made (loads 1 tetrahedron ∷ []) store
@@ -35,6 +42,11 @@ solid = made (loads 1 tetrahedron ∷ []) store
 unfoldable pub smoothed : Mesh
 unfolding computing solid
 smoothed = made (steps ∷ []) solid
+
+-- With triangles 0 and 1 cut, and the bases of slots 0 and 7 not yet flipped.
+unfoldable pub unflipped : Topology
+unfolding computing solid
+unflipped = faceCut 1 (made (refines 0 ∷ []) solid .topology)
 
 unfoldable pub sideOne : List Change
 unfolding tetrahedron
@@ -385,6 +397,9 @@ pub record Table : Type 0 where
   pub runsOut : boxLine (boxed tight (atPoint 2)) ≡ 11 ∷ 0 ∷ 0 ∷ 4 ∷ 4 ∷ 2 ∷ []
   pub runsOutStands : boxed tight (atPoint 2) .mesh ≡ tight
   pub runsOutSpares : boxed tight (atPoint 2) .room .spares .generations ≡ 2 ∷ 1 ∷ 0 ∷ 0 ∷ 1 ∷ 1 ∷ 1 ∷ 2 ∷ 7 ∷ []
+  -- A load writes the generations of its triangles alone.
+  pub loadLeavesPast : made (loads 1 tetrahedron ∷ []) lentSevens .topology .generations
+      ≡ 0 ∷ 0 ∷ 0 ∷ 0 ∷ 7 ∷ 7 ∷ []
   -- Load clears the locks of the cage's triangles, locked or not, and a split those of its two new slots; others keep
   -- what they hold. (Request i)
   pub loadUnlocks : made (loads 1 tetrahedron ∷ []) (withLocks (replicate 20 7) store) .locks
@@ -409,6 +424,10 @@ pub record Table : Type 0 where
       ≡ 1 ∷ 21 ∷ []
   pub linkFollowsRim : linksAfter (loads 1 triangle ∷ refines 0 ∷ setsLock true 1 ∷ setsLock true 2 ∷ []) (refines 0)
       (5 ∷ 7 ∷ []) ≡ 1 ∷ 2 ∷ 12 ∷ 0 ∷ []
+  -- The sides round this flip, of slots 7 and 0, are where Actions tells, with the corners that they had.
+  pub flippedMeet : link unflipped 21 ≡ 0
+  pub flippedSides : map (λ h. origin (flip 7 0 unflipped) (placeAfter (flips 7 0) unflipped h)) (1 ∷ 2 ∷ 22 ∷ 23 ∷ [])
+      ≡ map (origin unflipped) (1 ∷ 2 ∷ 22 ∷ 23 ∷ [])
   -- A lock set twice is set, one cleared twice is clear, and then the triangle is refined.
   pub unlockedAgain : map lineOf (drop 1 (madeEach (loads 1 tetrahedron ∷ setsLock true 0 ∷ setsLock true 0
       ∷ refines 0 ∷ setsLock false 0 ∷ setsLock false 0 ∷ refines 0 ∷ []) store)) ≡
@@ -495,7 +514,7 @@ pub record Table : Type 0 where
       ≡ (4 ∷ 5 ∷ 3 ∷ []) ∷ (0 ∷ 3 ∷ 1 ∷ 2 ∷ []) ∷ (0 ∷ 4 ∷ 5 ∷ 1 ∷ 2 ∷ []) ∷ []
 
 pub readings : Table
-unfolding computing mirrorTable fresh sevens listed heldBy tetrahedron triangle store solid smoothed sideOne throughOne
+unfolding computing renameTwo unflipped lentSevens mirrorTable fresh sevens listed heldBy tetrahedron triangle store solid smoothed sideOne throughOne
     octahedron pulled spike longChain hinge withFirst signedBytes foil atEighteen tight alone boxed boxLine atPoint
     everywhere shortBoxes linksAfter
     firstNote secondNote fourthNote fourRefined lastNote twelve notedBy sidesOf
@@ -561,6 +580,7 @@ readings = record {
   runsOut = refl;
   runsOutStands = refl;
   runsOutSpares = refl;
+  loadLeavesPast = refl;
   loadUnlocks = refl;
   loadUnlocksLocked = refl;
   splitUnlocks = refl;
@@ -569,6 +589,8 @@ readings = record {
   linkFollows = refl;
   linkFollowsFlip = refl;
   linkFollowsRim = refl;
+  flippedMeet = refl;
+  flippedSides = refl;
   unlockedAgain = refl;
   noteWritten = refl;
   notesWritten = refl;
