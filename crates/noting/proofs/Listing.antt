@@ -30,7 +30,7 @@ use Rattle.noting.proofs.Passing.{passing-front}
 use Rattle.noting.proofs.Inserting.{adds-none, adds-as, adds-then}
 use Rattle.noting.specs.Rising.{Rising, Among, Adds}
 use Rattle.noting.specs.Changed.{FrontIs, Across, Near, Meets, NearMet, NearMets, BesideEnd, Met, NearOne, Sides}
-use Rattle.noting.specs.Changed.{nearMet, Joins}
+use Rattle.noting.specs.Changed.{nearMet, AllMeet, Joins}
 use Rattle.refining.specs.Finding.{Goes}
 
 -- ---- the chain
@@ -177,6 +177,25 @@ module _ (links generations : List ℕ) (v : ℕ) where
       from y (nearMet (suc (suc zero)) b M) = inr M
       from y (nearMet (suc (suc (suc i))) b M) = absurd (omega arith)
 
+  pub all-meet : Meets links generations (3 * v) → Meets links generations (3 * v + 1)
+      → Meets links generations (3 * v + 2) → AllMeet links generations v
+  all-meet a b c zero d =
+      let e : 3 * v ≡ 3 * v + 0 = omega arith in
+      subst (λ (h : ℕ). Meets links generations h) e a
+  all-meet a b c (suc zero) d = b
+  all-meet a b c (suc (suc zero)) d = c
+  all-meet a b c (suc (suc (suc i))) d = absurd (omega arith)
+
+  -- Where all sides meet bases, none is beside it.
+  pub end-alone : {l k : List ℕ} {n r : ℕ} → AllMeet links generations v → Adds l n (λ y. y ≡ v) k r
+      → Adds l n (BesideEnd links generations v) k r
+  end-alone M A = adds-as (λ y e. inl e) alone A
+    where
+      alone : (y : ℕ) → BesideEnd links generations v y → y ≡ v
+      alone y (inl e) = e
+      alone y (inr (inl (a, o))) = absurd (o (M 1 (omega arith)))
+      alone y (inr (inr (a, o))) = absurd (o (M 2 (omega arith)))
+
 -- ---- what is listed is what changes
 
 module _ {t : ℕ} {m : Mesh} (S : Sound m) (u : t < m .topology .triangles) where
@@ -220,9 +239,9 @@ module _ {t : ℕ} {m : Mesh} (S : Sound m) (u : t < m .topology .triangles) whe
   listed-changes (inl (inr (nearMet i l (B, inl e)))) =
       besideEnd i l (λ z. boundary-not-base (m .topology) F (subst (Base (m .topology)) z B)) (inr B) e
   listed-changes (inl (inr (nearMet i l (B, inr (q, e))))) = besideMet i l B q e
-  listed-changes (inr (inl (inl e))) = isEnd e
-  listed-changes (inr (inl (inr ((q, e), o)))) = besideEnd 1 (omega arith) q (inl (omega arith)) e
-  listed-changes (inr (inr ((q, e), o))) = besideEnd 2 (omega arith) q (inl (omega arith)) e
+  listed-changes (inr (inl e)) = isEnd e
+  listed-changes (inr (inr (inl ((q, e), o)))) = besideEnd 1 (omega arith) q (inl (omega arith)) e
+  listed-changes (inr (inr (inr ((q, e), o)))) = besideEnd 2 (omega arith) q (inl (omega arith)) e
 
   -- What lies across side 1 or 2 of the end, whether its base meets it or not.
   beside-first : {y : ℕ} → Across (m .topology .links) (3 * chainEnd (m .topology) t + 1) y → Listed y
@@ -231,7 +250,7 @@ module _ {t : ℕ} {m : Mesh} (S : Sound m) (u : t < m .topology .triangles) whe
     where
       go : Dec (Meets (m .topology .links) (m .topology .generations) (3 * chainEnd (m .topology) t + 1)) → Listed y
       go (yes M) = inl (inr (nearMet 1 (omega arith) (M, inl (A .1))))
-      go (no o) = inr (inl (inr (A, o)))
+      go (no o) = inr (inr (inl (A, o)))
 
   beside-second : {y : ℕ} → Across (m .topology .links) (3 * chainEnd (m .topology) t + 2) y → Listed y
   beside-second {y} A =
@@ -239,10 +258,10 @@ module _ {t : ℕ} {m : Mesh} (S : Sound m) (u : t < m .topology .triangles) whe
     where
       go : Dec (Meets (m .topology .links) (m .topology .generations) (3 * chainEnd (m .topology) t + 2)) → Listed y
       go (yes M) = inl (inr (nearMet 2 (omega arith) (M, inl (A .1))))
-      go (no o) = inr (inr (A, o))
+      go (no o) = inr (inr (inr (A, o)))
 
   near-end : {y : ℕ} → Near (m .topology .links) (chainEnd (m .topology) t) y → Listed y
-  near-end (inl e) = inr (inl (inl e))
+  near-end (inl e) = inr (inl e)
   near-end (inr A) = beside-first A
 
   -- The last odd triangle of the chain is its end, or its base meets the end.
@@ -335,7 +354,7 @@ module _ {t : ℕ} {m : Mesh} {c : Chain} (G : Goes t m c) where
       → Joins (m .topology .links) (c .slots) (c .odd - 1)
       (NearMets (m .topology .links) (m .topology .generations) (c .end)) odd n
       → Adds l 32 (λ y. NearOne (m .topology .links) odd n y ⊎ AtEnd y) k r
-      → FrontIs (changedSlots m (refined t m)) (drop r k) (32 - r)
+      → FrontIs (changedSlots m (refined t m)) (drop (r + 1) k) (32 - r)
   all-listed {odd} {l} {k} {n} {r} J A =
       passing-front (m .topology .triangles) (differs m (refined t m)) (record {
         rises = rises;
@@ -344,21 +363,21 @@ module _ {t : ℕ} {m : Mesh} {c : Chain} (G : Goes t m c) where
         whole = λ x b d. front x (A .added x (joined x (to-chain (changes-exactly (G .found) x b .0 d))));
       })
     where
-      rises : (i : ℕ) → suc i < 32 - r → getD (drop r k) i 0 < getD (drop r k) (suc i) 0
+      rises : (i : ℕ) → suc i < 32 - r → getD (drop (r + 1) k) i 0 < getD (drop (r + 1) k) (suc i) 0
       rises i b =
-          let e : r + suc i ≡ suc (r + i) = omega arith in
+          let e : r + 1 + suc i ≡ suc (r + 1 + i) = omega arith in
           omega (
             arith,
-            getD-drop r k i 0,
-            getD-drop r k (suc i) 0,
+            getD-drop (r + 1) k i 0,
+            getD-drop (r + 1) k (suc i) 0,
             ap (λ (h : ℕ). getD k h 0) e,
-            A .rises .rises (r + i) (omega arith) (omega arith),
+            A .rises .rises (r + 1 + i) (omega arith) (omega arith),
           )
 
-      front : (x : ℕ) → Among k r x → (i : ℕ) × (i < 32 - r) × (getD (drop r k) i 0 ≡ x)
+      front : (x : ℕ) → Among k r x → (i : ℕ) × (i < 32 - r) × (getD (drop (r + 1) k) i 0 ≡ x)
       front x (i, b, d, e) =
-          let f : r + (i - r) ≡ i = omega arith in
-          (i - r, omega arith, getD-drop r k (i - r) 0 ∙ ap (λ (h : ℕ). getD k h 0) f ∙ e)
+          let f : r + 1 + (i - r - 1) ≡ i = omega arith in
+          (i - r - 1, omega arith, getD-drop (r + 1) k (i - r - 1) 0 ∙ ap (λ (h : ℕ). getD k h 0) f ∙ e)
 
       joined : (x : ℕ) → ByChain x ⊎ AtEnd x → NearOne (m .topology .links) odd n x ⊎ AtEnd x
       joined x (inl (inl N)) = inl (J .kept x N)
@@ -370,9 +389,9 @@ module _ {t : ℕ} {m : Mesh} {c : Chain} (G : Goes t m c) where
       told x (inr (inl N)) = by-chain (inl (J .only x N))
       told x (inr (inr E)) = by-chain (inr E)
 
-      change : (x : ℕ) → (i : ℕ) × (i < 32 - r) × (getD (drop r k) i 0 ≡ x) → Changes (m .topology) t x
+      change : (x : ℕ) → (i : ℕ) × (i < 32 - r) × (getD (drop (r + 1) k) i 0 ≡ x) → Changes (m .topology) t x
       change x (i, b, e) =
-          told x (A .only x (r + i, omega arith, omega arith, sym (getD-drop r k i 0) ∙ e))
+          told x (A .only x (r + 1 + i, omega arith, omega arith, sym (getD-drop (r + 1) k i 0) ∙ e))
 
   -- The sides of what is listed have entries.
   pub end-entries : 3 * c .end + 2 < length (m .topology .links)

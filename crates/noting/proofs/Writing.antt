@@ -4,7 +4,7 @@ use mathlib.Core.List.{List, _++_}
 use Prim.Native.Nat.{ℕ, zero, suc, _+_, _*_, _<_}
 use native.Mathlib.Omega.{arith}
 use lib.ListN.{length, getD, set, List·getD-append}
-use lib.Seq.{getD-append-add}
+use lib.Seq.{getD-append-add, set-set}
 use Rattle.rules.proofs.Notes.Reading.{nine-at}
 use Rattle.rules.specs.Below.{fill}
 use Rattle.rules.specs.Notes.{nineOf, ninesOf}
@@ -36,16 +36,35 @@ write-fill (suc n) f l = let e : 0 + n ≡ n = omega arith in rw (e, write-fill 
 
 -- ---- what a slot holds
 
-pub nine-written : (m : Mesh) (s a : ℕ) (l : List ℕ)
-    → let h = 3 * s in
-    let corners = set (set (set (set l a s) (a + 1) (origin (m .topology) h)) (a + 2) (origin (m .topology) (h + 1)))
-    (a + 3) (origin (m .topology) (h + 2)) in
-    let links = set (set (set corners (a + 4) (link (m .topology) h)) (a + 5) (link (m .topology) (h + 1))) (a + 6)
-    (link (m .topology) (h + 2)) in
-    set (set links (a + 7) (generation (m .topology) s)) (a + 8) (lock m s)
+pub four-written : (a h : ℕ) (t l : List ℕ)
+    → let two = set (set l a (getD t h 0)) (a + 1) (getD t (h + 1) 0) in
+    set (set two (a + 2) (getD t (h + 2) 0)) (a + 3) (getD t (h + 3) 0)
+    ≡ writeFrom a 4 (λ j. getD t (h + j) 0) l
+unfolding writeFrom
+four-written a h t l =
+    let e : a + 0 ≡ a = omega arith in
+    let f : h + 0 ≡ h = omega arith in
+    rw (e, f) refl
+
+-- The fourth corner that is copied is written over by the first link, and the fourth link by the generation.
+pub nine-written : (m : Mesh) (s a : ℕ) (l : List ℕ) {corners links : List ℕ}
+    → corners ≡ writeFrom (a + 1) 4 (λ j. origin (m .topology) (3 * s + j)) (set l a s)
+    → links ≡ writeFrom (a + 4) 4 (λ j. link (m .topology) (3 * s + j)) corners
+    → set (set links (a + 7) (generation (m .topology) s)) (a + 8) (lock m s)
     ≡ writeFrom a 9 (λ i. getD (nineOf m s) i 0) l
 unfolding writeFrom
-nine-written m s a l = let e : a + 0 ≡ a = omega arith in rw e refl
+nine-written m s a l p q =
+    let e : a + 0 ≡ a = omega arith in
+    let h : 3 * s + 0 ≡ 3 * s = omega arith in
+    let b : a + 1 + 0 ≡ a + 1 = omega arith in
+    let c : a + 1 + 1 ≡ a + 2 = omega arith in
+    let d : a + 1 + 2 ≡ a + 3 = omega arith in
+    let f : a + 1 + 3 ≡ a + 4 = omega arith in
+    let g : a + 4 + 0 ≡ a + 4 = omega arith in
+    let i : a + 4 + 1 ≡ a + 5 = omega arith in
+    let j : a + 4 + 2 ≡ a + 6 = omega arith in
+    let k : a + 4 + 3 ≡ a + 7 = omega arith in
+    rw (q, p, e, h, b, c, d, f, g, i, j, k) (simp set-set refl)
 
 -- ---- one slot after the other
 

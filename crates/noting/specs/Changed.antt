@@ -37,10 +37,17 @@ pub data NearMets (links generations : List ℕ) (v y : ℕ) : Type 0 where
 abbrev pub Unmet : List ℕ → List ℕ → ℕ → ℕ → Type 0
 Unmet links generations h y = Across links h y × ¬ Meets links generations h
 
--- Triangle y is v, or has the side across from its side 1 or 2, but its base does not meet v there.
+-- Triangle y has the side across from side 1 or 2 of triangle v, but its base does not meet v there.
+abbrev pub Beside : List ℕ → List ℕ → ℕ → ℕ → Type 0
+Beside links generations v y = Unmet links generations (3 * v + 1) y ⊎ Unmet links generations (3 * v + 2) y
+
+-- Triangle y is v, or such a one.
 abbrev pub BesideEnd : List ℕ → List ℕ → ℕ → ℕ → Type 0
-BesideEnd links generations v y =
-    ((y ≡ v) ⊎ Unmet links generations (3 * v + 1) y) ⊎ Unmet links generations (3 * v + 2) y
+BesideEnd links generations v y = (y ≡ v) ⊎ Beside links generations v y
+
+-- Each side of triangle v meets a base.
+abbrev pub AllMeet : List ℕ → List ℕ → ℕ → Type 0
+AllMeet links generations v = (i : ℕ) → i < 3 → Meets links generations (3 * v + i)
 
 -- The links have side h and, where it meets a base, the side 1 of the triangle there.
 pub record Met (links generations : List ℕ) (h : ℕ) : Type 0 where

@@ -10,8 +10,8 @@ ghost use Rattle.rules.specs.Notes.{changedSlots, refined};
 ghost use Rattle.tables.specs.Lent.{meshNow};
 ghost use Rattle.tables.specs.declared.Counts.{Counts};
 ghost use Rattle.noting.specs.Rising.{Rising, Adds};
-ghost use Rattle.noting.specs.Changed.{Near, NearOne, NearMet, NearMets, Unmet, BesideEnd, Met, Sides, Joins};
-ghost use Rattle.noting.specs.Changed.{FrontIs};
+ghost use Rattle.noting.specs.Changed.{Meets, Near, NearOne, NearMet, NearMets, AllMeet, Unmet, Beside, Met};
+ghost use Rattle.noting.specs.Changed.{Sides, Joins, FrontIs};
 ghost use Rattle.refining.specs.Finding.{Goes};
 
 // Puts the triangle whose base meets side h behind the first n of these, if there is one.
@@ -19,7 +19,7 @@ fn add_met(links: &[u32], generations: &[u8], odd: &mut [u32], n: usize, h: usiz
     requires { ⌜ (n < length (now odd)) × Met (now links) (now generations) h ⌝ }
     ensures { λ r. ⌜
         Joins (now (links .entry)) (now (odd .entry)) n (NearMet (now (links .entry)) (now (generations .entry)) h)
-        (now (odd .exit)) r × (r ≤ n + 1) ⌝ }
+        (now (odd .exit)) r × (r ≤ n + 1) × (r ≡ n + 1 → Meets (now (links .entry)) (now (generations .entry)) h) ⌝ }
 {
     let across = links[h];
     if !split::is_base(generations, across) {
@@ -34,7 +34,8 @@ fn add_mets(links: &[u32], generations: &[u8], odd: &mut [u32], n: usize, v: u32
     requires { ⌜ (n + 2 < length (now odd)) × ((i : ℕ) → i < 3 → Met (now links) (now generations) (3 * v + i)) ⌝ }
     ensures { λ r. ⌜
         Joins (now (links .entry)) (now (odd .entry)) n (NearMets (now (links .entry)) (now (generations .entry)) v)
-        (now (odd .exit)) r × (r ≤ n + 3) ⌝ }
+        (now (odd .exit)) r × (r ≤ n + 3)
+        × (r ≡ n + 3 → AllMeet (now (links .entry)) (now (generations .entry)) v) ⌝ }
 {
     let first = 3 * (v as usize);
     let met = add_met(links, generations, odd, n, first);
@@ -44,7 +45,7 @@ fn add_mets(links: &[u32], generations: &[u8], odd: &mut [u32], n: usize, v: u32
 
 // Lists x, and the triangle across its side 1.
 fn list_near(links: &[u32], slots: &mut [u32], from: usize, x: u32) -> usize
-    requires { ⌜ Rising (now slots) from × (1 < from) × (x < 4294967295) × (3 * x + 1 < length (now links)) ⌝ }
+    requires { ⌜ Rising (now slots) from × (4 < from) × (x < 4294967295) × (3 * x + 1 < length (now links)) ⌝ }
     ensures { λ r. ⌜ Adds (now (slots .entry)) from (Near (now (links .entry)) x) (now (slots .exit)) r
         × (from ≤ r + 2) ⌝ }
 {
@@ -58,7 +59,7 @@ fn list_near(links: &[u32], slots: &mut [u32], from: usize, x: u32) -> usize
 
 // Lists the first n of these, and the triangles across their sides 1.
 fn list_all(links: &[u32], odd: &[u32], n: usize, slots: &mut [u32], from: usize) -> usize
-    requires { ⌜ Rising (now slots) from × (n ≤ length (now odd)) × (2 * n ≤ from) × Sides (now links) (now odd) n ⌝ }
+    requires { ⌜ Rising (now slots) from × (n ≤ length (now odd)) × (2 * n + 4 ≤ from) × Sides (now links) (now odd) n ⌝ }
     ensures { λ r. ⌜
         Adds (now (slots .entry)) from (NearOne (now (links .entry)) (now (odd .entry)) n) (now (slots .exit)) r
         × (from ≤ r + 2 * n) ⌝ }
@@ -74,7 +75,7 @@ fn list_all(links: &[u32], odd: &[u32], n: usize, slots: &mut [u32], from: usize
 
 // Lists the triangle across side h, if its base does not meet the side.
 fn list_unmet(links: &[u32], generations: &[u8], slots: &mut [u32], from: usize, h: usize) -> usize
-    requires { ⌜ Rising (now slots) from × (0 < from) × (h < length (now links)) ⌝ }
+    requires { ⌜ Rising (now slots) from × (3 < from) × (h < length (now links)) ⌝ }
     ensures { λ r. ⌜
         Adds (now (slots .entry)) from (Unmet (now (links .entry)) (now (generations .entry)) h) (now (slots .exit)) r
         × (from ≤ r + 1) ⌝ }
@@ -89,16 +90,15 @@ fn list_unmet(links: &[u32], generations: &[u8], slots: &mut [u32], from: usize,
     insert(slots, from, across / 3)
 }
 
-// Lists triangle v, which is split first, and those across its sides 1 and 2 whose bases do not meet it.
-fn list_end(links: &[u32], generations: &[u8], slots: &mut [u32], from: usize, v: u32) -> usize
-    requires { ⌜ Rising (now slots) from × (2 < from) × (v < 4294967295) × (3 * v + 2 < length (now links)) ⌝ }
+// Lists the triangles across the sides 1 and 2 of triangle v whose bases do not meet it.
+fn list_beside(links: &[u32], generations: &[u8], slots: &mut [u32], from: usize, v: u32) -> usize
+    requires { ⌜ Rising (now slots) from × (4 < from) × (3 * v + 2 < length (now links)) ⌝ }
     ensures { λ r. ⌜
-        Adds (now (slots .entry)) from (BesideEnd (now (links .entry)) (now (generations .entry)) v)
+        Adds (now (slots .entry)) from (Beside (now (links .entry)) (now (generations .entry)) v)
         (now (slots .exit)) r ⌝ }
 {
     let first = 3 * (v as usize);
-    let own = insert(slots, from, v);
-    let second = list_unmet(links, generations, slots, own, first + 1);
+    let second = list_unmet(links, generations, slots, from, first + 1);
     list_unmet(links, generations, slots, second, first + 2)
 }
 
@@ -112,25 +112,24 @@ fn before_last(odd: u32) -> usize
     odd as usize - 1
 }
 
-// Lists the slots in use that a refine along this chain changes, in rising order, from the place that is answered on:
-// the odd triangles of the chain before its last and those whose bases meet its end, all with those across their sides
-// 1; and its end with those beside it. (The last odd one meets the end, or is the end.) Most come in falling order.
+// Lists the slots in use that a refine along this chain changes, in rising order, behind the place that is answered: the
+// odd triangles of the chain before its last and those whose bases meet its end, all with those across their sides 1;
+// and its end with those beside it. (The last odd one meets the end, or is the end.)
 pub fn list_changed(links: &[u32], generations: &[u8], chain: Chain, slots: &mut [u32]) -> usize
     requires { ⌜ Rising (now slots) 32
         × ((t : ℕ) × (n : Counts) × (p : List ℤ) × (c : List ℕ) × (k : List ℕ) ×
         Goes t (meshNow n p c (now links) (now generations) k) chain) ⌝ }
     ensures { λ r. ⌜ (r ≤ 32) × ((t : ℕ) (n : Counts) (p : List ℤ) (c k : List ℕ) →
         let m = meshNow n p c (now (links .entry)) (now (generations .entry)) k in
-        Goes t m chain → FrontIs (changedSlots m (refined t m)) (drop r (now (slots .exit))) (32 - r)) ⌝ }
+        Goes t m chain → FrontIs (changedSlots m (refined t m)) (drop (r + 1) (now (slots .exit))) (32 - r)) ⌝ }
 {
     let mut odd = chain.slots;
-    let n = add_mets(
-        links,
-        generations,
-        &mut odd,
-        before_last(chain.odd),
-        chain.end,
-    );
+    let before = before_last(chain.odd);
+    let n = add_mets(links, generations, &mut odd, before, chain.end);
     let near = list_all(links, &odd, n, slots, 32);
-    list_end(links, generations, slots, near, chain.end)
+    let own = insert(slots, near, chain.end);
+    if n == before + 3 {
+        return own;
+    }
+    list_beside(links, generations, slots, own, chain.end)
 }

@@ -22,7 +22,22 @@ ghost use Rattle.refining.specs.Standing.{standing};
 ghost use Rattle.noting.specs.Changed.{FrontIs};
 ghost use Rattle.noting.specs.Noting.{writeFrom, headOf, Notes, notedOutcome};
 
-// Writes what slot s holds.
+// Copies four entries from this place of a table on. All are read before one is written, so that they go as one.
+fn copy_four(table: &[u32], first: usize, note: &mut [u32], at: usize)
+    requires { ⌜ (first + 3 < length (now table)) × (at + 3 < length (now note)) ⌝ }
+    ensures { λ r. ⌜ now (note .exit) ≡ writeFrom at 4 (λ j. getD (now (table .entry)) (first + j) 0) (now (note .entry)) ⌝ }
+{
+    let entry_0 = table[first];
+    let entry_1 = table[first + 1];
+    let entry_2 = table[first + 2];
+    let entry_3 = table[first + 3];
+    note[at] = entry_0;
+    note[at + 1] = entry_1;
+    note[at + 2] = entry_2;
+    note[at + 3] = entry_3;
+}
+
+// Writes what slot s holds. Of corners and links one entry more is copied, the next slot's first, and then written over.
 fn write_nine(
     corners: &[u32],
     links: &[u32],
@@ -33,7 +48,7 @@ fn write_nine(
     at: usize,
 )
     requires { ⌜ TrianglesAgree (now corners) (now links) (now generations)
-        × (length (now locks) ≡ length (now generations)) × (s < length (now generations))
+        × (length (now locks) ≡ length (now generations)) × (s + 1 < length (now generations))
         × (at + 8 < length (now note)) ⌝ }
     ensures { λ r. ⌜ ((n : Counts) (p : List ℤ) →
         let m = meshNow n p (now (corners .entry)) (now (links .entry)) (now (generations .entry))
@@ -42,23 +57,11 @@ fn write_nine(
 {
     let slot = s as usize;
     let first = 3 * slot;
-    let corner_0 = corners[first];
-    let corner_1 = corners[first + 1];
-    let corner_2 = corners[first + 2];
-    let link_0 = links[first];
-    let link_1 = links[first + 1];
-    let link_2 = links[first + 2];
-    let generation = generations[slot] as u32;
-    let lock = locks[slot] as u32;
     note[at] = s;
-    note[at + 1] = corner_0;
-    note[at + 2] = corner_1;
-    note[at + 3] = corner_2;
-    note[at + 4] = link_0;
-    note[at + 5] = link_1;
-    note[at + 6] = link_2;
-    note[at + 7] = generation;
-    note[at + 8] = lock;
+    copy_four(corners, first, note, at + 1);
+    copy_four(links, first, note, at + 4);
+    note[at + 7] = generations[slot] as u32;
+    note[at + 8] = locks[slot] as u32;
 }
 
 // Writes what stands in a note before its k slots.
@@ -87,7 +90,7 @@ fn write_note(
 )
     requires { ⌜ TrianglesAgree (now corners) (now links) (now generations)
         × (length (now locks) ≡ length (now generations)) × (k ≤ 32) × (k ≤ length (now slots))
-        × ((i : ℕ) → i < k → getD (now slots) i 0 < length (now generations))
+        × ((i : ℕ) → i < k → getD (now slots) i 0 + 1 < length (now generations))
         × (4 + 9 * k ≤ length (now note)) ⌝ }
     ensures { λ r. ⌜ ((p : List ℤ) (list : List ℕ) → FrontIs list (now (slots .entry)) k →
         let m = meshNow counts p (now (corners .entry)) (now (links .entry)) (now (generations .entry))
@@ -147,7 +150,7 @@ fn note_changes(
         locks,
         counts,
         t,
-        &slots[from..],
+        &slots[from + 1..],
         k,
         note,
     );

@@ -1,7 +1,7 @@
 -- `noting::note_changes` meets its contract.
 use native.Mathlib.Omega.{arith}
 use mathlib.Core.List.{List}
-use Prim.Native.Nat.{ℕ, _-_}
+use Prim.Native.Nat.{ℕ, _+_, _-_}
 use lib.IntN.{ℤ}
 use lib.ListN.{take, drop, length-take, length-drop}
 use Rattle.rules.specs.Notes.{changedSlots, refined}
@@ -28,14 +28,16 @@ module _ (c : tie.After-list-changed) where
       meshNow (args .counts) p (args .corners .now) (args .links .now) (args .generations .now) (args .locks .now)
 
   abbrev part : List ℕ
-  part = take (40 - c .list-changed .result) (drop (c .list-changed .result) (c .list-changed .last .1 .1 .1 .0))
+  part =
+      let first = c .list-changed .result + 1 in
+      take (40 - first) (drop first (c .list-changed .last .1 .1 .1 .0))
 
   listed : (p : List ℤ) → Goes (start .args .t) (mesh p) (start .args .chain)
       → FrontIs (changedSlots (mesh p) (refined (start .args .t) (mesh p)))
       part (32 - c .list-changed .result)
   listed p G =
       let args = start .args in
-      front-part (40 - c .list-changed .result)
+      front-part (40 - (c .list-changed .result + 1))
       (c .list-changed .ensures .1 (args .t) (args .counts) p (args .corners .now) (args .locks .now) G) (omega arith)
 
 slice-aggregate-list-changed : tie.Need-slice-aggregate-list-changed
@@ -69,6 +71,9 @@ returns-2 c p G =
     no-report (start at .args .t) (mesh at p) (listed at p G) (start at .args .note .now)
     (omega (arith, at-if1 .if1 .left)) (not-true _ (c .if2 .taken))
 
+add-write-note : tie.Need-add-write-note
+add-write-note c = search needs
+
 mul-write-note : tie.Need-mul-write-note
 mul-write-note c = search needs
 
@@ -92,12 +97,12 @@ write-note-requires c κs =
       omega arith,
       omega (
         arith,
-        length-take (40 - at .list-changed .result)
-            (drop (at .list-changed .result) (at .list-changed .last .1 .1 .1 .0)),
-        length-drop (at .list-changed .result) (at .list-changed .last .1 .1 .1 .0),
+        length-take (40 - (at .list-changed .result + 1))
+            (drop (at .list-changed .result + 1) (at .list-changed .last .1 .1 .1 .0)),
+        length-drop (at .list-changed .result + 1) (at .list-changed .last .1 .1 .1 .0),
         at .list-changed .kept .1 .1 .1 .0,
       ),
-      λ i b. omega (arith, changed-below _ _ (listed at p G) i b, S .triangleRoom),
+      λ i b. omega (arith, changed-below _ _ (listed at p G) i b, G .found .room),
       omega (arith, at-if1 .if1 .left),
     )
 
@@ -125,6 +130,7 @@ note-changes-spec =
     add-if1
     returns
     returns-2
+    add-write-note
     mul-write-note
     sub-write-note
     part-write-note-start

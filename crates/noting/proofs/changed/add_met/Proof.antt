@@ -29,7 +29,7 @@ is-base-requires c κs = search needs
 returns : tie.Need-returns
 returns c =
     let n = told (c .before) .none (not-true _ (c .if1 .taken)) in
-    (joins-none (λ y z. n (z .0)), omega arith)
+    (joins-none (λ y z. n (z .0)), omega arith, λ z. absurd (omega arith))
 
 mul-odd : tie.Need-mul-odd
 mul-odd c = search needs
@@ -52,6 +52,7 @@ returns-2 c =
           (joins-one (args .links .now) (args .odd .now) (args .n) _ (start at .pre .0)
           (omega (arith, at .before .shared-slice-known3 .given (args .h))) (start at .pre .1 .first M)),
       omega arith,
+      λ z. M,
     )
 
 pub add-met-spec : {M : Type 1} → statement M

@@ -1,6 +1,6 @@
 -- `noting::changed::add_mets` meets its contract.
 use native.Mathlib.Omega.{arith}
-use Rattle.noting.proofs.Listing.{met-base, joins-then, one-by-one}
+use Rattle.noting.proofs.Listing.{met-base, joins-then, one-by-one, all-meet}
 use borrow.Author.Needs.{needs}
 use Rattle.noting.proofs.changed.add_mets.Statement.{statement}
 use Rattle.noting.proofs.changed.add_mets.Tie as tie
@@ -61,6 +61,10 @@ returns c =
           (joins-then (joins-then (first .add-met .ensures .0) (second .add-met2 .ensures .0))
           (third .add-met3 .ensures .0)),
       omega (arith, first .add-met .ensures .1, second .add-met2 .ensures .1, third .add-met3 .ensures .1),
+      λ z. all-meet (args .links .now) (args .generations .now) (args .v)
+          (first .add-met .ensures .2 (omega (arith, second .add-met2 .ensures .1, third .add-met3 .ensures .1)))
+          (second .add-met2 .ensures .2 (omega (arith, first .add-met .ensures .1, third .add-met3 .ensures .1)))
+          (third .add-met3 .ensures .2 (omega (arith, first .add-met .ensures .1, second .add-met2 .ensures .1))),
     )
 
 pub add-mets-spec : {M : Type 1} → statement M

@@ -4,8 +4,8 @@ use mathlib.Core.Path.{_≡_, sym, _∙_}
 use Prim.Native.Nat.{ℕ, _+_, _≤_, _<_}
 use native.Mathlib.Omega.{arith}
 use lib.ListN.{length, getD, length-set}
-use Rattle.noting.specs.Rising.{Rising, Passed}
-use Rattle.noting.proofs.Inserting.{found-there, put-there}
+use Rattle.noting.specs.Rising.{Passed}
+use Rattle.noting.proofs.Inserting.{moved-back, found-there, put-there}
 use borrow.Author.Needs.{needs}
 use Rattle.noting.proofs.rising.insert.Statement.{statement}
 use Rattle.noting.proofs.rising.insert.Tie as tie
@@ -22,12 +22,6 @@ start c = c .before .before .before
 abbrev fours : tie.After-pass-two → tie.After-pass-fours
 fours c = c .before .before .before .before
 
-abbrev two : tie.After-pass-one → tie.After-pass-two
-two c = c .before .before .before .before
-
-abbrev one : tie.After-pass-one2 → tie.After-pass-one
-one c = c .before .before .before .before
-
 by-fours : (c : tie.After-pass-fours) → Passing (start c) 4 (c .pass-fours .result) (c .pass-fours .last .0)
 by-fours c = (c .pass-fours .ensures .0, c .pass-fours .ensures .1, c .pass-fours .kept .0)
 
@@ -37,59 +31,51 @@ by-two c =
     let (Q, d) = c .pass-two .ensures _ _ (start (fours c) .pre .0) P b in
     (Q, d, c .pass-two .kept .0 ∙ e)
 
-by-one : (c : tie.After-pass-one) → Passing (start (fours (two c))) 1 (c .pass-one .result) (c .pass-one .last .0)
-by-one c =
-    let (P, b, e) = by-two (two c) in
-    let i : two c .pass-two .result + 2 ≡ two c .pass-two .result + 1 + 1 = omega arith in
-    let (Q, d) = c .pass-one .ensures _ _ (start (fours (two c)) .pre .0) P (rw i at b) in
-    (Q, d, c .pass-one .kept .0 ∙ e)
-
 -- With all passed that are below x.
-module _ (c : tie.After-pass-one2) where
+module _ (c : tie.After-pass-one) where
+  abbrev two : tie.After-pass-two
+  two = c .before .before .before .before
+
   abbrev begun : tie.Start
-  begun = start (fours (two (one c)))
+  begun = start (fours two)
 
   abbrev at : ℕ
-  at = c .pass-one2 .result
+  at = c .pass-one .result
 
-  by-last : Passing begun 0 at (c .pass-one2 .last .0)
-  by-last =
-      let (P, b, e) = by-one (one c) in
-      let i : one c .pass-one .result + 1 ≡ one c .pass-one .result + 0 + 1 = omega arith in
-      let (Q, d) = c .pass-one2 .ensures _ _ (begun .pre .0) P (rw i at b) in
-      (Q, d, c .pass-one2 .kept .0 ∙ e)
+  by-one : Passing begun 1 at (c .pass-one .last .0)
+  by-one =
+      let (P, b, e) = by-two two in
+      let (Q, d) = c .pass-one .ensures _ _ (begun .pre .0) P b in
+      (Q, d, c .pass-one .kept .0 ∙ e)
 
-  least : begun .args .x ≤ getD (begun .args .numbers .now) at 0
-  least = let e : at + 0 ≡ at = omega arith in rw e at (by-last .1)
+  next : getD (c .pass-one .last .0) (at + 1) 0 ≡ getD (begun .args .numbers .now) (at + 1) 0
+  next = by-one .0 .moved .after (at + 1) (omega arith)
 
-  there : getD (c .pass-one2 .last .0) at 0 ≡ getD (begun .args .numbers .now) at 0
-  there = by-last .0 .moved .after at (omega arith)
-
-  inside : at < length (c .pass-one2 .last .0)
-  inside = omega (arith, by-last .0 .ends, by-last .2, begun .pre .0 .size)
+  inside : at + 1 < length (c .pass-one .last .0)
+  inside = omega (arith, by-one .0 .ends, by-one .2, begun .pre .0 .size)
 
 pass-fours-requires : tie.Need-pass-fours-requires
 pass-fours-requires c κs = search needs
 
 pass-two-requires : tie.Need-pass-two-requires
-pass-two-requires c κs = search needs
+pass-two-requires c κs =
+    let at = c .before .before .before in
+    let (P, b, e) = by-fours at in
+    let s = start at in
+    (omega (arith, P .begins, s .pre .1), omega (arith, P .ends, e, s .pre .0 .size))
 
 pass-one-requires : tie.Need-pass-one-requires
 pass-one-requires c κs =
     let at = c .before .before .before in
     let (P, b, e) = by-two at in
     let s = start (fours at) in
-    (omega (arith, P .begins, s .pre .1), omega arith, omega (arith, P .ends, e, s .pre .0 .size))
+    (omega (arith, P .begins, s .pre .1), omega (arith, P .ends, e, s .pre .0 .size))
 
-pass-one-requires-2 : tie.Need-pass-one-requires-2
-pass-one-requires-2 c κs =
-    let at = c .before .before .before in
-    let (P, b, e) = by-one at in
-    let s = start (fours (two at)) in
-    (omega (arith, P .begins, s .pre .1), omega arith, omega (arith, P .ends, e, s .pre .0 .size))
+add-if1 : tie.Need-add-if1
+add-if1 c = omega (arith, by-one (c .before .before) .0 .ends)
 
 mul-if1 : tie.Need-mul-if1
-mul-if1 c = omega (arith, by-last (c .before .before) .0 .ends)
+mul-if1 c = omega (arith, by-one (c .before .before) .0 .ends)
 
 slice-read-if1 : tie.Need-slice-read-if1
 slice-read-if1 c = inside (c .before .before .before)
@@ -97,7 +83,7 @@ slice-read-if1 c = inside (c .before .before .before)
 move-back-requires : tie.Need-move-back-requires
 move-back-requires c κs =
     let last = c .before .before .before .before .before in
-    (begun last .pre .1, by-last last .0 .begins, omega (arith, inside last))
+    (begun last .pre .1, omega (arith, inside last))
 
 same-length : tie.Need-same-length
 same-length c = search needs
@@ -107,35 +93,42 @@ returns c =
     let back = c .before .before in
     let at-if1 = back .before .before in
     let last = at-if1 .before .before .before .before in
-    let P = by-last last .0 in (
-      found-there (begun last .pre .0) (begun last .pre .1) (begun last .pre .2) P (least last)
-          (sym (there last) ∙ at-if1 .if1 .taken) (back .move-back .kept .0 ∙ by-last last .2)
-          (back .move-back .ensures _ (P .moved)),
+    let (P, b, e) = by-one last in (
+      found-there (begun last .pre .0) (omega (arith, begun last .pre .1)) (begun last .pre .2) P b
+          (sym (next last) ∙ at-if1 .if1 .taken) (back .move-back .kept .0 ∙ e)
+          (back .move-back .ensures _ (moved-back (P .moved))),
       omega arith,
     )
 
-sub-numbers : tie.Need-sub-numbers
-sub-numbers c =
-    let last = c .before .before .before .before in
-    omega (arith, by-last last .0 .begins, begun last .pre .1)
+move-one-requires : tie.Need-move-one-requires
+move-one-requires c κs =
+    let last = c .before .before .before .before .before in
+    (omega (arith, by-one last .0 .begins, begun last .pre .1), omega (arith, inside last))
 
 mul-numbers : tie.Need-mul-numbers
-mul-numbers c = omega (arith, by-last (c .before .before .before .before) .0 .ends)
+mul-numbers c = omega (arith, by-one (c .before .before .before .before .before .before .before .before) .0 .ends)
 
 slice-write-numbers : tie.Need-slice-write-numbers
-slice-write-numbers c = omega (arith, inside (c .before .before .before .before))
+slice-write-numbers c =
+    let moved = c .before .before in
+    omega (arith, moved .move-one .kept .0, inside (moved .before .before .before .before .before .before))
 
 sub-result : tie.Need-sub-result
 sub-result c = search needs
 
 same-length-2 : tie.Need-same-length-2
-same-length-2 c = simp length-set (by-last (c .before .before .before .before) .2)
+same-length-2 c =
+    let moved = c .before .before in
+    simp length-set (moved .move-one .kept .0 ∙ by-one (moved .before .before .before .before .before .before) .2)
 
 returns-2 : tie.Need-returns-2
 returns-2 c =
-    let last = c .before .before .before .before in (
-      put-there (begun last .pre .0) (begun last .pre .1) (begun last .pre .2) (by-last last .0) (least last)
-          (λ e. c .if1 .left (there last ∙ e)) (by-last last .2),
+    let moved = c .before .before in
+    let at-if1 = moved .before .before in
+    let last = at-if1 .before .before .before .before in
+    let (P, b, e) = by-one last in (
+      put-there (begun last .pre .0) (omega (arith, begun last .pre .1)) (begun last .pre .2) P b
+          (λ q. at-if1 .if1 .left (next last ∙ q)) (moved .move-one .kept .0 ∙ e) (moved .move-one .ensures),
       omega (arith, begun last .pre .1),
     )
 
@@ -146,13 +139,13 @@ insert-spec =
     pass-fours-requires
     pass-two-requires
     pass-one-requires
-    pass-one-requires-2
+    add-if1
     mul-if1
     slice-read-if1
     move-back-requires
     same-length
     returns
-    sub-numbers
+    move-one-requires
     mul-numbers
     slice-write-numbers
     sub-result

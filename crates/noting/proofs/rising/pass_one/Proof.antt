@@ -18,8 +18,8 @@ slice-read-if1 c = search needs
 
 returns : tie.Need-returns
 returns c l from R P b =
-    let args = c .before .before .before .args in
-    (P, omega (arith, c .if1 .taken, P .moved .after (args .at + args .more) (omega arith)))
+    let at = c .before .before .before .args .at in
+    (P, omega (arith, c .if1 .taken, P .moved .after (at + 1) (omega arith)))
 
 move-one-requires : tie.Need-move-one-requires
 move-one-requires c κs = search needs
@@ -34,12 +34,11 @@ returns-2 : tie.Need-returns-2
 returns-2 c l from R P b =
     let at-move = c .before .before in
     let at-if1 = at-move .before .before in
-    let args = at-if1 .before .before .before .args in
-    let e : args .at + args .more + 1 ≡ args .at + 1 + args .more = omega arith in (
-      passed-on R P 1 (args .more) (omega arith) (omega arith) (omega arith)
-          (omega (arith, at-if1 .if1 .left, P .moved .after (args .at + args .more) (omega arith)))
-          (at-move .move-one .ensures),
-      rw e at b,
+    let at = at-if1 .before .before .before .args .at in
+    let e : at + 1 + 1 ≡ at + 2 = omega arith in (
+      passed-on R P 1 (omega arith) (omega arith)
+          (omega (arith, at-if1 .if1 .left, P .moved .after (at + 1) (omega arith))) (at-move .move-one .ensures),
+      rw e b,
     )
 
 pub pass-one-spec : {M : Type 1} → statement M

@@ -1,7 +1,6 @@
 -- `noting::rising::pass_two` meets its contract.
 use Prim.Native.Nat.{_+_}
-use mathlib.Core.Path.{_≡_, sym, ap, _∙_}
-use lib.ListN.{getD}
+use mathlib.Core.Path.{_≡_}
 use native.Mathlib.Omega.{arith}
 use Rattle.noting.proofs.Inserting.{passed-on}
 use borrow.Author.Needs.{needs}
@@ -37,7 +36,7 @@ returns-2 c l from R P b =
     let at-if1 = at-move .before .before in
     let at = at-if1 .before .before .before .args .at in
     let e : at + 2 + 2 ≡ at + 4 = omega arith in (
-      passed-on R P 2 2 (omega arith) (omega arith) (omega arith)
+      passed-on R P 2 (omega arith) (omega arith)
           (omega (arith, at-if1 .if1 .left, P .moved .after (at + 2) (omega arith))) (at-move .move-two .ensures),
       rw e b,
     )

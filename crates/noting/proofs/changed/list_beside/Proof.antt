@@ -1,15 +1,12 @@
--- `noting::changed::list_end` meets its contract.
+-- `noting::changed::list_beside` meets its contract.
 use native.Mathlib.Omega.{arith}
 use Rattle.noting.proofs.Inserting.{adds-then}
 use borrow.Author.Needs.{needs}
-use Rattle.noting.proofs.changed.list_end.Statement.{statement}
-use Rattle.noting.proofs.changed.list_end.Tie as tie
+use Rattle.noting.proofs.changed.list_beside.Statement.{statement}
+use Rattle.noting.proofs.changed.list_beside.Tie as tie
 
 mul-first : tie.Need-mul-first
 mul-first c = search needs
-
-insert-requires : tie.Need-insert-requires
-insert-requires c κs = search needs
 
 add-list-unmet : tie.Need-add-list-unmet
 add-list-unmet c = search needs
@@ -28,17 +25,15 @@ same-length c = search needs
 
 returns : tie.Need-returns
 returns c =
-    let third = c .before .before in
-    let second = third .before .before .before .before in
-    let own = second .before .before .before .before in
-    adds-then (adds-then (own .insert .ensures .0) (second .list-unmet .ensures .0)) (third .list-unmet2 .ensures .0)
+    let second = c .before .before in
+    let first = second .before .before .before .before in
+    adds-then (first .list-unmet .ensures .0) (second .list-unmet2 .ensures .0)
 
-pub list-end-spec : {M : Type 1} → statement M
-list-end-spec =
+pub list-beside-spec : {M : Type 1} → statement M
+list-beside-spec =
     tie.close
     (tie.spec
     mul-first
-    insert-requires
     add-list-unmet
     list-unmet-requires
     add-list-unmet-2
