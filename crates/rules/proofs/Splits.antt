@@ -11,6 +11,7 @@ pub mod Edges
 pub mod Settling
 pub mod Settled
 pub mod Told
+pub mod After
 pub mod Cut
 pub mod PartsCut
 pub mod Reported

@@ -7,6 +7,8 @@ use Prim.Native.Nat.{ℕ, suc, _+_, _*_, _/_, _%_, _≤_, _<_}
 use native.Mathlib.Omega.{arith}
 use lib.ListN.{length, getD}
 use lib.IntN.{pos}
+use Rattle.rules.proofs.Splits.After.{splitAfter, pairsAfter, settles-after, settled-slides, face-after}
+use Rattle.rules.proofs.Splits.After.{rim-after}
 use Rattle.rules.proofs.Splits.Bases.{Settles, reached, settle-settles, settling-manifold}
 use Rattle.rules.proofs.Splits.Cut.{Cut, Onto, CutResult, cut-settled}
 use Rattle.rules.proofs.Splits.Edges.{split-boundary, rim-boundary}
@@ -162,6 +164,14 @@ told-all (all-done {w = w}) = telling-none w
 told-all (next-child S s) =
     telling-on (settles-telling S) (told-all s)
 
+told-after : (p g : ℕ) {cs : List ℕ} {w x : Work} → SettlesAll cs w x → Manifold (reached w)
+    → Children p g (reached w) cs → Distinct cs → x .report ≡ w .report ++ pairsAfter (reached x) cs
+told-after p g (all-done {w = w}) F K D = sym (append-nil (w .report))
+told-after p g (next-child {c = c} {cs = cs} {w = w} {v = v} {x = x} S s) F K D =
+    settles-after p g c x S (settled-of s) F (K .0) (K .1) (D .0) (D .1)
+    (told-after p g s (settling-manifold c (reached w) (reached v) F (S .settling))
+    (children-on p g c (reached w) (reached v) cs (S .settling) (K .0) (K .1) (D .0)) (D .1))
+
 -- ---- the new vertices
 
 -- Settling changes the topology alone.
@@ -220,6 +230,7 @@ pub record Splitting (v g p r : ℕ) (w x : Work) : Type 0 where
   pub odd : 2 * x .flips + odds (reached x) + r ≡ 2 * w .flips + odds (reached w) + 3
   pub places : Places (w .mesh) (x .mesh)
   pub telling : Telling w x
+  pub after : x .report ≡ w .report ++ splitAfter (reached x .links) (reached x .generations) v (reached w .triangles)
   pub some : (h : ℕ) → BaseAt v (reached w) h → w .flips + 1 ≤ x .flips
   pub once : ((h k : ℕ) → BaseAt v (reached w) h → BaseAt v (reached w) k → h ≡ k) → x .flips ≤ w .flips + 1
 
@@ -229,9 +240,12 @@ splitting-of : (v g p r : ℕ) (cs : List ℕ) (w : Work) (k : Mesh) → Manifol
     → ((h : ℕ) → Onto cs h →
     let f = reached w .triangles in
     Listed (v ∷ f ∷ (f + 1) ∷ []) (h / 3))
+    → ((n : Topology) → Settled cs (k .topology) n →
+    let f = reached w .triangles in
+    v ∷ f ∷ (f + 1) ∷ pairsAfter n cs ≡ splitAfter (n .links) (n .generations) v f)
     → odds (k .topology) + r ≡ odds (reached w) + 3 → Places (w .mesh) k
     → Splitting v g p r w (settleAll cs (withSplit v k w))
-splitting-of v g p r cs w k F b C into o P =
+splitting-of v g p r cs w k F b C into told o P =
     let A = settles-all (reached w .vertices) g cs (withSplit v k w) (C .manifold) (C .children) (C .distinct) in
     let K = counted A in
     let x : Work = settleAll cs (withSplit v k w) in
@@ -244,6 +258,11 @@ splitting-of v g p r cs w k F b C into o P =
       places = places-on P (places-stay k (x .mesh) (L .0) (result .vertices ∙ sym (C .vertices))
           (unlocks-stay k (x .mesh) (L .2) (result .triangles ∙ sym (C .triangles))) (L .1));
       telling = telling-on (cut-telling w k C into) (told-all A);
+      after =
+          let f : ℕ = reached w .triangles in
+          told-after (reached w .vertices) g A (C .manifold) (C .children) (C .distinct)
+          ∙ append-assoc (w .report) (v ∷ f ∷ (f + 1) ∷ []) (pairsAfter (reached x) cs)
+          ∙ ap (λ (l : List ℕ). w .report ++ l) (told (reached x) (settled-of A));
       some = flips-some (withSplit v k w) F C (told-all A) (K .splits);
       once = flips-once (withSplit v k w) F C (told-all A) (K .splits);
     }
@@ -303,6 +322,8 @@ module _ (v : ℕ) (w : Work) (F : Manifold (reached w)) (b : v < reached w .tri
           | inr (inr (inl e)) ↦ inr (inr (inl (omega arith)))
           | inr (inr (inr e)) ↦ absurd e
         ])
+        (λ n s. face-after v (m .triangles) (faceCut v m) n
+        (settled-slides (m .triangles) s (omega (arith, S .triangles))) (S .second .links .2))
         (split-odds v m (faceCut v m) b even S)
         (places-new (w .mesh) (facePlaced v (w .mesh)) _ (S .vertices) refl
         (unlocks-new (w .mesh) (facePlaced v (w .mesh)) (S .triangles) refl) refl
@@ -340,6 +361,8 @@ module _ (v : ℕ) (w : Work) (F : Manifold (reached w)) (b : v < reached w .tri
         | inr (inl e) ↦ inr (inr (inl (omega arith)))
         | inr (inr e) ↦ absurd e
       ])
+      (λ n s. rim-after v (m .triangles) (rimCut v m) n
+      (settled-slides (m .triangles) s (omega (arith, S .triangles))) (S .second .links .2))
       (rim-odds v m (rimCut v m) b odd S) (places-on one two)
 
 -- ---- what a split reports, read before it
