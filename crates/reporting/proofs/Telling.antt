@@ -1,26 +1,24 @@
 -- Reports told entry by entry.
-use borrow.Author.Tests.{le-leb}
-use mathlib.Core.Bool.{true}
+use borrow.Author.Tests.{le-leb, lt-leb, leb-true, leb-false}
+use mathlib.Core.Bool.{Bool, true, false}
 use mathlib.Core.Path.{_≡_, refl, sym, ap, _∙_, subst}
 use mathlib.Core.List.{List, [], _∷_, _++_, append-nil, append-assoc}
-use mathlib.Core.Logic.{_≢_}
 use Prim.Native.Nat.{ℕ, suc, _+_, _-_, _*_, _%_, _≤_, _<_, max}
-use native.Mathlib.Nat.{le-trans}
+use native.Mathlib.Nat.{le-trans, lt-of-lt-of-le}
 use native.Mathlib.Omega.{arith}
 use lib.Dec.{leb}
 use lib.ListN.{length, getD, set, length-append, length-set, List·getD-append}
 use Rattle.rules.proofs.Calls.Carried.{RefineFound, found-refined}
 use Rattle.rules.proofs.Chains.Flipping.{refine-report-length, refine-flips}
 use Rattle.rules.proofs.Chains.RefineLoop.{few-splits}
-use Rattle.rules.proofs.Chains.Runs.{splitTold}
-use Rattle.rules.proofs.Numbers.Decide.{odd-test, even-test}
 use Rattle.rules.proofs.Numbers.Fill.{fill-more, fill-same}
+use Rattle.rules.proofs.Splits.After.{isFlipped, isSecondFlipped, flipAfter, splitAfter}
 use Rattle.rules.proofs.Splits.Flipped.{pairAt}
 use Rattle.rules.specs.Calls.{splitsOf}
 use Rattle.rules.specs.Below.{fill}
 use Rattle.rules.specs.Reports.{reportIn}
 use Rattle.rules.specs.Split.{atFirst, refine}
-use Rattle.rules.specs.Tables.{Topology, Mesh, generation}
+use Rattle.rules.specs.Tables.{Topology, Mesh}
 use Rattle.split.specs.declared.Chain.{Chain}
 use Rattle.split.specs.Made.{BaseChain}
 use Rattle.reporting.specs.Told.{Tells}
@@ -55,8 +53,9 @@ tells-none at b = record {
 }
 
 -- There is no room.
-pub tells-not : (more b : List ℕ) (at end : ℕ) → length b < at + length more → Tells more b b at end
-tells-not more b at end l = record { size = refl; told = λ i. absurd (omega arith) }
+pub tells-not : (more b c : List ℕ) (at end : ℕ) → length c ≡ length b → length b < at + length more
+    → Tells more b c at end
+tells-not more b c at end e l = record { size = e; told = λ i. absurd (omega arith) }
 
 pub tells-on : {m n : List ℕ} {a b c : List ℕ} {i j k : ℕ} → Tells m a b i j → Tells n b c j k → Tells (m ++ n) a c i k
 tells-on {m} {n} {a} {b} {c} {i} {j} {k} T U = record {
@@ -89,19 +88,25 @@ tells-two s t at b =
 
 -- ---- a split
 
-module _ (m : Topology) (v : ℕ) {f : ℕ} (e : f ≡ m .triangles) where
-  pub face-told : {a b c d g : List ℕ} {at i j k l : ℕ} → generation m v % 2 ≡ 0
-      → Tells (v ∷ f ∷ (f + 1) ∷ []) a b at i → Tells (pairAt m v (3 * v)) b c i j
-      → Tells (pairAt m f (3 * v + 1)) c d j k → Tells (pairAt m (f + 1) (3 * v + 2)) d g k l
-      → Tells (splitTold m v) a g at l
-  face-told z T U W X =
-      rw (even-test (generation m v) z, ← e) (tells-on T (tells-on U (tells-on W X)))
+-- Where two are told one after the other and there is room for both, there is room for the first, and then for the
+-- second.
+pub room-first : (m n : List ℕ) (at k : ℕ) → at + length (m ++ n) ≤ k → at + length m ≤ k
+room-first m n at k i = omega (arith, length-append m n)
 
-  pub rim-told : {a b c d : List ℕ} {at i j k : ℕ} → generation m v % 2 ≢ 0
-      → Tells (v ∷ f ∷ (f + 1) ∷ []) a b at i → Tells (pairAt m v (3 * v + 2)) b c i j
-      → Tells (pairAt m (f + 1) (3 * v + 1)) c d j k → Tells (splitTold m v) a d at k
-  rim-told z T U W =
-      rw (odd-test (generation m v) (omega arith), ← e) (tells-on T (tells-on U W))
+pub room-then : {m : List ℕ} {a b : List ℕ} {at i : ℕ} (n : List ℕ) → Tells m a b at i → at + length (m ++ n) ≤ length a
+    → i + length n ≤ length b
+room-then {m} n T r =
+    let e = length-append m n in
+    omega (arith, T .size, T .told (omega arith) .0)
+
+-- A child that was flipped takes two entries.
+pub flip-room : (l : List ℕ) (c at n : ℕ) {b : Bool} → b ≡ true → at + length (flipAfter l b c) ≤ n → at + 2 ≤ n
+flip-room l c at n e = subst (λ (b : Bool). at + length (flipAfter l b c) ≤ n) e
+
+pub tells-split : (l g : List ℕ) (t f : ℕ) {a b c d e : List ℕ} {at i j k end : ℕ} → Tells (t ∷ f ∷ (f + 1) ∷ []) a b at i
+    → Tells (flipAfter l (isFlipped g t) t) b c i j → Tells (flipAfter l (isSecondFlipped l g t f) f) c d j k
+    → Tells (flipAfter l (isFlipped g (f + 1)) (f + 1)) d e k end → Tells (splitAfter l g t f) a e at end
+tells-split l g t f T U W X = tells-on T (tells-on U (tells-on W X))
 
 -- ---- the length
 
@@ -129,3 +134,26 @@ few-reported R =
 
 pub always-fits : {t n : ℕ} {m : Mesh} → RefineFound t m → 54 ≤ n → true ≡ leb (length (refine t (atFirst m) .report)) n
 always-fits R i = sym (le-leb _ _ (le-trans (few-reported R) i))
+
+-- Each split reports its own slot.
+some-reported : {t : ℕ} {m : Mesh} → RefineFound t m
+    → splitsOf (m .topology) t ≤ length (refine t (atFirst m) .report)
+some-reported R =
+    let G = found-refined R in
+    omega (arith, ap length (G .telling .report), G .telling .size, G .splits)
+
+pub never-fits : {t n : ℕ} {m : Mesh} → RefineFound t m → n < splitsOf (m .topology) t
+    → false ≡ leb (length (refine t (atFirst m) .report)) n
+never-fits R i = sym (lt-leb _ _ (lt-of-lt-of-le i (some-reported R)))
+
+-- Where it fits from a place on, there is room for it, and else it is not told.
+pub fits-from : {t : ℕ} (at n : ℕ) {m : Mesh} → RefineFound t m → leb (length (refine t (atFirst m) .report)) (n - at) ≡ true
+    → at + length (refine t (atFirst m) .report) ≤ n
+fits-from {t} at n {m} R e =
+    omega (arith, leb-true (length (refine t (atFirst m) .report)) (n - at) e, some-reported R)
+
+pub tells-if : {b : Bool} {l r s : List ℕ} {at told : ℕ} → (b ≡ true → Tells l r s at told)
+    → b ≡ leb (length l) (length r - at) → length s ≡ length r → Tells l r s at told
+tells-if {b = true} T e q = T refl
+tells-if {b = false} {l} {r} {s} {at} {told} T e q =
+    tells-not l r s at told q (omega (arith, leb-false (length l) (length r - at) (sym e)))

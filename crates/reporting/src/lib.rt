@@ -2,7 +2,7 @@
 use split::Chain;
 use split::Work;
 use tables::Counts;
-ghost use mathlib.Core.Bool.{false};
+ghost use mathlib.Core.Bool.{true};
 ghost use mathlib.Core.List.{List, [], _∷_};
 ghost use mathlib.Core.Path.{_≡_};
 ghost use Prim.Native.Nat.{ℕ, _+_, _-_, _*_, _/_, _≤_, _<_};
@@ -10,7 +10,7 @@ ghost use lib.Dec.{leb};
 ghost use lib.IntN.{ℤ};
 ghost use lib.ListN.{length, getD};
 ghost use Rattle.rules.proofs.Calls.Carried.{RefineFound};
-ghost use Rattle.rules.proofs.Chains.Runs.{splitTold};
+ghost use Rattle.rules.proofs.Splits.After.{isFlipped, isSecondFlipped, flipAfter, splitAfter};
 ghost use Rattle.rules.proofs.Splits.Flipped.{pairAt};
 ghost use Rattle.rules.specs.Split.{atFirst, refine};
 ghost use Rattle.tables.specs.declared.Counts.{Counts};
@@ -18,95 +18,83 @@ ghost use Rattle.tables.specs.Lent.{topologyNow, meshNow};
 ghost use Rattle.split.specs.Made.{workNow, BaseChain};
 ghost use Rattle.reporting.specs.Told.{Tells, Told};
 
-// Tells the slots of the split of t, where the report has room: its own, and then the new ones.
-fn tell_slots(report: &mut [u32], at: usize, t: u32, f: u32) -> usize
-    requires { ⌜ (at < length (now report)) × (f < 4294967295) ⌝ }
-    ensures { λ r. ⌜ Tells (t ∷ f ∷ (f + 1) ∷ []) (now (report .entry)) (now (report .exit)) at r
-        × (r ≡ at + 3) ⌝ }
+// Tells the slots of the split of t: its own, and then the new ones.
+fn put_slots(report: &mut [u32], at: usize, t: u32, f: u32) -> usize
+    requires { ⌜ (at + 3 ≤ length (now report)) × (f < 4294967295) ⌝ }
+    ensures { λ r. ⌜ Tells (t ∷ f ∷ (f + 1) ∷ []) (now (report .entry)) (now (report .exit)) at r ⌝ }
 {
-    if report.len() <= at + 2 {
-        return at + 3;
-    }
     report[at] = t;
     report[at + 1] = f;
     report[at + 2] = f + 1;
     at + 3
 }
 
-// Tells the flip of child c, whose base is to lie where side h lies, if there is one.
-fn tell_flip(
-    links: &[u32],
-    generations: &[u8],
-    c: u32,
-    h: usize,
-    report: &mut [u32],
-    at: usize,
-) -> usize
-    requires { ⌜ (h < length (now links)) × (at < length (now report) + 8) ⌝ }
-    ensures { λ r. ⌜ ((n : Counts) (corners : List ℕ) →
-        let m = topologyNow n corners (now (links .entry)) (now (generations .entry)) in
-        Tells (pairAt m c h) (now (report .entry)) (now (report .exit)) at r) × (r ≤ at + 2) ⌝ }
+// Whether child c of a split was flipped, by the generations that are left.
+fn is_flipped(generations: &[u8], c: u32) -> bool
+    requires { ⌜ c < length (now generations) ⌝ }
+    ensures { λ r. ⌜ r ≡ isFlipped (now (generations .entry)) c ⌝ }
 {
-    let k = links[h];
-    if !split::is_base(generations, k) {
+    let slot = c as usize;
+    generations[slot] % 2 == 0
+}
+
+// Whether the second child f of the split of t was. Where this was a rim split, f is even without a flip; there alone
+// its side 2 leads to side 2 of t.
+fn is_second_flipped(links: &[u32], generations: &[u8], t: u32, f: u32) -> bool
+    requires { ⌜ (f < length (now generations)) × (3 * f + 2 < length (now links)) × (t < 65536) ⌝ }
+    ensures { λ r. ⌜ r ≡ isSecondFlipped (now (links .entry)) (now (generations .entry)) t f ⌝ }
+{
+    let side = 3 * (f as usize) + 2;
+    is_flipped(generations, f) && links[side] != 3 * t + 2
+}
+
+// Tells the flip of child c, if there was one: with the triangle that its side 1 leads to.
+fn put_flip(links: &[u32], c: u32, flipped: bool, report: &mut [u32], at: usize) -> usize
+    requires { ⌜ (3 * c + 1 < length (now links))
+        × (at + length (flipAfter (now links) flipped c) ≤ length (now report)) ⌝ }
+    ensures { λ r. ⌜ Tells (flipAfter (now (links .entry)) flipped c) (now (report .entry)) (now (report .exit))
+        at r ⌝ }
+{
+    if !flipped {
         return at;
     }
-    if report.len() <= at + 1 {
-        return at + 2;
-    }
+    let side = 3 * (c as usize) + 1;
     report[at] = c;
-    report[at + 1] = k / 3;
+    report[at + 1] = links[side] / 3;
     at + 2
 }
 
-// Tells the split of v that is to be made, and its flips, where the report has room for them.
+// Tells the split of t into t, f and f + 1, and its flips, by the tables that it has left, if it is to be told. To look
+// at the bases that the three are to meet, before the split, would take more: a division for each, be it flipped or not.
 fn tell_split(
     links: &[u32],
     generations: &[u8],
+    t: u32,
     f: u32,
-    v: u32,
-    report: &mut [u32],
-    at: usize,
-) -> usize
-    requires { ⌜ (3 * v + 2 < length (now links)) × (f < 4294967295) × (at < length (now report)) ⌝ }
-    ensures { λ r. ⌜ ((n : Counts) (corners : List ℕ) → f ≡ n .triangles →
-        let m = topologyNow n corners (now (links .entry)) (now (generations .entry)) in
-        Tells (splitTold m v) (now (report .entry)) (now (report .exit)) at r) ⌝ }
-{
-    let first = 3 * (v as usize);
-    let slots = tell_slots(report, at, v, f);
-    if tables::generation_at(generations, v) % 2 == 0 {
-        let own = tell_flip(links, generations, v, first, report, slots);
-        let second = tell_flip(links, generations, f, first + 1, report, own);
-        return tell_flip(links, generations, f + 1, first + 2, report, second);
-    }
-    let own = tell_flip(links, generations, v, first + 2, report, slots);
-    tell_flip(links, generations, f + 1, first + 1, report, own)
-}
-
-// The same unless it is not to be told, as in a call without a report, or the report has no room left.
-fn tell_next(
-    links: &[u32],
-    generations: &[u8],
-    f: u32,
-    v: u32,
     telling: bool,
     report: &mut [u32],
     at: usize,
 ) -> usize
-    requires { ⌜ (3 * v + 2 < length (now links)) × (f < 4294967295) ⌝ }
-    ensures { λ r. ⌜ ((«telling» ≡ false → length (now (report .entry)) ≤ at) →
-        (n : Counts) (corners : List ℕ) → f ≡ n .triangles →
-        let m = topologyNow n corners (now (links .entry)) (now (generations .entry)) in
-        Tells (splitTold m v) (now (report .entry)) (now (report .exit)) at r) × («telling» ≡ false → r ≡ at) ⌝ }
+    requires { ⌜ (t < length (now generations)) × (f + 1 < length (now generations))
+        × (3 * length (now generations) ≤ length (now links)) × (length (now generations) ≤ 65536)
+        × (telling ≡ true → at + length (splitAfter (now links) (now generations) t f) ≤ length (now report)) ⌝ }
+    ensures { λ r. ⌜ («telling» ≡ true → Tells (splitAfter (now (links .entry)) (now (generations .entry)) t f)
+        (now (report .entry)) (now (report .exit)) at r) ⌝ }
 {
     if !telling {
         return at;
     }
-    if report.len() <= at {
-        return at;
-    }
-    tell_split(links, generations, f, v, report, at)
+    let e = f + 1;
+    let slots = put_slots(report, at, t, f);
+    let first = put_flip(links, t, is_flipped(generations, t), report, slots);
+    let second = put_flip(
+        links,
+        f,
+        is_second_flipped(links, generations, t, f),
+        report,
+        first,
+    );
+    put_flip(links, e, is_flipped(generations, e), report, second)
 }
 
 // How much of a report the flip at side h takes, if there is one.
@@ -136,7 +124,8 @@ fn report_length(links: &[u32], generations: &[u8], chain: Chain) -> usize
     5 * (chain.splits() as usize) - 2 + own + second + third
 }
 
-// Whether the report of a refine along this chain has at most so many entries. 54 do for every refine.
+// Whether the report of a refine along this chain has at most so many entries. 54 do for every refine, and each split
+// takes some.
 pub fn fits(links: &[u32], generations: &[u8], chain: Chain, entries: usize) -> bool
     requires { ⌜ 3 * chain .end + 2 < length (now links) ⌝ }
     ensures { λ r. ⌜ ((t : ℕ) (n : Counts) (p : List ℤ) (c k : List ℕ) →
@@ -147,7 +136,20 @@ pub fn fits(links: &[u32], generations: &[u8], chain: Chain, entries: usize) -> 
     if 54 <= entries {
         return true;
     }
+    if entries < chain.splits() as usize {
+        return false;
+    }
     report_length(links, generations, chain) <= entries
+}
+
+// The entries of a report from this place on.
+fn room_from(entries: usize, at: usize) -> usize
+    ensures { λ r. ⌜ r ≡ entries - at ⌝ }
+{
+    if entries < at {
+        return 0;
+    }
+    entries - at
 }
 
 // The triangle across the base of the last of so many odd triangles of a chain.
@@ -162,7 +164,8 @@ fn across_last(links: &[u32], slots: &[u32; 20], odd: u32) -> u32
 
 // The refinement of t, from the end of its base chain upwards. An odd triangle keeps its slot and its place in the
 // chain until it is flipped. What lies across its base is read anew for each split, as a flip may move it to another
-// slot. The splits are told from place `at` of the report on, where it has room.
+// slot. The splits are told from place `at` of the report on, if it has room for all of them. A plain call has no room
+// for any, which is tested once and not for each split.
 pub fn refine(
     positions: &mut [i32],
     corners: &mut [u32],
@@ -184,7 +187,6 @@ pub fn refine(
         (now (positions .exit)) (now (corners .exit)) (now (links .exit)) (now (generations .exit)) (now (locks .exit))
         ≡ w) × Told (w .report) (now (report .entry)) (now (report .exit)) at) ⌝ }
 {
-    let telling = at < report.len();
     let slots = chain.slots;
     let mut work = Work {
         vertices: counts.vertices,
@@ -193,19 +195,13 @@ pub fn refine(
         flips: 0,
     };
     let mut left = chain.splits();
+    let telling = fits(links, generations, chain, room_from(report.len(), at));
     let mut end = chain.end;
     let mut told = at;
     while 0 < left {
-        told = tell_next(
-            links,
-            generations,
-            work.triangles,
-            end,
-            telling,
-            report,
-            told,
-        );
+        let f = work.triangles;
         work = split::split_at(positions, corners, links, generations, locks, work, end);
+        told = tell_split(links, generations, end, f, telling, report, told);
         left -= 1;
         if 0 < left {
             end = across_last(links, &slots, left);

@@ -1,104 +1,181 @@
 -- `reporting::tell_split` meets its contract.
-use Rattle.tables.specs.Lent.{topologyNow}
-use Rattle.reporting.proofs.Telling.{face-told, rim-told}
+use borrow.Author.Tests.{not-true, not-false}
+use native.Mathlib.Omega.{arith}
+use mathlib.Core.Bool.{Bool, true, true≢false}
+use mathlib.Core.List.{List, [], _∷_, _++_}
+use mathlib.Core.Path.{_≡_, sym, _∙_, subst}
+use Prim.Native.Nat.{ℕ, _+_, _*_, _≤_, _<_}
+use lib.ListN.{length}
+use Rattle.rules.proofs.Splits.After.{isFlipped, isSecondFlipped, flipAfter, splitAfter}
+use Rattle.reporting.specs.Told.{Tells}
+use Rattle.reporting.proofs.Telling.{room-first, room-then, tells-split}
 use borrow.Author.Needs.{needs}
 use Rattle.reporting.proofs.tell_split.Statement.{statement}
 use Rattle.reporting.proofs.tell_split.Tie as tie
 
-mul-first : tie.Need-mul-first
-mul-first c = search needs
+-- A test by its answer.
+answered : {x y : Bool} (l : List ℕ) (c : ℕ) {a b : List ℕ} {i j : ℕ} → x ≡ y → Tells (flipAfter l x c) a b i j
+    → Tells (flipAfter l y c) a b i j
+answered l c {a} {b} {i} {j} e = subst (λ (z : Bool). Tells (flipAfter l z c) a b i j) e
 
-tell-slots-requires : tie.Need-tell-slots-requires
-tell-slots-requires c κs = search needs
+asked : {x y : Bool} (l : List ℕ) (c i n : ℕ) → x ≡ y → i + length (flipAfter l y c) ≤ n
+    → i + length (flipAfter l x c) ≤ n
+asked l c i n e = subst (λ (z : Bool). i + length (flipAfter l z c) ≤ n) (sym e)
 
-generation-at-requires : tie.Need-generation-at-requires
-generation-at-requires c κs = search needs
+returns : tie.Need-returns
+returns c q = absurd (true≢false (sym q ∙ not-true (c .before .before .before .before .args .telling) (c .if1 .taken)))
 
-tell-flip-requires : tie.Need-tell-flip-requires
-tell-flip-requires c κs = search needs
+-- The split is to be told.
+module _ (c : tie.Else1) where
+  abbrev start : tie.Start
+  start = c .before .before .before .before
 
-add-tell-flip : tie.Need-add-tell-flip
-add-tell-flip c = search needs
+  abbrev l : List ℕ
+  l = start .args .links .now
 
-tell-flip-requires-2 : tie.Need-tell-flip-requires-2
-tell-flip-requires-2 c κs = search needs
+  abbrev g : List ℕ
+  g = start .args .generations .now
 
-add-tell-flip-2 : tie.Need-add-tell-flip-2
-add-tell-flip-2 c = search needs
+  abbrev t : ℕ
+  t = start .args .t
 
-add-tell-flip-3 : tie.Need-add-tell-flip-3
-add-tell-flip-3 c = search needs
+  abbrev f : ℕ
+  f = start .args .f
 
-tell-flip-requires-3 : tie.Need-tell-flip-requires-3
-tell-flip-requires-3 c κs = search needs
+  abbrev third : List ℕ
+  third = flipAfter l (isFlipped g (f + 1)) (f + 1)
+
+  abbrev second : List ℕ
+  second = flipAfter l (isSecondFlipped l g t f) f
+
+  abbrev first : List ℕ
+  first = flipAfter l (isFlipped g t) t
+
+  room : start .args .at + length (splitAfter l g t f) ≤ length (start .args .report .now)
+  room = start .pre .4 (not-false (start .args .telling) (c .if1 .left))
+
+-- What is told so far, and the room for the rest.
+abbrev if-of-slots : tie.After-put-slots → tie.Else1
+if-of-slots c = c .before .before
+
+slots-room : (c : tie.After-put-slots) →
+    let at = if-of-slots c in
+    c .put-slots .result + length (first at ++ (second at ++ third at)) ≤ length (c .put-slots .last .0)
+slots-room c =
+    let at = if-of-slots c in
+    room-then (first at ++ (second at ++ third at)) (c .put-slots .ensures) (room at)
+
+abbrev slots-of-first : tie.After-put-flip → tie.After-put-slots
+slots-of-first c = c .before .before .before .before .before
+
+first-told : (c : tie.After-put-flip) →
+    let at-slots = slots-of-first c in
+    Tells (first (if-of-slots at-slots)) (at-slots .put-slots .last .0) (c .put-flip .last .1 .1 .1 .0)
+    (at-slots .put-slots .result) (c .put-flip .result)
+first-told c =
+    let at = if-of-slots (slots-of-first c) in
+    answered (l at) (t at) (c .before .before .is-flipped .ensures) (c .put-flip .ensures)
+
+first-room : (c : tie.After-put-flip) →
+    let at = if-of-slots (slots-of-first c) in
+    c .put-flip .result + length (second at ++ third at) ≤ length (c .put-flip .last .1 .1 .1 .0)
+first-room c =
+    let at = if-of-slots (slots-of-first c) in
+    room-then (second at ++ third at) (first-told c) (slots-room (slots-of-first c))
+
+abbrev first-of-second : tie.After-put-flip2 → tie.After-put-flip
+first-of-second c = c .before .before .before .before .before
+
+second-told : (c : tie.After-put-flip2) →
+    let at-first = first-of-second c in
+    Tells (second (if-of-slots (slots-of-first at-first))) (at-first .put-flip .last .1 .1 .1 .0)
+    (c .put-flip2 .last .1 .1 .1 .0) (at-first .put-flip .result) (c .put-flip2 .result)
+second-told c =
+    let at = if-of-slots (slots-of-first (first-of-second c)) in
+    answered (l at) (f at) (c .before .before .is-second-flipped .ensures) (c .put-flip2 .ensures)
+
+second-room : (c : tie.After-put-flip2) →
+    let at = if-of-slots (slots-of-first (first-of-second c)) in
+    c .put-flip2 .result + length (third at) ≤ length (c .put-flip2 .last .1 .1 .1 .0)
+second-room c =
+    let at = if-of-slots (slots-of-first (first-of-second c)) in
+    room-then (third at) (second-told c) (first-room (first-of-second c))
+
+add-e : tie.Need-add-e
+add-e c = search needs
+
+put-slots-requires : tie.Need-put-slots-requires
+put-slots-requires c κs =
+    let at = c .before in
+    let slots = t at ∷ f at ∷ (f at + 1) ∷ [] in (
+      room-first slots (first at ++ (second at ++ third at)) _ _ (room at),
+      omega (arith, start at .pre .1, start at .pre .3),
+    )
+
+is-flipped-requires : tie.Need-is-flipped-requires
+is-flipped-requires c κs = search needs
+
+put-flip-requires : tie.Need-put-flip-requires
+put-flip-requires c κs =
+    let at-is-flipped = c .before in
+    let at-slots = at-is-flipped .before .before .before in
+    let at = if-of-slots at-slots in (
+      omega (arith, start at .pre .0, start at .pre .2),
+      asked (l at) (t at) _ _ (at-is-flipped .is-flipped .ensures)
+          (room-first (first at) (second at ++ third at) _ _ (slots-room at-slots)),
+    )
+
+is-second-flipped-requires : tie.Need-is-second-flipped-requires
+is-second-flipped-requires c κs = search needs
+
+put-flip-requires-2 : tie.Need-put-flip-requires-2
+put-flip-requires-2 c κs =
+    let at-is-flipped = c .before in
+    let at-first = at-is-flipped .before .before .before in
+    let at = if-of-slots (slots-of-first at-first) in (
+      omega (arith, start at .pre .1, start at .pre .2),
+      asked (l at) (f at) _ _ (at-is-flipped .is-second-flipped .ensures)
+          (room-first (second at) (third at) _ _ (first-room at-first)),
+    )
+
+is-flipped-requires-2 : tie.Need-is-flipped-requires-2
+is-flipped-requires-2 c κs = search needs
+
+put-flip-requires-3 : tie.Need-put-flip-requires-3
+put-flip-requires-3 c κs =
+    let at-is-flipped = c .before in
+    let at-second = at-is-flipped .before .before .before in
+    let at = if-of-slots (slots-of-first (first-of-second at-second)) in (
+      omega (arith, start at .pre .1, start at .pre .2),
+      asked (l at) (f at + 1) _ _ (at-is-flipped .is-flipped2 .ensures) (second-room at-second),
+    )
 
 same-length : tie.Need-same-length
 same-length c = search needs
 
-returns : tie.Need-returns
-returns c n corners e =
-    let at-third = c .before .before in
-    let at-second = at-third .before .before .before .before in
-    let at-own = at-second .before .before .before .before in
-    let at-if1 = at-own .before .before in
-    let at-generation = at-if1 .before in
-    let at-slots = at-generation .before .before .before in
-    let even = rw (at-generation .generation-at .ensures) at (at-if1 .if1 .taken) in
-    let args = at-slots .before .before .before .before .before .args in
-    let m = topologyNow n corners (args .links .now) (args .generations .now) in
-    face-told m (args .v) e even (at-slots .tell-slots .ensures .0) (at-own .tell-flip .ensures .0 n corners)
-    (at-second .tell-flip2 .ensures .0 n corners) (at-third .tell-flip3 .ensures .0 n corners)
-
-add-tell-flip-4 : tie.Need-add-tell-flip-4
-add-tell-flip-4 c = search needs
-
-tell-flip-requires-4 : tie.Need-tell-flip-requires-4
-tell-flip-requires-4 c κs = search needs
-
-add-tell-flip-5 : tie.Need-add-tell-flip-5
-add-tell-flip-5 c = search needs
-
-add-tell-flip-6 : tie.Need-add-tell-flip-6
-add-tell-flip-6 c = search needs
-
-tell-flip-requires-5 : tie.Need-tell-flip-requires-5
-tell-flip-requires-5 c κs = search needs
-
-same-length-2 : tie.Need-same-length-2
-same-length-2 c = search needs
-
 returns-2 : tie.Need-returns-2
-returns-2 c n corners e =
-    let at-second = c .before .before in
-    let at-own = at-second .before .before .before .before in
-    let at-if1 = at-own .before .before in
-    let at-generation = at-if1 .before in
-    let at-slots = at-generation .before .before .before in
-    let odd = rw (at-generation .generation-at .ensures) at (at-if1 .if1 .left) in
-    let args = at-slots .before .before .before .before .before .args in
-    let m = topologyNow n corners (args .links .now) (args .generations .now) in
-    rim-told m (args .v) e odd (at-slots .tell-slots .ensures .0) (at-own .tell-flip4 .ensures .0 n corners)
-    (at-second .tell-flip5 .ensures .0 n corners)
+returns-2 c q =
+    let at-third = c .before .before in
+    let at-is-flipped = at-third .before .before in
+    let at-second = at-is-flipped .before .before .before in
+    let at-first = first-of-second at-second in
+    let at-slots = slots-of-first at-first in
+    let at = if-of-slots at-slots in
+    tells-split (l at) (g at) (t at) (f at) (at-slots .put-slots .ensures) (first-told at-first) (second-told at-second)
+    (answered (l at) (f at + 1) (at-is-flipped .is-flipped2 .ensures) (at-third .put-flip3 .ensures))
 
 pub tell-split-spec : {M : Type 1} → statement M
 tell-split-spec =
     tie.close
     (tie.spec
-    mul-first
-    tell-slots-requires
-    generation-at-requires
-    tell-flip-requires
-    add-tell-flip
-    tell-flip-requires-2
-    add-tell-flip-2
-    add-tell-flip-3
-    tell-flip-requires-3
-    same-length
     returns
-    add-tell-flip-4
-    tell-flip-requires-4
-    add-tell-flip-5
-    add-tell-flip-6
-    tell-flip-requires-5
-    same-length-2
+    add-e
+    put-slots-requires
+    is-flipped-requires
+    put-flip-requires
+    is-second-flipped-requires
+    put-flip-requires-2
+    is-flipped-requires-2
+    put-flip-requires-3
+    same-length
     returns-2)

@@ -1,10 +1,10 @@
 -- Refine as a counted loop: as many splits as t takes, each at the end that its base chain has then.
-use mathlib.Core.Path.{_≡_, refl, sym, _∙_, subst}
+use mathlib.Core.Path.{_≡_, refl, sym, ap, _∙_, subst}
 use mathlib.Core.Bool.{Bool, true, false}
 use mathlib.Core.List.{List, _++_}
 use Prim.Native.Nat.{ℕ, zero, suc, _+_, _-_, _*_, _/_, _%_, _≤_, _<_, max}
 use native.Mathlib.Omega.{arith}
-use lib.ListN.{getD}
+use lib.ListN.{length, length-append, getD}
 use Rattle.rules.proofs.Splits.Bases.{reached}
 use Rattle.rules.proofs.Calls.Carried.{RefineFound, found-young}
 use Rattle.rules.proofs.Chains.Chain.{Path, ends, across, path-end, path-use, path-high, path-fit, Shorter}
@@ -123,6 +123,15 @@ ahead-on {k} {g} {t} {w} A =
       rising =
           rising-on k (L .steps) g t m x (S .manifold) (S .basesMeet (A .basesMeet)) l (A .rising .0) (L .splits) s;
     }
+
+-- The splits ahead add to the report.
+pub longer-ahead : {g t : ℕ} (k : ℕ) (w : Work) → Ahead k g t w
+    → length (w .report) ≤ length (splitEnds k t w .report)
+unfolding splitEnds
+longer-ahead zero w A = omega arith
+longer-ahead (suc k) w A =
+    let T = ahead-splitting A .telling in
+    omega (arith, longer-ahead k _ (ahead-on A), ap length (T .report), length-append (w .report) (T .more))
 
 -- ---- what stays of the chain
 

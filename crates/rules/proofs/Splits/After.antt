@@ -1,8 +1,8 @@
--- What a split reports, read from the tables that it leaves: a child was flipped exactly if its generation is even, with
--- the triangle that its side 1 leads to. (Request m)
+-- What a split reports, read from the tables that it leaves: a settled child was flipped exactly if its generation is
+-- even, with the triangle that its side 1 leads to. (Request m)
 use mathlib.Core.Path.{_≡_, refl, sym, ap, ap₂, _∙_, subst}
 use mathlib.Core.Logic.{_≢_, _⊎_, inl, inr}
-use mathlib.Core.Bool.{Bool, true, false, not}
+use mathlib.Core.Bool.{Bool, true, false, not, _&&_}
 use mathlib.Core.List.{List, [], _∷_, _++_, append-nil, append-assoc}
 use Prim.Native.Nat.{ℕ, suc, _+_, _*_, _/_, _%_, _<_}
 use native.Mathlib.Decide.{ℕ-discrete}
@@ -22,21 +22,28 @@ use Rattle.rules.proofs.Splits.Settling.{settling-child, settling-same}
 use Rattle.rules.specs.Split.{Work}
 use Rattle.rules.specs.Tables.{Topology, link, generation, odd}
 
--- What child c reports, read from the links and the generations.
-abbrev pub flipAfter : List ℕ → List ℕ → ℕ → List ℕ
-flipAfter links generations c = pairIf (not (odd (getD generations c 0))) c (getD links (3 * c + 1) 0)
+-- Child c was flipped, by the generations that are left.
+abbrev pub isFlipped : List ℕ → ℕ → Bool
+isFlipped generations c = not (odd (getD generations c 0))
 
--- What the flips of the split of t into t, f and f + 1 report, of a rim split or of a face split.
-abbrev pub flipsAfter : Bool → List ℕ → List ℕ → ℕ → ℕ → List ℕ
-flipsAfter true l g t f = flipAfter l g t ++ flipAfter l g (f + 1)
-flipsAfter false l g t f = flipAfter l g t ++ (flipAfter l g f ++ flipAfter l g (f + 1))
+-- The second child f of the split of t was. Where this was a rim split, f is even without a flip; there alone its side 2
+-- leads to side 2 of t.
+abbrev pub isSecondFlipped : List ℕ → List ℕ → ℕ → ℕ → Bool
+isSecondFlipped links generations t f =
+    isFlipped generations f && not (eqb (getD links (3 * f + 2) 0) (3 * t + 2))
 
--- Its own slot, the new ones, and then what they do. After a rim split alone side 2 of f leads to side 2 of t.
+-- What its flip reports, if there was one.
+abbrev pub flipAfter : List ℕ → Bool → ℕ → List ℕ
+flipAfter links b c = pairIf b c (getD links (3 * c + 1) 0)
+
+-- What the split of t into t, f and f + 1 reports: its own slot, the new ones, and its flips.
 abbrev pub splitAfter : List ℕ → List ℕ → ℕ → ℕ → List ℕ
-splitAfter l g t f = t ∷ f ∷ (f + 1) ∷ flipsAfter (eqb (getD l (3 * f + 2) 0) (3 * t + 2)) l g t f
+splitAfter l g t f =
+    t ∷ f ∷ (f + 1) ∷ (flipAfter l (isFlipped g t) t
+    ++ (flipAfter l (isSecondFlipped l g t f) f ++ flipAfter l (isFlipped g (f + 1)) (f + 1)))
 
 abbrev pub pairAfter : Topology → ℕ → List ℕ
-pairAfter m c = flipAfter (m .links) (m .generations) c
+pairAfter m c = flipAfter (m .links) (isFlipped (m .generations) c) c
 
 abbrev pub pairsAfter : Topology → List ℕ → List ℕ
 pairsAfter m [] = []
@@ -132,11 +139,24 @@ settled-slides x (then {c = c} {m = m} {k = k} {n = n} o s) l =
 
 -- ---- a split
 
+-- With the test of a rim split decided.
+after-face : (b : Bool) (f h : ℕ) → pairIf b f h ≡ pairIf (b && true) f h
+after-face true f h = refl
+after-face false f h = refl
+
+after-rim : (b : Bool) (f h : ℕ) → [] ≡ pairIf (b && false) f h
+after-rim true f h = refl
+after-rim false f h = refl
+
 module _ (t f : ℕ) (m n : Topology) (s : Slid (link m (3 * f + 2)) (link n (3 * f + 2))) where
+  abbrev told : List ℕ → List ℕ
+  told second = t ∷ f ∷ (f + 1) ∷ (pairAfter n t ++ (second ++ pairAfter n (f + 1)))
+
   pub face-after : link m (3 * f + 2) ≡ 3 * t + 1
       → t ∷ f ∷ (f + 1) ∷ pairsAfter n (t ∷ f ∷ (f + 1) ∷ []) ≡ splitAfter (n .links) (n .generations) t f
   face-after e =
-      rw (is-same (is-eq (link n (3 * f + 2)) (3 * t + 2)) (is-false (go s)), append-nil (pairAfter n (f + 1))) refl
+      rw (is-same (is-eq (link n (3 * f + 2)) (3 * t + 2)) (is-false (go s)), append-nil (pairAfter n (f + 1)))
+      (ap told (after-face (isFlipped (n .generations) f) f (link n (3 * f + 1))))
     where
       go : Slid (link m (3 * f + 2)) (link n (3 * f + 2)) → link n (3 * f + 2) ≢ 3 * t + 2
       go (inl p) q = omega arith
@@ -145,7 +165,8 @@ module _ (t f : ℕ) (m n : Topology) (s : Slid (link m (3 * f + 2)) (link n (3 
   pub rim-after : link m (3 * f + 2) ≡ 3 * t + 2
       → t ∷ f ∷ (f + 1) ∷ pairsAfter n (t ∷ (f + 1) ∷ []) ≡ splitAfter (n .links) (n .generations) t f
   rim-after e =
-      rw (is-same (is-eq (link n (3 * f + 2)) (3 * t + 2)) (is-true (go s)), append-nil (pairAfter n (f + 1))) refl
+      rw (is-same (is-eq (link n (3 * f + 2)) (3 * t + 2)) (is-true (go s)), append-nil (pairAfter n (f + 1)))
+      (ap told (after-rim (isFlipped (n .generations) f) f (link n (3 * f + 1))))
     where
       go : Slid (link m (3 * f + 2)) (link n (3 * f + 2)) → link n (3 * f + 2) ≡ 3 * t + 2
       go (inl p) = p ∙ e

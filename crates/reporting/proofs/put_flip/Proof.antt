@@ -1,0 +1,81 @@
+-- `reporting::put_flip` meets its contract.
+use borrow.Author.Tests.{not-true, not-false}
+use native.Mathlib.Omega.{arith}
+use lib.ListN.{length, length-set}
+use Rattle.reporting.proofs.Telling.{tells-none, tells-two, flip-room}
+use borrow.Author.Needs.{needs}
+use Rattle.reporting.proofs.put_flip.Statement.{statement}
+use Rattle.reporting.proofs.put_flip.Tie as tie
+
+returns : tie.Need-returns
+returns c =
+    let args = c .before .args in
+    rw (not-true (args .flipped) (c .if1 .taken)) (tells-none (args .at) (args .report .now))
+
+mul-side : tie.Need-mul-side
+mul-side c = search needs
+
+add-side : tie.Need-add-side
+add-side c = search needs
+
+mul-report : tie.Need-mul-report
+mul-report c = search needs
+
+slice-write-report : tie.Need-slice-write-report
+slice-write-report c =
+    let args = c .before .args in
+    omega (
+      arith,
+      flip-room (args .links .now) (args .c) (args .at) (length (args .report .now)) (not-false (args .flipped) (c .if1 .left)) (c .before .pre .1),
+    )
+
+mul-report-2 : tie.Need-mul-report-2
+mul-report-2 c = search needs
+
+shared-slice-read-report : tie.Need-shared-slice-read-report
+shared-slice-read-report c = search needs
+
+add-report : tie.Need-add-report
+add-report c = search needs
+
+mul-report-3 : tie.Need-mul-report-3
+mul-report-3 c = search needs
+
+slice-write-report-2 : tie.Need-slice-write-report-2
+slice-write-report-2 c =
+    let at-if1 = c .before in
+    let args = at-if1 .before .args in
+    let room =
+    flip-room (args .links .now) (args .c) (args .at) (length (args .report .now)) (not-false (args .flipped) (at-if1 .if1 .left))
+    (at-if1 .before .pre .1) in
+    simp length-set (omega (arith, room))
+
+add-result : tie.Need-add-result
+add-result c = search needs
+
+same-length : tie.Need-same-length
+same-length c = search needs
+
+returns-2 : tie.Need-returns-2
+returns-2 c =
+    let at-if1 = c .before in
+    let args = at-if1 .before .args in
+    rw (not-false (args .flipped) (at-if1 .if1 .left)) (tells-two (args .c) _ (args .at) (args .report .now))
+
+pub put-flip-spec : {M : Type 1} → statement M
+put-flip-spec =
+    tie.close
+    (tie.spec
+    returns
+    mul-side
+    add-side
+    mul-report
+    slice-write-report
+    mul-report-2
+    shared-slice-read-report
+    add-report
+    mul-report-3
+    slice-write-report-2
+    add-result
+    same-length
+    returns-2)
