@@ -1,11 +1,12 @@
 // The calls that refine a list of triangles and that foresee it.
-use refining::lists::BatchForeseen;
+use listing::BatchForeseen;
 use refining::spares::BatchWorked;
 use tables::Counts;
 ghost use mathlib.Core.Path.{_≡_};
 ghost use Rattle.rules.specs.Lists.{listCall, previewCall};
 ghost use Rattle.tables.specs.Lent.{meshNow, sparesNow};
-ghost use Rattle.refining.specs.Batches.{batchOutcome, foreseenOutcome};
+ghost use Rattle.refining.specs.Batches.{batchOutcome};
+ghost use Rattle.listing.specs.Foreseen.{foreseenOutcome};
 ghost use Rattle.refining.specs.Standing.{standing};
 
 // The same as refine_list, on a mesh whose first refusal is known.
@@ -54,7 +55,7 @@ pub fn refine_list_known(
     if refusal != 0 {
         return BatchWorked::refused(refusal, counts);
     }
-    refining::lists::refine_list(
+    listing::refine_list(
         positions,
         corners,
         links,
@@ -155,7 +156,7 @@ pub fn preview(
     if refusal != 0 {
         return BatchForeseen::refused(refusal, counts);
     }
-    refining::lists::preview(
+    listing::preview(
         positions,
         corners,
         links,

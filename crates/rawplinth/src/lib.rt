@@ -1,13 +1,13 @@
 // The calls under the names by which C and Rust link them (include/rawplinth.h). A slice is a pointer and a length.
 mod journals;
 
+use listing::BatchForeseen;
+use listing::ForeseenReported;
 use mesh::LimitRead;
 use mesh::PositionRead;
 use mesh::RingRead;
 use points::Point;
 use refining::Reported;
-use refining::lists::BatchForeseen;
-use refining::lists::ForeseenReported;
 use refining::spares::BatchReported;
 use refining::spares::BatchWorked;
 use rim::RimRead;
@@ -29,7 +29,8 @@ ghost use Rattle.rules.specs.Reports.{one, withNote, each, inBox, reportedCall,
 ghost use Rattle.rules.specs.Rim.{curveCall};
 ghost use Rattle.tables.specs.Answers.{workedOutcome};
 ghost use Rattle.tables.specs.Lent.{meshNow, sparesNow};
-ghost use Rattle.refining.specs.Batches.{batchOutcome, foreseenOutcome};
+ghost use Rattle.refining.specs.Batches.{batchOutcome};
+ghost use Rattle.listing.specs.Foreseen.{foreseenOutcome};
 ghost use Rattle.noting.specs.Noting.{notedOutcome};
 ghost use Rattle.mesh.specs.Answers.{limitOutcome, ringOutcome, positionOutcome};
 ghost use Rattle.rim.specs.Traced.{curveOutcome};

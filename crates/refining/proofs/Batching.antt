@@ -28,9 +28,7 @@ use Rattle.tables.specs.declared.Counts.{Counts}
 use Rattle.tables.specs.Lent.{meshNow, HasSlots}
 use Rattle.reporting.specs.Told.{Tells, Told, toldUnless}
 use Rattle.reporting.proofs.Telling.{tells-none, tells-on}
-use Rattle.refining.specs.Batches.{StartsWith, Begins, Handles, Made, MayWork, onlyRead, foreseenIf}
-use Rattle.refining.specs.Batches.{foreseenOf, foreseenOutcome}
-use Rattle.refining.specs.declared.lists.BatchForeseen.{BatchForeseen}
+use Rattle.refining.specs.Batches.{StartsWith, Begins, Handles, Made, MayWork}
 use Rattle.refining.specs.declared.spares.Batch.{Batch}
 use Rattle.refining.proofs.Refusing.{standing-sound}
 use Rattle.refining.proofs.Telling.{tells-to, told-zero, told-nothing}
@@ -222,38 +220,3 @@ list-going list {m} {s} W = folded list s m (may-sound W) .going
 pub list-made : (list : List ℕ) {m : Mesh} {s : Spares} {r : Batch} {x : Mesh} → MayWork m s → Handles list m s r x
     → Made (refineEach list m) s m r x
 list-made list W D = record { sizes = W .sizes; going = list-going list W; done = D }
-
--- ---- what is foreseen
-
-module _ {m : Mesh} {p : Progress} {s : Spares} {n at k f : ℕ} {x : Mesh} (D : Done p s n at k f x) where
-  foreseen-failed : n ≢ 0
-      → outcomeOf (sparesAnswer n 0 0 m at x) m (spareRoom (tablesOf x))
-      ≡ onlyRead m (allOrNothing (p .refusal) p s m)
-  foreseen-failed z = ap (onlyRead m) (failed-is m D z)
-
-  foreseen-done : SameSizes s m → Going m (p .work) → n ≡ 0
-      → outcomeOf (sparesAnswer 0 k f (withTopology (x .topology) m) at x) m (spareRoom (tablesOf x))
-      ≡ onlyRead m (allOrNothing (p .refusal) p s m)
-  foreseen-done L G z =
-      let r : x .rule ≡ m .rule = ap (λ (y : Mesh). y .rule) (D .tables) ∙ G .places .rule in
-      let e = copied-is {y = copied x (tablesOf m)} L G (rw z at D) refl in
-      ap (λ (q : ℕ).
-      outcomeOf (sparesAnswer 0 k f (meshOf (x .topology) (m .positions) (m .locks) q) at x) m (spareRoom (tablesOf x)))
-      (sym r)
-      ∙ ap (onlyRead m) e
-
-pub foreseen-is : (n : Counts) {p : List ℤ} {c l g k : List ℕ} {w : Progress} {s : Spares} (r : Batch) {q : List ℤ}
-    {c′ l′ g′ k′ : List ℕ} {a : BatchForeseen} →
-    let m = meshNow n p c l g k in
-    let x = meshNow (r .counts) q c′ l′ g′ k′ in
-    a ≡ foreseenOf n r → Made w s m r x
-    → foreseenOutcome a m (tablesOf x) ≡ onlyRead m (allOrNothing (w .refusal) w s m)
-foreseen-is n {p} {c} {l} {g} {k} {w} {s} r {q} {c′} {l′} {g′} {k′} e M = rw e (go (r .refusal) (M .done))
-  where
-    go : (i : ℕ) →
-        let m = meshNow n p c l g k in
-        let x = meshNow (r .counts) q c′ l′ g′ k′ in
-        Done w s i (r .handled) (r .splits) (r .flips) x
-        → foreseenOutcome (foreseenIf i n r) m (tablesOf x) ≡ onlyRead m (allOrNothing (w .refusal) w s m)
-    go zero D = foreseen-done D (M .sizes) (M .going) refl
-    go (suc i) D = foreseen-failed D (λ z. omega (arith, z))

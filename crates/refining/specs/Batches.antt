@@ -1,4 +1,4 @@
--- Work in spare tables: lists of triangles, and what lists and boxes share.
+-- Work in spare tables, by lists and by boxes.
 use Prim.Native.Nat.{ℕ, zero, suc, _+_, _*_}
 use mathlib.Core.Bool.{Bool, true, false}
 use mathlib.Core.List.{List, []}
@@ -14,12 +14,11 @@ use Rattle.rules.specs.Lists.{Progress, refineEach, sparesAnswer, allOrNothing}
 use Rattle.rules.specs.Reports.{reportIn, reportedAs}
 use Rattle.rules.specs.Sound.{Sound}
 use Rattle.rules.specs.Spares.{Spares, SameSizes}
-use Rattle.rules.specs.Tables.{Mesh, topologyOf, withTopology}
+use Rattle.rules.specs.Tables.{Mesh}
 use Rattle.tables.specs.Lent.{meshNow}
 use Rattle.tables.specs.declared.Counts.{Counts}
 use Rattle.refining.specs.Standing.{standing}
 use Rattle.refining.specs.declared.spares.Batch.{Batch}
-use Rattle.refining.specs.declared.lists.BatchForeseen.{BatchForeseen}
 use Rattle.refining.specs.declared.spares.BatchWorked.{BatchWorked}
 
 -- The mesh at the call's start has so many triangles and these generations.
@@ -78,49 +77,6 @@ refusedBatch n counts = record {
 -- An outcome of which the mesh m is only read.
 abbrev pub onlyRead : Mesh → Outcome → Outcome
 onlyRead m o = outcomeOf (o .answer) m (o .room)
-
--- The answer of a preview that is refused before the work.
-abbrev pub refusedForeseen : ℕ → Counts → BatchForeseen
-refusedForeseen n counts = record {
-  refusal = n;
-  splits = 0;
-  flips = 0;
-  «foreseen_vertices» = counts .vertices;
-  «foreseen_triangles» = counts .triangles;
-  handled = 0;
-  spares = record { vertices = 0; triangles = 0; rule = 0 };
-}
-
--- What is foreseen where the work r was made of a mesh with these counts.
-abbrev pub foreseenIf : ℕ → Counts → Batch → BatchForeseen
-foreseenIf zero counts r = record {
-  refusal = 0;
-  splits = r .splits;
-  flips = r .flips;
-  «foreseen_vertices» = r .counts .vertices;
-  «foreseen_triangles» = r .counts .triangles;
-  handled = r .handled;
-  spares = r .counts;
-}
-foreseenIf (suc n) counts r = record {
-  refusal = suc n;
-  splits = 0;
-  flips = 0;
-  «foreseen_vertices» = counts .vertices;
-  «foreseen_triangles» = counts .triangles;
-  handled = r .handled;
-  spares = r .counts;
-}
-
-abbrev pub foreseenOf : Counts → Batch → BatchForeseen
-foreseenOf counts r = foreseenIf (r .refusal) counts r
-
--- The outcome of a preview of m.
-abbrev pub foreseenOutcome : BatchForeseen → Mesh → Spares → Outcome
-foreseenOutcome a m s =
-    let n = topologyOf (a .«foreseen_vertices») (a .«foreseen_triangles») [] [] [] in
-    outcomeOf (sparesAnswer (a .refusal) (a .splits) (a .flips) (withTopology n m) (a .handled)
-    (meshNow (a .spares) [] [] [] [] [])) m (spareRoom s)
 
 -- ---- with a report
 

@@ -1,5 +1,4 @@
-// Refines of a mesh whose first refusal is known: of one triangle, and of a list in spare tables.
-pub mod lists;
+// Refines of one triangle of a mesh whose first refusal is known, and what work in spare tables shares.
 mod locked;
 pub mod spares;
 

@@ -1,9 +1,9 @@
 // The public calls that refine and report the slots that they write. None asks anything of its caller, and a refusal
 // leaves the mesh, the note and the report.
+use listing::BatchForeseen;
+use listing::ForeseenReported;
 use points::Point;
 use refining::Reported;
-use refining::lists::BatchForeseen;
-use refining::lists::ForeseenReported;
 use refining::spares::BatchReported;
 use refining::spares::BatchWorked;
 use tables::Counts;
@@ -13,7 +13,8 @@ ghost use Rattle.rules.specs.Calls.{withReport};
 ghost use Rattle.rules.specs.Reports.{one, withNote, each, inBox, reportedCall, reportForeseen};
 ghost use Rattle.tables.specs.Answers.{workedOutcome};
 ghost use Rattle.tables.specs.Lent.{meshNow, sparesNow};
-ghost use Rattle.refining.specs.Batches.{batchOutcome, foreseenOutcome};
+ghost use Rattle.refining.specs.Batches.{batchOutcome};
+ghost use Rattle.listing.specs.Foreseen.{foreseenOutcome};
 ghost use Rattle.noting.specs.Noting.{notedOutcome};
 
 // Refines triangle t.
@@ -136,7 +137,7 @@ pub fn refine_list(
             reported: 0,
         };
     }
-    refining::lists::refine_list_reported(
+    listing::refine_list_reported(
         positions,
         corners,
         links,
@@ -202,7 +203,7 @@ pub fn preview(
             reported: 0,
         };
     }
-    refining::lists::preview_reported(
+    listing::preview_reported(
         positions,
         corners,
         links,

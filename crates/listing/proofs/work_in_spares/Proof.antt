@@ -1,12 +1,12 @@
--- `refining::lists::work_in_spares` meets its contract.
+-- `listing::work_in_spares` meets its contract.
 use borrow.Author.Needs.{needs}
 use Rattle.rules.specs.Spares.{Spares}
 use Rattle.rules.specs.Tables.{Mesh}
 use Rattle.tables.specs.Lent.{meshNow, sparesNow}
 use Rattle.refining.specs.Batches.{Begins}
 use Rattle.refining.proofs.Batching.{slots-there, may-begin}
-use Rattle.refining.proofs.lists.work_in_spares.Statement.{statement}
-use Rattle.refining.proofs.lists.work_in_spares.Tie as tie
+use Rattle.listing.proofs.work_in_spares.Statement.{statement}
+use Rattle.listing.proofs.work_in_spares.Tie as tie
 
 abbrev mesh-of : tie.Start → Mesh
 mesh-of c =

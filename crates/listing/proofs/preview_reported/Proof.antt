@@ -1,4 +1,4 @@
--- `refining::lists::preview_reported` meets its contract.
+-- `listing::preview_reported` meets its contract.
 use borrow.Author.Needs.{needs}
 use mathlib.Core.Path.{_≡_, ap}
 use Prim.Native.Nat.{_≤_}
@@ -9,11 +9,13 @@ use Rattle.rules.specs.Lists.{Progress, refineEach, allOrNothing}
 use Rattle.rules.specs.Spares.{Spares}
 use Rattle.rules.specs.Tables.{Mesh}
 use Rattle.tables.specs.Lent.{meshNow, sparesNow}
-use Rattle.refining.specs.Batches.{Made, onlyRead, foreseenOutcome, fitted}
-use Rattle.refining.proofs.Batching.{list-going, foreseen-is}
+use Rattle.refining.specs.Batches.{Made, onlyRead, fitted}
+use Rattle.listing.specs.Foreseen.{foreseenOutcome}
+use Rattle.refining.proofs.Batching.{list-going}
+use Rattle.listing.proofs.Foreseeing.{foreseen-is}
 use Rattle.refining.proofs.Fitting.{fitted-made, few-answered, foreseen-reported}
-use Rattle.refining.proofs.lists.preview_reported.Statement.{statement}
-use Rattle.refining.proofs.lists.preview_reported.Tie as tie
+use Rattle.listing.proofs.preview_reported.Statement.{statement}
+use Rattle.listing.proofs.preview_reported.Tie as tie
 
 work-reported-requires : tie.Need-work-reported-requires
 work-reported-requires c κs = search needs

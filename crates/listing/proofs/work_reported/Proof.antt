@@ -1,15 +1,15 @@
--- `refining::lists::work_reported` meets its contract.
+-- `listing::work_reported` meets its contract.
 use borrow.Author.Needs.{needs}
 use native.Mathlib.Omega.{arith}
 use Rattle.rules.specs.Lists.{refineEach}
 use Rattle.rules.specs.Spares.{Spares}
 use Rattle.rules.specs.Tables.{Mesh}
 use Rattle.tables.specs.Lent.{meshNow, sparesNow}
 use Rattle.refining.specs.Batches.{Made}
 use Rattle.refining.proofs.Batching.{list-made}
 use Rattle.refining.proofs.Fitting.{made-few, may-again, done-again, fit-holds, fit-failed, fit-done}
-use Rattle.refining.proofs.lists.work_reported.Statement.{statement}
-use Rattle.refining.proofs.lists.work_reported.Tie as tie
+use Rattle.listing.proofs.work_reported.Statement.{statement}
+use Rattle.listing.proofs.work_reported.Tie as tie
 
 slice-aggregate-work-in-spares : tie.Need-slice-aggregate-work-in-spares
 slice-aggregate-work-in-spares c = search needs

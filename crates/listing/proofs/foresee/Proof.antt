@@ -1,13 +1,13 @@
--- `refining::lists::foresee` meets its contract.
+-- `listing::foresee` meets its contract.
 use mathlib.Core.Logic.{_≢_}
 use mathlib.Core.Path.{_≡_, refl, sym, ap}
 use Prim.Native.Nat.{ℕ, zero, suc}
 use Rattle.tables.specs.declared.Counts.{Counts}
-use Rattle.refining.specs.Batches.{foreseenIf}
-use Rattle.refining.specs.declared.lists.BatchForeseen.{BatchForeseen}
+use Rattle.listing.specs.Foreseen.{foreseenIf}
+use Rattle.listing.specs.declared.BatchForeseen.{BatchForeseen}
 use Rattle.refining.specs.declared.spares.Batch.{Batch}
-use Rattle.refining.proofs.lists.foresee.Statement.{statement}
-use Rattle.refining.proofs.lists.foresee.Tie as tie
+use Rattle.listing.proofs.foresee.Statement.{statement}
+use Rattle.listing.proofs.foresee.Tie as tie
 
 failed : (i : ℕ) (counts : Counts) (r : Batch) → i ≢ 0
     → _≡_ {A = BatchForeseen} (record {

@@ -1,4 +1,4 @@
--- `refining::lists::handle_all` meets its contract: the first entries are handled.
+-- `listing::handle_all` meets its contract: the first entries are handled.
 use borrow.Author.Needs.{needs}
 use mathlib.Core.Path.{_≡_}
 use mathlib.Core.List.{List}
@@ -14,13 +14,13 @@ use Rattle.rules.specs.Spares.{Spares}
 use Rattle.rules.specs.Tables.{Mesh}
 use Rattle.tables.specs.Answers.{workedOutcome}
 use Rattle.tables.specs.Lent.{meshNow}
 use Rattle.refining.specs.Batches.{Begins}
 use Rattle.reporting.specs.Told.{Told}
 use Rattle.refining.proofs.Batching.{begins-with, DoingTold, told-begins, told-goes-on, told-stops, told-ends}
 use Rattle.refining.proofs.Batching.{over-slots}
 use Rattle.refining.proofs.Refusing.{sound-standing}
-use Rattle.refining.proofs.lists.handle_all.Statement.{statement}
-use Rattle.refining.proofs.lists.handle_all.Tie as tie
+use Rattle.listing.proofs.handle_all.Statement.{statement}
+use Rattle.listing.proofs.handle_all.Tie as tie
 
 abbrev Inv-loop : tie.InvT-loop
 Inv-loop positions₀ corners₀ links₀ generations₀ locks₀ counts list start report₀ _ _ _ _ positions corners links

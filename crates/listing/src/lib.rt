@@ -1,7 +1,7 @@
 // A list of triangles refined one after the other, in spare tables.
-use crate::spares::Batch;
-use crate::spares::BatchReported;
-use crate::spares::BatchWorked;
+use refining::spares::Batch;
+use refining::spares::BatchReported;
+use refining::spares::BatchWorked;
 use tables::Counts;
 use tables::Worked;
 ghost use mathlib.Core.Path.{_≡_};
@@ -14,10 +14,10 @@ ghost use Rattle.rules.specs.Tables.{Mesh};
 ghost use Rattle.tables.specs.Answers.{workedOutcome};
 ghost use Rattle.tables.specs.Lent.{meshNow, sparesNow};
 ghost use Rattle.reporting.specs.Told.{Told, toldUnless};
 ghost use Rattle.refining.specs.Batches.{StartsWith, Begins, Holds, Handles, MayWork, listDone, batchOutcome};
-ghost use Rattle.refining.specs.Batches.{onlyRead, refusedForeseen, foreseenOf, foreseenOutcome, fitted};
-ghost use Rattle.refining.specs.Batches.{reportLeft, reportedDone};
+ghost use Rattle.refining.specs.Batches.{onlyRead, fitted, reportLeft, reportedDone};
 ghost use Rattle.refining.specs.Standing.{standing};
+ghost use Rattle.listing.specs.Foreseen.{refusedForeseen, foreseenOf, foreseenOutcome};
 
 // Handles entry t on a sound mesh, judged by the triangles that were in use at the call's start, and their generations,
 // told from place `at` of the report on.
@@ -62,7 +62,7 @@ fn handle(
             counts,
         };
     }
-    crate::refine(
+    refining::refine(
         positions,
         corners,
         links,
@@ -242,7 +242,7 @@ fn work_reported(
         spare_generations,
         spare_locks,
     );
-    let fitted = crate::spares::fit(first, report.len());
+    let fitted = refining::spares::fit(first, report.len());
     if fitted.refusal != 0 {
         return fitted;
     }
@@ -307,7 +307,7 @@ pub fn refine_list(
         spare_generations,
         spare_locks,
     );
-    crate::spares::carry_back(
+    refining::spares::carry_back(
         positions,
         corners,
         links,
@@ -369,7 +369,7 @@ pub fn refine_list_reported(
         spare_generations,
         spare_locks,
     );
-    let done = crate::spares::carry_back(
+    let done = refining::spares::carry_back(
         positions,
         corners,
         links,

@@ -1,12 +1,12 @@
--- `refining::lists::handle` meets its contract.
+-- `listing::handle` meets its contract.
 use borrow.Author.Needs.{needs}
 use mathlib.Core.Path.{_∙_}
 use Rattle.rules.specs.Tables.{Mesh}
 use Rattle.tables.specs.Lent.{meshNow}
 use Rattle.reporting.proofs.Telling.{tells-none}
 use Rattle.refining.proofs.Batching.{entry-eight, entry-passed, entry-refined, passed-told, refined-told}
-use Rattle.refining.proofs.lists.handle.Statement.{statement}
-use Rattle.refining.proofs.lists.handle.Tie as tie
+use Rattle.listing.proofs.handle.Statement.{statement}
+use Rattle.listing.proofs.handle.Tie as tie
 
 abbrev mesh-of : tie.Start → Mesh
 mesh-of c =

@@ -1,9 +1,9 @@
--- `refining::lists::refine_list` meets its contract.
+-- `listing::refine_list` meets its contract.
 use borrow.Author.Needs.{needs}
 use native.Mathlib.Omega.{arith}
 use Rattle.refining.proofs.Batching.{list-made}
-use Rattle.refining.proofs.lists.refine_list.Statement.{statement}
-use Rattle.refining.proofs.lists.refine_list.Tie as tie
+use Rattle.listing.proofs.refine_list.Statement.{statement}
+use Rattle.listing.proofs.refine_list.Tie as tie
 
 slice-aggregate-work-in-spares : tie.Need-slice-aggregate-work-in-spares
 slice-aggregate-work-in-spares c = search needs

@@ -1,8 +1,9 @@
--- `refining::lists::preview` meets its contract.
+-- `listing::preview` meets its contract.
 use borrow.Author.Needs.{needs}
-use Rattle.refining.proofs.Batching.{list-made, foreseen-is}
-use Rattle.refining.proofs.lists.preview.Statement.{statement}
-use Rattle.refining.proofs.lists.preview.Tie as tie
+use Rattle.refining.proofs.Batching.{list-made}
+use Rattle.listing.proofs.Foreseeing.{foreseen-is}
+use Rattle.listing.proofs.preview.Statement.{statement}
+use Rattle.listing.proofs.preview.Tie as tie
 
 slice-aggregate-work-in-spares : tie.Need-slice-aggregate-work-in-spares
 slice-aggregate-work-in-spares c = search needs

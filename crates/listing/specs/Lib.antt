@@ -1,0 +1,2 @@
+-- What the contracts of lists cite beside the rules.
+pub mod Foreseen
