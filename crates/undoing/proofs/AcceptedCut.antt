@@ -21,9 +21,9 @@ use Rattle.rules.specs.Notes.{sameInUse, Accepted, accepted}
 use Rattle.rules.specs.Sound.{Sound}
 use Rattle.rules.specs.Split.{Work}
 use Rattle.rules.specs.Tables.{Mesh, sides, origin, link, generation, lock}
-use Rattle.undoing.specs.Fitting.{noteFits, NoteFits}
+use Rattle.restoring.specs.Fitting.{noteFits, NoteFits}
 use Rattle.undoing.specs.Trying.{cut, refinesTo, acceptedCut}
-use Rattle.undoing.proofs.NoteTests.{note-fits-is, accepted-fits}
+use Rattle.restoring.proofs.NoteTests.{note-fits-is, accepted-fits}
 use Rattle.undoing.proofs.Shorter.{Fits, FitsRefined, cut-sound, whole-sound, cut-refusal-same, cut-carried-out}
 use Rattle.undoing.proofs.Shorter.{cut-refine}
 

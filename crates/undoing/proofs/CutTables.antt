@@ -15,7 +15,7 @@ use Rattle.rules.specs.Tables.{Mesh, withTopology, withCounts}
 use Rattle.refining.proofs.Batching.{has-slots}
 use Rattle.tables.specs.declared.Counts.{Counts}
 use Rattle.tables.specs.Lent.{meshNow, sparesNow, HasSlots}
-use Rattle.undoing.specs.Putting.{SlotRoom}
+use Rattle.restoring.specs.Putting.{SlotRoom}
 use Rattle.undoing.specs.Trying.{cut, JustSlots}
 
 -- ---- slots put back into cut tables

@@ -1,7 +1,4 @@
 -- What the proofs of taking back share.
-pub mod SlotsBack
-pub mod NoteTests
-pub mod SameMeshes
 pub mod CutTables
 pub mod Shorter
 pub mod AcceptedCut

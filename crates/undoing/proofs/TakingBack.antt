@@ -22,12 +22,12 @@ use Rattle.refining.specs.Standing.{standing}
 use Rattle.soundness.proofs.Answers.{refused, passed}
 use Rattle.tables.specs.declared.Counts.{Counts}
 use Rattle.tables.specs.Lent.{meshNow}
-use Rattle.undoing.specs.Fitting.{noteFits, NoteFits}
-use Rattle.undoing.specs.Putting.{SlotRoom}
+use Rattle.restoring.specs.Fitting.{noteFits, NoteFits}
+use Rattle.restoring.specs.Putting.{SlotRoom}
 use Rattle.undoing.specs.Trying.{acceptedCut}
 use Rattle.undoing.proofs.AcceptedCut.{accepted-counts, accepted-tried}
 use Rattle.undoing.proofs.CutTables.{recounted-back}
-use Rattle.undoing.proofs.NoteTests.{note-fits-is, accepted-fits}
+use Rattle.restoring.proofs.NoteTests.{note-fits-is, accepted-fits}
 
 -- ---- the refusal, found test by test
 

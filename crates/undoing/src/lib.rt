@@ -8,9 +8,6 @@ ghost use Rattle.tables.specs.Lent.{meshNow};
 ghost use Rattle.rules.specs.Notes.{takeBackRefusal, takeBackCall};
 ghost use Rattle.refining.specs.Standing.{standing};
 
-mod comparing;
-mod fitting;
-mod putting;
 mod trying;
 
 // The refusal of a take-back, on a mesh whose own first refusal is `bad`; or 0.
@@ -32,7 +29,7 @@ fn refusal(
     if bad != 0 {
         return bad;
     }
-    if !fitting::note_fits(note) {
+    if !restoring::fitting::note_fits(note) {
         return 21;
     }
     if !trying::accepts(positions, corners, links, generations, locks, counts, note) {
@@ -78,7 +75,7 @@ pub fn take_back(
             counts,
         };
     }
-    putting::put_back_all(corners, links, generations, locks, note);
+    restoring::putting::put_back_all(corners, links, generations, locks, note);
     Worked {
         refusal: 0,
         splits: 0,

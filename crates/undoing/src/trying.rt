@@ -1,6 +1,6 @@
 // A note tried in tables of its own: the mesh that it restores, refined, is to be the present one.
-use crate::comparing::same_in_use;
-use crate::putting::put_back_all;
+use restoring::comparing::same_in_use;
+use restoring::putting::put_back_all;
 use tables::Counts;
 use tables::copies::copy_mesh;
 ghost use mathlib.Core.Bool.{_&&_};
@@ -8,7 +8,7 @@ ghost use mathlib.Core.Path.{_≡_};
 ghost use lib.Dec.{leb};
 ghost use Rattle.rules.specs.Sound.{Sound};
 ghost use Rattle.tables.specs.Lent.{meshNow, HasSlots};
-ghost use Rattle.undoing.specs.Fitting.{NoteFits};
+ghost use Rattle.restoring.specs.Fitting.{NoteFits};
 ghost use Rattle.undoing.specs.Trying.{refinesTo, acceptedCut, JustSlots, Within};
 
 // Whether an old mesh is sound and refining t there makes the present one.
