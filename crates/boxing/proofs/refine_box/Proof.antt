@@ -1,7 +1,7 @@
 -- `boxing::refine_box` meets its contract.
 use borrow.Author.Needs.{needs}
 use native.Mathlib.Omega.{arith}
-use Rattle.boxing.proofs.Begins.{box-made}
+use Rattle.wanting.proofs.Begins.{box-made}
 use Rattle.boxing.proofs.refine_box.Statement.{statement}
 use Rattle.boxing.proofs.refine_box.Tie as tie
 

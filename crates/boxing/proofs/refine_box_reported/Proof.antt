@@ -12,7 +12,7 @@ use Rattle.rules.specs.Spares.{Spares}
 use Rattle.rules.specs.Tables.{Mesh}
 use Rattle.tables.specs.Lent.{meshNow, sparesNow}
 use Rattle.refining.specs.Batches.{Made, batchOutcome, fitted}
-use Rattle.boxing.proofs.Begins.{box-going}
+use Rattle.wanting.proofs.Begins.{box-going}
 use Rattle.refining.proofs.Fitting.{fitted-made, few-answered, reported-is}
 use Rattle.boxing.proofs.refine_box_reported.Statement.{statement}
 use Rattle.boxing.proofs.refine_box_reported.Tie as tie

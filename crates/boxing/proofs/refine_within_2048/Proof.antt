@@ -1,7 +1,7 @@
 -- `boxing::refine_within_2048` meets its contract.
 use borrow.Author.Needs.{needs}
 use native.Mathlib.Omega.{arith}
-use Rattle.boxing.proofs.Turn.{none-put, none-seen}
+use Rattle.wanting.proofs.Turn.{none-put, none-seen}
 use Rattle.boxing.proofs.refine_within_2048.Statement.{statement}
 use Rattle.boxing.proofs.refine_within_2048.Tie as tie
 

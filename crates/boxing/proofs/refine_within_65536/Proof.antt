@@ -1,8 +1,8 @@
 -- `boxing::refine_within_65536` meets its contract.
 use borrow.Author.Needs.{needs}
 use native.Mathlib.Omega.{arith}
-use Rattle.boxing.proofs.Begins.{begins-sound}
-use Rattle.boxing.proofs.Turn.{none-put, none-seen}
+use Rattle.wanting.proofs.Begins.{begins-sound}
+use Rattle.wanting.proofs.Turn.{none-put, none-seen}
 use Rattle.boxing.proofs.refine_within_65536.Statement.{statement}
 use Rattle.boxing.proofs.refine_within_65536.Tie as tie
 

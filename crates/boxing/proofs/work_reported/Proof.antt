@@ -7,7 +7,7 @@ use Rattle.rules.specs.Spares.{Spares}
 use Rattle.rules.specs.Tables.{Mesh}
 use Rattle.tables.specs.Lent.{meshNow, sparesNow}
 use Rattle.refining.specs.Batches.{Made}
-use Rattle.boxing.proofs.Begins.{box-made}
+use Rattle.wanting.proofs.Begins.{box-made}
 use Rattle.refining.proofs.Fitting.{made-few, may-again, done-again, fit-holds, fit-failed, fit-done}
 use Rattle.boxing.proofs.work_reported.Statement.{statement}
 use Rattle.boxing.proofs.work_reported.Tie as tie

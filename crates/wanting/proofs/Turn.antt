@@ -31,9 +31,9 @@ use Rattle.rules.specs.Split.{atFirst, chainEnd, refine}
 use Rattle.rules.specs.Tables.{Topology, Mesh, vertexSlots, coordinate, link}
 use Rattle.split.specs.Made.{BaseChain}
 use Rattle.split.specs.declared.Chain.{Chain}
-use Rattle.boxing.specs.Boxing.{Seen, SeenFrom, Right, MarksFit, Marking, Unseen, Unmarked, Refines}
-use Rattle.boxing.specs.Boxing.{nearby, Stale, MarkedFrom, Mended}
-use Rattle.boxing.proofs.Marking.{fit-as}
+use Rattle.wanting.specs.Wanting.{Seen, SeenFrom, Right, MarksFit, Marking, Unseen, Unmarked, Refines}
+use Rattle.wanting.specs.Wanting.{nearby, Stale, MarkedFrom, Mended}
+use Rattle.wanting.proofs.Marking.{fit-as}
 
 pub refine-carried : (t : ℕ) (x : Mesh) {o : Outcome} → o ≡ refineCall t x → o .answer .refusal ≡ 0
     → Refines t x (o .mesh)

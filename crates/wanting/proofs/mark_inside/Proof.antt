@@ -1,12 +1,12 @@
--- `boxing::mark_inside` meets its contract: the vertices before v are marked where they lie in the box.
+-- `wanting::mark_inside` meets its contract: the vertices before v are marked where they lie in the box.
 use borrow.Author.Needs.{needs}
 use mathlib.Core.Logic.{inl, inr}
 use Prim.Native.Nat.{_-_, _≤_, _<_}
 use native.Mathlib.Omega.{arith}
-use Rattle.boxing.specs.Boxing.{SeenFrom}
-use Rattle.boxing.proofs.Marking.{seen-begins, seen-put, seen-past, seen-ends}
-use Rattle.boxing.proofs.mark_inside.Statement.{statement}
-use Rattle.boxing.proofs.mark_inside.Tie as tie
+use Rattle.wanting.specs.Wanting.{SeenFrom}
+use Rattle.wanting.proofs.Marking.{seen-begins, seen-put, seen-past, seen-ends}
+use Rattle.wanting.proofs.mark_inside.Statement.{statement}
+use Rattle.wanting.proofs.mark_inside.Tie as tie
 
 abbrev Inv-loop : tie.InvT-loop
 Inv-loop positions from vertices low high inside₀ v₀ inside v =

@@ -1,4 +1,4 @@
--- `boxing::mark_from` meets its contract: the slots before t are marked where they are wanted.
+-- `wanting::mark_from` meets its contract: the slots before t are marked where they are wanted.
 use borrow.Author.Needs.{needs}
 use mathlib.Core.Logic.{inl, inr}
 use mathlib.Core.Path.{_≡_, refl, _∙_}
@@ -7,11 +7,11 @@ use native.Mathlib.Omega.{arith}
 use lib.ListN.{length}
 use Rattle.rules.specs.Boxes.{Box}
 use Rattle.rules.specs.Tables.{Mesh}
-use Rattle.boxing.specs.Boxing.{Looks}
-use Rattle.boxing.proofs.Marking.{fit-for, slot-used, has-mark, mark-right, off-right}
-use Rattle.boxing.proofs.Marking.{MarkedTo, marked-begins, marked-on, marked-ends}
-use Rattle.boxing.proofs.mark_from.Statement.{statement}
-use Rattle.boxing.proofs.mark_from.Tie as tie
+use Rattle.wanting.specs.Wanting.{Looks}
+use Rattle.wanting.proofs.Marking.{fit-for, slot-used, has-mark, mark-right, off-right}
+use Rattle.wanting.proofs.Marking.{MarkedTo, marked-begins, marked-on, marked-ends}
+use Rattle.wanting.proofs.mark_from.Statement.{statement}
+use Rattle.wanting.proofs.mark_from.Tie as tie
 
 abbrev Inv-loop : tie.InvT-loop
 Inv-loop corners generations inside from triangles below bits₀ words₀ t₀ bits words t =

@@ -1,4 +1,4 @@
--- `boxing::is_wanted` meets its contract.
+-- `wanting::is_wanted` meets its contract.
 use borrow.Author.Needs.{needs}
 use borrow.Author.Tests.{not-true, not-false}
 use mathlib.Core.Bool.{Bool, true, false, _&&_, _||_}
@@ -11,9 +11,9 @@ use lib.ListN.{length, getD}
 use Rattle.marks.specs.Marks.{marked}
 use Rattle.rules.specs.Boxes.{Box, inBox, wanted}
 use Rattle.rules.specs.Tables.{Mesh, origin}
-use Rattle.boxing.specs.Boxing.{Looks}
-use Rattle.boxing.proofs.is_wanted.Statement.{statement}
-use Rattle.boxing.proofs.is_wanted.Tie as tie
+use Rattle.wanting.specs.Wanting.{Looks}
+use Rattle.wanting.proofs.is_wanted.Statement.{statement}
+use Rattle.wanting.proofs.is_wanted.Tie as tie
 
 and-false : (x : Bool) → false ≡ (x && false)
 and-false true = refl

@@ -1,4 +1,4 @@
--- `boxing::refine_marked` meets its contract.
+-- `wanting::refine_marked` meets its contract.
 use borrow.Author.Needs.{needs}
 use mathlib.Core.List.{List}
 use mathlib.Core.Path.{refl}
@@ -7,12 +7,12 @@ use Rattle.points.specs.Axes.{boxOf}
 use Rattle.rules.specs.Boxes.{Box}
 use Rattle.rules.specs.Tables.{Mesh}
 use Rattle.tables.specs.Lent.{meshNow}
-use Rattle.boxing.specs.Boxing.{SeenFrom, Refines, Stale, Looks}
+use Rattle.wanting.specs.Wanting.{SeenFrom, Refines, Stale, Looks}
 use Rattle.refining.proofs.Locking.{follows}
 use Rattle.refining.proofs.Refusing.{sound-standing}
-use Rattle.boxing.proofs.Turn.{refine-carried, refined-sound, stale, seen-after, sees-new}
-use Rattle.boxing.proofs.refine_marked.Statement.{statement}
-use Rattle.boxing.proofs.refine_marked.Tie as tie
+use Rattle.wanting.proofs.Turn.{refine-carried, refined-sound, stale, seen-after, sees-new}
+use Rattle.wanting.proofs.refine_marked.Statement.{statement}
+use Rattle.wanting.proofs.refine_marked.Tie as tie
 
 abbrev mesh-of : tie.Start → Mesh
 mesh-of c =

@@ -1,9 +1,9 @@
--- `boxing::in_box` meets its contract.
+-- `wanting::in_box` meets its contract.
 use borrow.Author.Needs.{needs}
 use mathlib.Core.Path.{ap, _∙_}
 use Rattle.points.specs.Axes.{inBox}
-use Rattle.boxing.proofs.in_box.Statement.{statement}
-use Rattle.boxing.proofs.in_box.Tie as tie
+use Rattle.wanting.proofs.in_box.Statement.{statement}
+use Rattle.wanting.proofs.in_box.Tie as tie
 
 point-in-requires : tie.Need-point-in-requires
 point-in-requires c κs = search needs

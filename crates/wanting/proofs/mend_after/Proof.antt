@@ -1,12 +1,12 @@
--- `boxing::mend_after` meets its contract: the new slots first, then those that were in use.
+-- `wanting::mend_after` meets its contract: the new slots first, then those that were in use.
 use borrow.Author.Needs.{needs}
 use mathlib.Core.Path.{subst}
 use Prim.Native.Nat.{ℕ, _≤_}
 use native.Mathlib.Omega.{arith}
 use Rattle.refining.proofs.Locking.{few-odd}
-use Rattle.boxing.proofs.Turn.{none-past, marks-right, fit-after, near-long}
-use Rattle.boxing.proofs.mend_after.Statement.{statement}
-use Rattle.boxing.proofs.mend_after.Tie as tie
+use Rattle.wanting.proofs.Turn.{none-past, marks-right, fit-after, near-long}
+use Rattle.wanting.proofs.mend_after.Statement.{statement}
+use Rattle.wanting.proofs.mend_after.Tie as tie
 
 mark-from-requires : tie.Need-mark-from-requires
 mark-from-requires c κs =

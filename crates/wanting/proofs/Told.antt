@@ -15,7 +15,7 @@ use Rattle.rules.specs.Split.{atFirst, refine}
 use Rattle.rules.specs.Tables.{Mesh}
 use Rattle.refining.proofs.Telling.{tells-to, told-zero, told-nothing}
 use Rattle.refining.specs.Batches.{Begins}
-use Rattle.boxing.proofs.Begins.{begins-boxing}
+use Rattle.wanting.proofs.Begins.{begins-boxing}
 
 -- So many turns were made, and told from the start of a buffer on.
 abbrev pub BoxingTold : Box → Mesh → Spares → ℕ → ℕ → ℕ → List ℕ → List ℕ → Mesh → Type 0

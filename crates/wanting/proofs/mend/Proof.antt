@@ -1,4 +1,4 @@
--- `boxing::mend` meets its contract: the marks of the first i listed slots are right.
+-- `wanting::mend` meets its contract: the marks of the first i listed slots are right.
 use borrow.Author.Needs.{needs}
 use mathlib.Core.Logic.{inl, inr}
 use mathlib.Core.Path.{_≡_, refl, _∙_}
@@ -7,11 +7,11 @@ use native.Mathlib.Omega.{arith}
 use lib.ListN.{length}
 use Rattle.rules.specs.Boxes.{Box}
 use Rattle.rules.specs.Tables.{Mesh}
-use Rattle.boxing.specs.Boxing.{Looks, Mended}
-use Rattle.boxing.proofs.Marking.{fit-for, slot-used, has-mark, mark-right}
-use Rattle.boxing.proofs.Marking.{mended-begins, mended-on, mended-past, mended-ends}
-use Rattle.boxing.proofs.mend.Statement.{statement}
-use Rattle.boxing.proofs.mend.Tie as tie
+use Rattle.wanting.specs.Wanting.{Looks, Mended}
+use Rattle.wanting.proofs.Marking.{fit-for, slot-used, has-mark, mark-right}
+use Rattle.wanting.proofs.Marking.{mended-begins, mended-on, mended-past, mended-ends}
+use Rattle.wanting.proofs.mend.Statement.{statement}
+use Rattle.wanting.proofs.mend.Tie as tie
 
 abbrev Inv-loop : tie.InvT-loop
 Inv-loop corners generations inside triangles slots count below bits₀ words₀ i₀ bits words i =

@@ -11,7 +11,7 @@ use Rattle.rules.specs.Tables.{Mesh}
 use Rattle.refining.proofs.Batching.{may-sound}
 use Rattle.refining.specs.Batches.{Begins, Made, MayWork}
 use Rattle.refining.specs.declared.spares.Batch.{Batch}
-use Rattle.boxing.specs.Boxing.{Boxes}
+use Rattle.wanting.specs.Wanting.{Boxes}
 use Prim.Native.Nat.{ℕ}
 
 module _ {m x : Mesh} {s : Spares} {g : List ℕ} (B : Begins m s g x) where

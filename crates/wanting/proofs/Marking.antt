@@ -15,7 +15,7 @@ use Rattle.points.specs.declared.Point.{Point}
 use Rattle.rules.specs.Boxes.{Box, wanted}
 use Rattle.rules.specs.Tables.{Mesh}
 use Rattle.tables.specs.Lent.{pointIn}
-use Rattle.boxing.specs.Boxing.{Looks, SeenFrom, isWanted, Right, MarksFit, MarkedFrom, Mended}
+use Rattle.wanting.specs.Wanting.{Looks, SeenFrom, isWanted, Right, MarksFit, MarkedFrom, Mended}
 
 -- Whether the marks fit depends on the number of slots, the number of words and the two levels alone.
 pub fit-as : {m n : Mesh} {x y v w : List ℕ} → MarksFit m x v

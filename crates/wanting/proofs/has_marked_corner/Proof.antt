@@ -1,11 +1,11 @@
--- `boxing::has_marked_corner` meets its contract: the corners are looked at in turn.
+-- `wanting::has_marked_corner` meets its contract: the corners are looked at in turn.
 use borrow.Author.Needs.{needs}
 use mathlib.Core.Path.{refl, sym, _∙_}
 use Prim.Native.Nat.{_*_}
 use native.Mathlib.Nat.{add-zero}
 use native.Mathlib.Omega.{arith}
-use Rattle.boxing.proofs.has_marked_corner.Statement.{statement}
-use Rattle.boxing.proofs.has_marked_corner.Tie as tie
+use Rattle.wanting.proofs.has_marked_corner.Statement.{statement}
+use Rattle.wanting.proofs.has_marked_corner.Tie as tie
 
 mul-i : tie.Need-mul-i
 mul-i c = search needs

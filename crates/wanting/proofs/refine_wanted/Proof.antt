@@ -1,4 +1,4 @@
--- `boxing::refine_wanted` meets its contract: turn by turn, with the marks right before each.
+-- `wanting::refine_wanted` meets its contract: turn by turn, with the marks right before each.
 use mathlib.Core.List.{List}
 use mathlib.Core.Path.{_≡_, refl, _∙_}
 use mathlib.Core.Logic.{_≢_}
@@ -21,14 +21,14 @@ use Rattle.tables.specs.Answers.{workedOutcome}
 use Rattle.tables.specs.Lent.{meshNow}
 use Rattle.reporting.specs.Told.{Told}
 use Rattle.refining.specs.Batches.{Begins}
-use Rattle.boxing.specs.Boxing.{SeenFrom, Looks, Marked}
+use Rattle.wanting.specs.Wanting.{SeenFrom, Looks, Marked}
 use Rattle.refining.proofs.Batching.{over-slots}
-use Rattle.boxing.proofs.Begins.{begins-sound}
-use Rattle.boxing.proofs.Told.{BoxingTold, told-begins, told-on, told-stops, told-ends}
-use Rattle.boxing.proofs.Turn.{refine-carried, lowest-wanted, none-wanted, marked-all, unmarked-fit}
-use Rattle.boxing.proofs.Turn.{seen-all, grows-by}
-use Rattle.boxing.proofs.refine_wanted.Statement.{statement}
-use Rattle.boxing.proofs.refine_wanted.Tie as tie
+use Rattle.wanting.proofs.Begins.{begins-sound}
+use Rattle.wanting.proofs.Told.{BoxingTold, told-begins, told-on, told-stops, told-ends}
+use Rattle.wanting.proofs.Turn.{refine-carried, lowest-wanted, none-wanted, marked-all, unmarked-fit}
+use Rattle.wanting.proofs.Turn.{seen-all, grows-by}
+use Rattle.wanting.proofs.refine_wanted.Statement.{statement}
+use Rattle.wanting.proofs.refine_wanted.Tie as tie
 
 abbrev Inv-loop : tie.InvT-loop
 Inv-loop positions₀ corners₀ links₀ generations₀ locks₀ low high below inside₀ bits₀ words₀ report₀ handled₀ splits₀

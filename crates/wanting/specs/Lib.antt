@@ -1,0 +1,2 @@
+-- What the contracts of wanted triangles cite beside the rules.
+pub mod Wanting
