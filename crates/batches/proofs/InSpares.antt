@@ -6,9 +6,9 @@ use mathlib.Core.Logic.{_≢_}
 use mathlib.Core.Path.{_≡_, refl, sym, ap, _∙_}
 use Prim.Native.Nat.{ℕ}
 use native.Mathlib.Omega.{arith}
-use Rattle.rules.proofs.Boxes.BoxCall.{box-sound}
-use Rattle.rules.proofs.Calls.FirstThatHolds.{refuses, carries}
-use Rattle.rules.proofs.Lists.ListCall.{spares-sound}
+use Rattle.theory.proofs.Boxes.BoxCall.{box-sound}
+use Rattle.theory.proofs.Calls.FirstThatHolds.{refuses, carries}
+use Rattle.theory.proofs.Lists.ListCall.{spares-sound}
 use Rattle.rules.specs.Boxes.{Box, boxFits, boxRefusal, boxCall}
 use Rattle.rules.specs.Calls.{firstOf, _if_, spareRoom, refusedWith}
 use Rattle.rules.specs.Lists.{sparesRefusal, listCall, previewCall}

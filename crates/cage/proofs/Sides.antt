@@ -4,7 +4,7 @@ use mathlib.Core.List.{List}
 use mathlib.Core.Logic.{_≢_}
 use Prim.Native.Nat.{ℕ, _*_}
 use lib.ListN.{getD}
-use Rattle.rules.proofs.Numbers.Fill.{fill-same}
+use Rattle.theory.proofs.Numbers.Fill.{fill-same}
 use Rattle.rules.specs.Below.{fill}
 use Rattle.rules.specs.Cage.{Cage}
 use Rattle.cage.specs.Answers.{SidesLeft}

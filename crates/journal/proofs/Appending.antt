@@ -10,7 +10,7 @@ use mathlib.Core.Path.{_≡_, refl, ap, sym, _∙_}
 use lib.ListN.{length, getD, take, drop, set, length-append}
 use lib.Seq.{sets, sets-eq, length-sets, length-take-le, take-suc, take-at, drop-at}
 use Rattle.crc.specs.Crc.{crc32}
-use Rattle.rules.proofs.Numbers.Decide.{is-le, is-and, when-true}
+use Rattle.theory.proofs.Numbers.Decide.{is-le, is-and, when-true}
 use Rattle.journal.specs.Appending.{Put}
 use Rattle.journal.specs.Journal.{Entry, fourBytes, bytesOf, sealed, recordOf, encode, headerOf, isRoom, wroteIf}
 use Rattle.journal.specs.Journal.{wrote}

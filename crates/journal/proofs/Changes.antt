@@ -5,12 +5,19 @@ use mathlib.Core.List.{List}
 use mathlib.Core.Logic.{_≢_}
 use mathlib.Core.Path.{_≡_, refl, ap, sym, subst, _∙_}
 use native.Mathlib.Decide.{ℕ-discrete}
-use Rattle.rules.proofs.Boxes.BoxCall.{box-sound}
-use Rattle.rules.proofs.Lists.ListCall.{same-sizes-is, spares-sound}
-use Rattle.rules.proofs.Numbers.Decide.{is-same, is-true}
-use Rattle.rules.proofs.Results.{refusal-leaves, load-carried, refine-carried, whole-step-carried, lock-carried}
-use Rattle.rules.proofs.Results.{noted-is-refine, take-back-carried, list-carried, box-carried, reported-carried}
-use Rattle.rules.proofs.Soundness.Relaxed.{SameSlots}
+use Rattle.theory.proofs.Boxes.BoxCall.{box-sound}
+use Rattle.theory.proofs.Lists.ListCall.{same-sizes-is, spares-sound}
+use Rattle.theory.proofs.Numbers.Decide.{is-same, is-true}
+use Rattle.theory.proofs.Results.Refusing.{refusal-leaves}
+use Rattle.theory.proofs.Results.Load.{load-carried}
+use Rattle.theory.proofs.Results.Refine.{refine-carried}
+use Rattle.theory.proofs.Results.WholeStep.{whole-step-carried}
+use Rattle.theory.proofs.Results.Locks.{lock-carried}
+use Rattle.theory.proofs.Results.Notes.{noted-is-refine, take-back-carried}
+use Rattle.theory.proofs.Results.Lists.{list-carried}
+use Rattle.theory.proofs.Results.Boxes.{box-carried}
+use Rattle.theory.proofs.Results.Reports.{reported-carried}
+use Rattle.theory.proofs.Soundness.Relaxed.{SameSlots}
 use Rattle.rules.specs.Boxes.{Box, refineInBox, boxRefusal, boxCall}
 use Rattle.rules.specs.Calls.{Outcome, spareRoom, unless}
 use Rattle.rules.specs.History.{Change, loads, refines, steps, refinesEach, refinesInBox, setsLock, refinesNoted}

@@ -10,7 +10,7 @@ use lib.ListN.{length, getD, drop, take-append-drop, length-append}
 use lib.Seq.{drop-at, take-all}
 use Rattle.crc.proofs.Bytes.{drop-bytes}
 use Rattle.crc.specs.Bytes.{AreBytes}
-use Rattle.rules.proofs.Numbers.Decide.{Decides, is-eq, is-le, is-and, is-or, when-true, is-same, is-true}
+use Rattle.theory.proofs.Numbers.Decide.{Decides, is-eq, is-le, is-and, is-or, when-true, is-same, is-true}
 use Rattle.rules.specs.Boxes.{Box}
 use Rattle.rules.specs.Numbers.{numberAt, signed}
 use Rattle.journal.specs.Journal.{Entry, loaded, refined, stepped, refinedEach, refinedInBox, lockSet, takenBack}

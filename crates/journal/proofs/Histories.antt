@@ -9,7 +9,7 @@ use mathlib.Core.Path.{_≡_, refl, ap, sym, subst, _∙_}
 use lib.Dec.{eqb}
 use lib.ListN.{length, drop, length-append}
 use lib.Seq.{drop-at, drop-append-seam}
-use Rattle.rules.proofs.Calls.EveryCall.{question-stands}
+use Rattle.theory.proofs.Calls.EveryCall.{question-stands}
 use Rattle.rules.specs.History.{Change, changed, Question, Call, changes, asks, asked, outcome, after}
 use Rattle.rules.specs.Spares.{Spares, SameSizes}
 use Rattle.rules.specs.Tables.{Mesh, vertexSlots, triangleSlots}

@@ -11,8 +11,8 @@ use mathlib.Core.Path.{_≡_, refl, ap, sym, subst, _∙_}
 use lib.Dec.{ltb}
 use lib.ListN.{length, take, drop, length-drop, length-append}
 use lib.Seq.{drop-drop, drop-append-le}
-use Rattle.rules.proofs.Calls.EveryCall.{question-stands}
-use Rattle.rules.proofs.Soundness.Relaxed.{SameSlots}
+use Rattle.theory.proofs.Calls.EveryCall.{question-stands}
+use Rattle.theory.proofs.Soundness.Relaxed.{SameSlots}
 use Rattle.rules.specs.History.{Call, changes, asks, outcome, after}
 use Rattle.rules.specs.Spares.{Spares}
 use Rattle.rules.specs.Tables.{Mesh, vertexSlots, triangleSlots}

@@ -8,7 +8,7 @@ use mathlib.Core.Path.{_≡_, refl, ap, ap₂, sym, _∙_}
 use lib.Dec.{leb, ltb}
 use lib.ListN.{length, getD, take}
 use lib.Seq.{getD-take, length-take-le, take-all}
-use Rattle.rules.proofs.Loads.Alike.{all-same}
+use Rattle.theory.proofs.Loads.Alike.{all-same}
 use Rattle.rules.specs.Below.{all}
 use Rattle.rules.specs.Notes.{oldF, noteSlots, noteNine, putBack, putBackAll, restored, accepted, takeBackRefusal}
 use Rattle.rules.specs.Notes.{takeBackCall}

@@ -6,7 +6,7 @@ use mathlib.Core.Path.{_≡_, ap, sym, subst, _∙_}
 use lib.ListN.{length, getD, take, drop, set}
 use lib.Seq.{drop-length}
 use Rattle.crc.specs.Bytes.{AreBytes}
-use Rattle.rules.proofs.Results.{third-demand, sound-after, sound-kept}
+use Rattle.theory.proofs.Results.Histories.{third-demand, sound-after, sound-kept}
 use Rattle.rules.specs.Boxes.{Box, boxCall}
 use Rattle.rules.specs.History.{Change, changed, Call, after, lastLoad, nothing, cage, Kept}
 use Rattle.rules.specs.Lists.{listCall}

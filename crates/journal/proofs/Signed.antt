@@ -9,7 +9,7 @@ use lib.Signed.{ltZ}
 use mir.Syntax.{w32}
 use mir.Val.{SFits, toZ, ofZ}
 use mir.Facts.{toZ-ofZ, toZ-pos}
-use Rattle.rules.proofs.Numbers.Differences.{nat, neg, sub, equal}
+use Rattle.theory.proofs.Numbers.Differences.{nat, neg, sub, equal}
 use Rattle.journal.specs.Journal.{unsigned}
 
 -- The natural number that a machine number z is read as.

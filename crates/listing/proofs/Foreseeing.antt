@@ -5,9 +5,9 @@ use mathlib.Core.Path.{_≡_, refl, sym, ap, _∙_}
 use Prim.Native.Nat.{ℕ, zero, suc}
 use native.Mathlib.Omega.{arith}
 use lib.IntN.{ℤ}
-use Rattle.rules.proofs.Chains.Going.{Going}
-use Rattle.rules.proofs.Lists.Holding.{Done, failed-is, copied-is}
-use Rattle.rules.proofs.Spares.CopiedBack.{tablesOf}
+use Rattle.theory.proofs.Chains.Going.{Going}
+use Rattle.theory.proofs.Lists.Holding.{Done, failed-is, copied-is}
+use Rattle.theory.proofs.Spares.CopiedBack.{tablesOf}
 use Rattle.rules.specs.Calls.{outcomeOf, spareRoom}
 use Rattle.rules.specs.Lists.{Progress, sparesAnswer, allOrNothing}
 use Rattle.rules.specs.Spares.{Spares, copied, SameSizes}

@@ -5,7 +5,7 @@ use refining::spares::BatchWorked;
 use tables::Counts;
 use tables::Worked;
 ghost use mathlib.Core.Path.{_≡_};
-ghost use Rattle.rules.proofs.Lists.InSpares.{entryOutcome};
+ghost use Rattle.theory.proofs.Lists.InSpares.{entryOutcome};
 ghost use Rattle.rules.specs.Calls.{withReport};
 ghost use Rattle.rules.specs.Lists.{entryWork, refineEach};
 ghost use Rattle.rules.specs.Spares.{Spares};

@@ -9,7 +9,7 @@ use mathlib.Core.Path.{_≡_, refl, ap, sym, _∙_}
 use lib.Dec.{eqb}
 use lib.ListN.{length, take, drop, set, length-drop}
 use lib.Seq.{take-all, take-suc-set}
-use Rattle.rules.proofs.Numbers.Decide.{when-true}
+use Rattle.theory.proofs.Numbers.Decide.{when-true}
 use Rattle.points.specs.Axes.{at, boxOf}
 use Rattle.points.specs.declared.Point.{Point}
 use Rattle.rules.specs.Boxes.{Box, boxCall}

@@ -10,7 +10,7 @@ use lib.Count.{trailingZeros}
 use lib.Dec.{T, eqb}
 use lib.ListN.{length, getD, set, replicate, length-set, List·getD-eq-default}
 use lib.Seq.{getD-set-same, getD-set-other}
-use Rattle.rules.proofs.Numbers.Decide.{is-eq, is-iff, is-same, lowest-is}
+use Rattle.theory.proofs.Numbers.Decide.{is-eq, is-iff, is-same, lowest-is}
 use Rattle.rules.specs.Below.{lowest}
 use Rattle.marks.proofs.Bits.{LowestBit, lowest-bit, bit-none}
 use Rattle.marks.specs.Marks.{bitAt, marked, Levels, MarkPut}

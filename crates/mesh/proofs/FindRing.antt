@@ -6,9 +6,9 @@ use mathlib.Core.List.{List}
 use mathlib.Core.Logic.{_≢_}
 use mathlib.Core.Path.{_≡_, refl, sym, ap, _∙_}
 use lib.ListN.{length, getD}
-use Rattle.rules.proofs.Numbers.Decide.{when-true}
-use Rattle.rules.proofs.Rings.Fans.{first-in-use}
-use Rattle.rules.proofs.Soundness.SoundTest.{sound-is}
+use Rattle.theory.proofs.Numbers.Decide.{when-true}
+use Rattle.theory.proofs.Rings.Fans.{first-in-use}
+use Rattle.theory.proofs.Soundness.SoundTest.{sound-is}
 use Rattle.rules.specs.Calls.{answerOf, bufferRoom, outcomeOf, zeroPoint, ringRefusal, ringRead}
 use Rattle.rules.specs.Below.{fill}
 use Rattle.rules.specs.Ring.{firstSide, ring}

@@ -9,11 +9,11 @@ use native.Mathlib.Omega.{arith}
 use lib.Dec.{eqb, leb, ltb}
 use lib.IntN.{ℤ}
 use lib.ListN.{length}
-use Rattle.rules.proofs.Calls.CallRefusals.{position-refusal-first}
-use Rattle.rules.proofs.Calls.Carried.{lock-found}
-use Rattle.rules.proofs.Numbers.Decide.{stable}
-use Rattle.rules.proofs.Calls.FirstThatHolds.{two-kept, refuses, carries, none-hold}
-use Rattle.rules.proofs.Soundness.SoundTest.{tables-agree-is}
+use Rattle.theory.proofs.Calls.CallRefusals.{position-refusal-first}
+use Rattle.theory.proofs.Calls.Carried.{lock-found}
+use Rattle.theory.proofs.Numbers.Decide.{stable}
+use Rattle.theory.proofs.Calls.FirstThatHolds.{two-kept, refuses, carries, none-hold}
+use Rattle.theory.proofs.Soundness.SoundTest.{tables-agree-is}
 use Rattle.rules.specs.Calls.{_if_, firstOf, noRoom, bufferRoom}
 use Rattle.rules.specs.Calls.{refusedWith, roomFor, closedEven, longRing}
 use Rattle.rules.specs.Calls.{wholeStepRefusal, limitRefusal, ringRefusal, ringRead, ringCall, positionRefusal}

@@ -8,17 +8,17 @@ use native.Mathlib.Decide.{ℕ-discrete, decLt}
 use native.Mathlib.Omega.{arith}
 use lib.ListN.{length, getD, set, take, drop}
 use lib.Seq.{getD-set-same, getD-set-other, getD-take, getD-drop}
-use Rattle.rules.proofs.Calls.Carried.{found-young}
-use Rattle.rules.proofs.Chains.Altering.{place-altered, end-altered, met-altered, beside}
-use Rattle.rules.proofs.Chains.Chain.{path-odd, path-meets, path-next}
-use Rattle.rules.proofs.Chains.Listed.{Changes, onChain, besideChain, isEnd, besideEnd, besideMet, changes-exactly}
-use Rattle.rules.proofs.Chains.Refine.{chain-path, chain-bound}
-use Rattle.rules.proofs.Chains.Remembered.{path-none, path-from, path-last}
-use Rattle.rules.proofs.Links.Manifold.{Manifold, Partnered, Base, partnered}
-use Rattle.rules.proofs.Numbers.Decide.{when-true, when-false}
-use Rattle.rules.proofs.Numbers.Those.{those-are}
-use Rattle.rules.proofs.Soundness.Relaxed.{sound-manifold}
-use Rattle.rules.proofs.Splits.Bases.{base-is, boundary-not-base}
+use Rattle.theory.proofs.Calls.Carried.{found-young}
+use Rattle.theory.proofs.Chains.Altering.{place-altered, end-altered, met-altered, beside}
+use Rattle.theory.proofs.Chains.Chain.{path-odd, path-meets, path-next}
+use Rattle.theory.proofs.Chains.Listed.{Changes, onChain, besideChain, isEnd, besideEnd, besideMet, changes-exactly}
+use Rattle.theory.proofs.Chains.Refine.{chain-path, chain-bound}
+use Rattle.theory.proofs.Chains.Remembered.{path-none, path-from, path-last}
+use Rattle.theory.proofs.Links.Manifold.{Manifold, Partnered, Base, partnered}
+use Rattle.theory.proofs.Numbers.Decide.{when-true, when-false}
+use Rattle.theory.proofs.Numbers.Those.{those-are}
+use Rattle.theory.proofs.Soundness.Relaxed.{sound-manifold}
+use Rattle.theory.proofs.Splits.Bases.{base-is, boundary-not-base}
 use Rattle.rules.specs.Calls.{rimSplitsOf}
 use Rattle.rules.specs.Notes.{differs, changedSlots, refined}
 use Rattle.rules.specs.Sound.{Sound}

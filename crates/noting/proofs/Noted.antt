@@ -8,8 +8,8 @@ use native.Mathlib.Omega.{arith}
 use borrow.Author.Tests.{lt-ltb, le-ltb, leb-true, leb-false}
 use lib.Dec.{leb, ltb}
 use lib.ListN.{length, getD}
-use Rattle.rules.proofs.Calls.FirstThatHolds.{refuses, carries}
-use Rattle.rules.proofs.Notes.Reading.{length-note}
+use Rattle.theory.proofs.Calls.FirstThatHolds.{refuses, carries}
+use Rattle.theory.proofs.Notes.Reading.{length-note}
 use Rattle.rules.specs.Below.{fill}
 use Rattle.rules.specs.Calls.{Outcome, outcomeOf, bufferRoom, refusedWith, firstOf, _if_, worked, refineRefusal}
 use Rattle.rules.specs.Calls.{withReport}

@@ -5,7 +5,7 @@ use Prim.Native.Nat.{ℕ, zero, suc, _+_, _*_, _<_}
 use native.Mathlib.Omega.{arith}
 use lib.ListN.{length, getD, set, List·getD-append}
 use lib.Seq.{getD-append-add, set-set}
-use Rattle.rules.proofs.Notes.Reading.{nine-at}
+use Rattle.theory.proofs.Notes.Reading.{nine-at}
 use Rattle.rules.specs.Below.{fill}
 use Rattle.rules.specs.Notes.{nineOf, ninesOf}
 use Rattle.rules.specs.Tables.{Mesh, origin, link, generation, lock}

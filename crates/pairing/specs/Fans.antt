@@ -3,7 +3,7 @@ use Prim.Native.Nat.{ℕ}
 use mathlib.Core.Bool.{Bool, not, _&&_}
 use mathlib.Core.List.{List, []}
 use mathlib.Core.Path.{_≡_}
-use Rattle.rules.proofs.Rings.Turning.{Glued}
+use Rattle.theory.proofs.Rings.Turning.{Glued}
 use Rattle.rules.specs.Below.{all, any}
 use Rattle.rules.specs.Cage.{turnsBack}
 use Rattle.rules.specs.Sound.{hasOneFan}

@@ -3,7 +3,7 @@
 ghost use mathlib.Core.List.{[]};
 ghost use Prim.Native.Nat.{ℕ, _*_, _≤_, _<_};
 ghost use lib.ListN.{length};
-ghost use Rattle.rules.proofs.Numbers.Decide.{Decides};
+ghost use Rattle.theory.proofs.Numbers.Decide.{Decides};
 ghost use Rattle.rules.specs.Conditions.{InnerOfTwo};
 ghost use Rattle.rules.specs.Tables.{topologyOf};
 ghost use Rattle.soundness.specs.Walks.{AllBegun};

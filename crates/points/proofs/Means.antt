@@ -3,7 +3,7 @@ use Prim.Native.Nat.{ℕ, _-_, _*_, _≤_}
 use native.Mathlib.Omega.{arith}
 use native.Mathlib.Nat.{mul-le-mul}
 use mathlib.Core.Path.{_≡_, _∙_}
-use Rattle.rules.proofs.Numbers.Rounding.{weight-at-most, moved-is, limit-is}
+use Rattle.theory.proofs.Numbers.Rounding.{weight-at-most, moved-is, limit-is}
 use Rattle.rules.specs.Numbers.{weight}
 use Rattle.points.specs.Axes.{Parts, meanPoint, movedPoint, limitPoint}
 use Rattle.points.specs.declared.Point.{Point}

@@ -8,7 +8,7 @@ use lib.Signed.{mag}
 use mir.Syntax.{Width, w32, w64}
 use mir.Val.{SFits, hbits, toZ, ofZ}
 use mir.Facts.{toZ-ofZ, sfits-widen}
-use Rattle.rules.proofs.Numbers.Differences.{above, below, Is, its, nat, neg, sub, at-most, at-most-gives}
+use Rattle.theory.proofs.Numbers.Differences.{above, below, Is, its, nat, neg, sub, at-most, at-most-gives}
 use Rattle.points.specs.Axes.{SumOf}
 
 pub fit : (w : Width) {z : ℤ} {a b : ℕ} → Is z a b → a < b + 2 ^ hbits w → b ≤ a + 2 ^ hbits w → SFits w z

@@ -3,7 +3,7 @@ use Prim.Native.Nat.{ℕ, zero, suc, _*_, _≤_}
 use mathlib.Core.Bool.{Bool, _&&_}
 use lib.IntN.{ℤ, pos, negℤ, _+ℤ_, _*ℤ_}
 use lib.Signed.{_≤ℤ_}
-use Rattle.rules.proofs.Numbers.Rounding.{mean}
+use Rattle.theory.proofs.Numbers.Rounding.{mean}
 use Rattle.rules.specs.Boxes.{Box, between}
 use Rattle.rules.specs.Numbers.{nearestThird, halfUp, moved, limit}
 use Rattle.points.specs.declared.Point.{Point}

@@ -5,7 +5,7 @@ ghost use mathlib.Core.Bool.{_&&_, _||_};
 ghost use lib.Dec.{eqb, ltb};
 ghost use lib.IntN.{pos, _+ℤ_, _-ℤ_, _*ℤ_};
 ghost use lib.ListN.{length};
-ghost use Rattle.rules.proofs.Numbers.Rounding.{mean};
+ghost use Rattle.theory.proofs.Numbers.Rounding.{mean};
 ghost use Rattle.rules.specs.Boxes.{between, boxFits};
 ghost use Rattle.rules.specs.Numbers.{inRange, nearestThird, halfUp, knownRule, rounded, weight, numberAt, signed};
 ghost use Rattle.points.specs.Axes.{at, inBox, boxOf, thirds, Parts, meanPoint, movedPoint, limitPoint, plus};

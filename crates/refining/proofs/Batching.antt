@@ -9,14 +9,14 @@ use native.Mathlib.Omega.{arith}
 use lib.Dec.{leb}
 use lib.IntN.{ℤ}
 use lib.ListN.{length, getD}
-use Rattle.rules.proofs.Chains.Going.{Going}
-use Rattle.rules.proofs.Lists.Holding.{Done, going-sizes, failed-is, copied-is, holding-length}
-use Rattle.rules.proofs.Lists.InSpares.{entryOutcome, Doing, doing-begins, doing-on, doing-stops, doing-ends}
-use Rattle.rules.proofs.Lists.ListCall.{folded}
-use Rattle.rules.proofs.Numbers.Fill.{length-fill}
-use Rattle.rules.proofs.Soundness.Relaxed.{SameSlots}
-use Rattle.rules.proofs.Spares.CopiedBack.{tablesOf}
-use Rattle.rules.proofs.Spares.OverSpares.{over, over-sound}
+use Rattle.theory.proofs.Chains.Going.{Going}
+use Rattle.theory.proofs.Lists.Holding.{Done, going-sizes, failed-is, copied-is, holding-length}
+use Rattle.theory.proofs.Lists.InSpares.{entryOutcome, Doing, doing-begins, doing-on, doing-stops, doing-ends}
+use Rattle.theory.proofs.Lists.ListCall.{folded}
+use Rattle.theory.proofs.Numbers.Fill.{length-fill}
+use Rattle.theory.proofs.Soundness.Relaxed.{SameSlots}
+use Rattle.theory.proofs.Spares.CopiedBack.{tablesOf}
+use Rattle.theory.proofs.Spares.OverSpares.{over, over-sound}
 use Rattle.rules.specs.Calls.{Outcome, outcomeOf, spareRoom, noRoom, refusedWith, worked, unless}
 use Rattle.rules.specs.Calls.{refineRefusal, refineCall}
 use Rattle.rules.specs.Lists.{Progress, risen, entryRefusal, entryWork, refineEach, sparesAnswer, allOrNothing}

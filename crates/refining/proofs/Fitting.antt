@@ -9,11 +9,11 @@ use native.Mathlib.Omega.{arith}
 use lib.Dec.{ltb}
 use lib.IntN.{ℤ}
 use lib.ListN.{length}
-use Rattle.rules.proofs.Calls.ReportedCalls.{going-length}
-use Rattle.rules.proofs.Chains.Going.{Going}
-use Rattle.rules.proofs.Lists.Holding.{Holding, Done, holding-few, holding-length}
-use Rattle.rules.proofs.Lists.Preview.{copied-twice}
-use Rattle.rules.proofs.Spares.CopiedBack.{tablesOf}
+use Rattle.theory.proofs.Calls.ReportedCalls.{going-length}
+use Rattle.theory.proofs.Chains.Going.{Going}
+use Rattle.theory.proofs.Lists.Holding.{Holding, Done, holding-few, holding-length}
+use Rattle.theory.proofs.Lists.Preview.{copied-twice}
+use Rattle.theory.proofs.Spares.CopiedBack.{tablesOf}
 use Rattle.rules.specs.Calls.{Answer, Outcome}
 use Rattle.rules.specs.Calls.{withReport}
 use Rattle.rules.specs.Lists.{Progress, allOrNothing}

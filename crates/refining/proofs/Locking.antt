@@ -7,11 +7,11 @@ use native.Mathlib.Decide.{decLt}
 use native.Mathlib.Numerals.{add-one}
 use native.Mathlib.Omega.{arith}
 use lib.ListN.{length, getD, List·getD-eq-default}
-use Rattle.rules.proofs.Chains.Altering.{place-altered, end-altered}
-use Rattle.rules.proofs.Chains.Chain.{path-use}
-use Rattle.rules.proofs.Chains.Refine.{chain-path, chain-bound}
-use Rattle.rules.proofs.Numbers.Decide.{any-none, any-more}
-use Rattle.rules.proofs.Soundness.Relaxed.{sound-manifold, sound-bases}
+use Rattle.theory.proofs.Chains.Altering.{place-altered, end-altered}
+use Rattle.theory.proofs.Chains.Chain.{path-use}
+use Rattle.theory.proofs.Chains.Refine.{chain-path, chain-bound}
+use Rattle.theory.proofs.Numbers.Decide.{any-none, any-more}
+use Rattle.theory.proofs.Soundness.Relaxed.{sound-manifold, sound-bases}
 use Rattle.rules.specs.Below.{any}
 use Rattle.rules.specs.Calls.{altersLocked}
 use Rattle.rules.specs.Sound.{Sound}

@@ -7,10 +7,10 @@ use mathlib.Core.Path.{_≡_, refl, sym, ap₂, _∙_}
 use Prim.Native.Nat.{ℕ, _*_, _≤_, _<_}
 use native.Mathlib.Omega.{arith}
 use lib.Dec.{eqb, leb}
-use Rattle.rules.proofs.Numbers.Decide.{Decides, is-true, is-same}
-use Rattle.rules.proofs.Calls.Carried.{refine-found}
-use Rattle.rules.proofs.Calls.FirstThatHolds.{two-kept, two-passed, refuses, carries}
-use Rattle.rules.proofs.Soundness.SoundTest.{tables-agree-is, sound-is}
+use Rattle.theory.proofs.Numbers.Decide.{Decides, is-true, is-same}
+use Rattle.theory.proofs.Calls.Carried.{refine-found}
+use Rattle.theory.proofs.Calls.FirstThatHolds.{two-kept, two-passed, refuses, carries}
+use Rattle.theory.proofs.Soundness.SoundTest.{tables-agree-is, sound-is}
 use Rattle.rules.specs.Calls.{Test, _if_, firstOf, noRoom, refusedWith, roomFor, worked, refineRefusal, refineCall}
 use Rattle.rules.specs.Calls.{verticesOf, trianglesOf, tooOld, altersLocked}
 use Rattle.rules.specs.Sound.{Sound, isSound}

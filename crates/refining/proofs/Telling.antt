@@ -10,7 +10,7 @@ use lib.Dec.{ltb}
 use lib.ListN.{length}
 use Rattle.reporting.specs.Told.{Tells, Told, toldUnless}
 use Rattle.reporting.proofs.Telling.{tells-none}
-use Rattle.rules.proofs.Calls.ReportedCalls.{report-tells, refine-report-bound}
+use Rattle.theory.proofs.Calls.ReportedCalls.{report-tells, refine-report-bound}
 use Rattle.rules.specs.Below.{fill}
 use Rattle.rules.specs.Calls.{Outcome, withReport, worked, noRoom, refusedWith, refineRefusal, refineCall}
 use Rattle.rules.specs.Reports.{one, reportIn, reportedAs, reportedCall}

@@ -6,9 +6,9 @@ use mathlib.Core.Path.{_≡_}
 use lib.Dec.{ltb}
 use lib.IntN.{ℤ}
 use lib.ListN.{length}
-use Rattle.rules.proofs.Chains.Going.{Going}
-use Rattle.rules.proofs.Lists.Holding.{Done}
-use Rattle.rules.proofs.Spares.OverSpares.{over}
+use Rattle.theory.proofs.Chains.Going.{Going}
+use Rattle.theory.proofs.Lists.Holding.{Done}
+use Rattle.theory.proofs.Spares.OverSpares.{over}
 use Rattle.rules.specs.Calls.{Outcome, outcomeOf, spareRoom}
 use Rattle.rules.specs.Lists.{Progress, refineEach, sparesAnswer, allOrNothing}
 use Rattle.rules.specs.Reports.{reportIn, reportedAs}

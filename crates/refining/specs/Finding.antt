@@ -1,7 +1,7 @@
 -- What a refine finds before its work.
 use Prim.Native.Nat.{ℕ}
 use mathlib.Core.Path.{_≡_}
-use Rattle.rules.proofs.Calls.Carried.{RefineFound}
+use Rattle.theory.proofs.Calls.Carried.{RefineFound}
 use Rattle.rules.specs.Calls.{refineRefusal}
 use Rattle.rules.specs.Tables.{Mesh}
 use Rattle.split.specs.Made.{BaseChain}

@@ -10,8 +10,13 @@ use lib.ListN.{length, take, drop, length-drop, drop-of-length-le}
 use lib.Seq.{take-all, drop-drop, length-take-le}
 use Rattle.refining.proofs.Refusing.{sound-standing}
 use Rattle.refining.specs.Standing.{standing}
-use Rattle.rules.proofs.Results.{load-carried, refine-carried, whole-step-carried, lock-carried, take-back-carried}
-use Rattle.rules.proofs.Results.{list-carried, box-carried}
+use Rattle.theory.proofs.Results.Load.{load-carried}
+use Rattle.theory.proofs.Results.Refine.{refine-carried}
+use Rattle.theory.proofs.Results.WholeStep.{whole-step-carried}
+use Rattle.theory.proofs.Results.Locks.{lock-carried}
+use Rattle.theory.proofs.Results.Notes.{take-back-carried}
+use Rattle.theory.proofs.Results.Lists.{list-carried}
+use Rattle.theory.proofs.Results.Boxes.{box-carried}
 use Rattle.rules.specs.Calls.{Outcome}
 use Rattle.rules.specs.History.{changed}
 use Rattle.rules.specs.Numbers.{numberAt}

@@ -8,12 +8,12 @@ use native.Mathlib.Nat.{le-trans, lt-of-lt-of-le}
 use native.Mathlib.Omega.{arith}
 use lib.Dec.{leb}
 use lib.ListN.{length, getD, set, length-append, length-set, List·getD-append}
-use Rattle.rules.proofs.Calls.Carried.{RefineFound, found-refined}
-use Rattle.rules.proofs.Chains.Flipping.{refine-report-length, refine-flips}
-use Rattle.rules.proofs.Chains.RefineLoop.{few-splits}
-use Rattle.rules.proofs.Numbers.Fill.{fill-more, fill-same}
-use Rattle.rules.proofs.Splits.After.{isFlipped, isSecondFlipped, flipAfter, splitAfter}
-use Rattle.rules.proofs.Splits.Flipped.{pairAt}
+use Rattle.theory.proofs.Calls.Carried.{RefineFound, found-refined}
+use Rattle.theory.proofs.Chains.Flipping.{refine-report-length, refine-flips}
+use Rattle.theory.proofs.Chains.RefineLoop.{few-splits}
+use Rattle.theory.proofs.Numbers.Fill.{fill-more, fill-same}
+use Rattle.theory.proofs.Splits.After.{isFlipped, isSecondFlipped, flipAfter, splitAfter}
+use Rattle.theory.proofs.Splits.Flipped.{pairAt}
 use Rattle.rules.specs.Calls.{splitsOf}
 use Rattle.rules.specs.Below.{fill}
 use Rattle.rules.specs.Reports.{reportIn}

@@ -10,8 +10,8 @@ use native.Mathlib.Omega.{arith}
 use lib.Dec.{T, leb, ltb, le→leb}
 use lib.ListN.{length, getD, set, length-set}
 use lib.Seq.{getD-set-same, getD-set-other}
-use Rattle.rules.proofs.Numbers.Decide.{Decides, is-self, is-eq, is-lt, is-le, is-iff, is-and, is-or, is-all, is-same}
-use Rattle.rules.proofs.Numbers.Decide.{is-true, is-false, when-true, when-false, all-fails}
+use Rattle.theory.proofs.Numbers.Decide.{Decides, is-self, is-eq, is-lt, is-le, is-iff, is-and, is-or, is-all, is-same}
+use Rattle.theory.proofs.Numbers.Decide.{is-true, is-false, when-true, when-false, all-fails}
 use Rattle.rules.specs.Below.{all}
 use Rattle.rules.specs.Notes.{oldF, noteSlots, noteNine, putBackAll, restored, Accepted}
 use Rattle.rules.specs.Sound.{Sound}

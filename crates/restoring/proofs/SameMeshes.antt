@@ -8,8 +8,8 @@ use lib.ListN.{getD}
 use mir.Syntax.{w32}
 use mir.Val.{SFits, ofZ, toZ}
 use mir.Facts.{toZ-ofZ}
-use Rattle.rules.proofs.Notes.Tests.{same-number-is}
-use Rattle.rules.proofs.Numbers.Decide.{is-eq, is-iff, is-same}
+use Rattle.theory.proofs.Notes.Tests.{same-number-is}
+use Rattle.theory.proofs.Numbers.Decide.{is-eq, is-iff, is-same}
 use Rattle.rules.specs.Below.{all}
 use Rattle.rules.specs.Notes.{sameNumber, sameInUse}
 use Rattle.rules.specs.Tables.{Mesh, sides, origin, link, generation, lock}

@@ -9,12 +9,12 @@ use mathlib.Core.Path.{_≡_, refl, ap, _∙_, subst}
 use lib.Dec.{leb, ltb}
 use lib.IntN.{ℤ}
 use lib.ListN.{length}
-use Rattle.rules.proofs.Calls.CallRefusals.{on-rim-is}
-use Rattle.rules.proofs.Calls.FirstThatHolds.{refuses, carries}
-use Rattle.rules.proofs.Numbers.Decide.{is-same, is-true, is-false, when-true}
-use Rattle.rules.proofs.Rings.RingTheory.{ring-makes}
-use Rattle.rules.proofs.Soundness.Relaxed.{sound-manifold}
-use Rattle.rules.proofs.Soundness.SoundTest.{sound-is}
+use Rattle.theory.proofs.Calls.CallRefusals.{on-rim-is}
+use Rattle.theory.proofs.Calls.FirstThatHolds.{refuses, carries}
+use Rattle.theory.proofs.Numbers.Decide.{is-same, is-true, is-false, when-true}
+use Rattle.theory.proofs.Rings.RingTheory.{ring-makes}
+use Rattle.theory.proofs.Soundness.Relaxed.{sound-manifold}
+use Rattle.theory.proofs.Soundness.SoundTest.{sound-is}
 use Rattle.rules.specs.Below.{fill}
 use Rattle.rules.specs.Calls.{outcomeOf, answerOf, refusedWith, tableRoom, zeroPoint, firstOf, _if_}
 use Rattle.rules.specs.Promises.{RingMakes}

@@ -5,8 +5,8 @@ use Prim.Native.Nat.{ℕ, zero, suc, _+_, _-_, _≤_, _<_}
 use native.Mathlib.Decide.{decLt, ℕ-discrete}
 use native.Mathlib.Omega.{arith}
 use lib.ListN.{length}
-use Rattle.rules.proofs.Links.Manifold.{Manifold}
-use Rattle.rules.proofs.Rims.RimWalk.{along, only-side, side-along, rim-open, rim-closes, rim-short, rim-made}
+use Rattle.theory.proofs.Links.Manifold.{Manifold}
+use Rattle.theory.proofs.Rims.RimWalk.{along, only-side, side-along, rim-open, rim-closes, rim-short, rim-made}
 use Rattle.rules.specs.Rim.{rim}
 use Rattle.rules.specs.Ring.{OnBoundary, firstSide}
 use Rattle.rules.specs.Tables.{Topology, origin, target}

@@ -7,11 +7,11 @@ use Prim.Native.Nat.{ℕ, zero, suc, _/_, _≤_, _<_}
 use native.Mathlib.Omega.{arith}
 use lib.Dec.{eqb, ltb}
 use lib.ListN.{length, getD}
-use Rattle.rules.proofs.Links.Manifold.{Manifold}
-use Rattle.rules.proofs.Links.Sides.{next-lt, next-previous}
-use Rattle.rules.proofs.Numbers.Decide.{Decides, is-eq}
-use Rattle.rules.proofs.Rims.RimWalk.{ring-at, only-there, ends, goes-on}
-use Rattle.rules.proofs.Rings.Turning.{manifold-glued, rotate-back}
+use Rattle.theory.proofs.Links.Manifold.{Manifold}
+use Rattle.theory.proofs.Links.Sides.{next-lt, next-previous}
+use Rattle.theory.proofs.Numbers.Decide.{Decides, is-eq}
+use Rattle.theory.proofs.Rims.RimWalk.{ring-at, only-there, ends, goes-on}
+use Rattle.theory.proofs.Rings.Turning.{manifold-glued, rotate-back}
 use Rattle.rules.specs.Promises.{RingMakes, walkAt}
 use Rattle.rules.specs.Ring.{firstSide, fanFrom, fan}
 use Rattle.rules.specs.Tables.{Topology, sides, next, previous, target, boundary, link, rotate}

@@ -6,11 +6,11 @@ use native.Mathlib.Nat.{mod-eq-of-lt, add-mod-right}
 use native.Mathlib.Omega.{arith}
 use lib.IntN.{ℤ}
 use lib.ListN.{length, getD}
-use Rattle.rules.proofs.Links.Manifold.{Manifold}
-use Rattle.rules.proofs.Numbers.Fill.{fill-three, length-fill}
-use Rattle.rules.proofs.Rims.Curve.{point-at}
-use Rattle.rules.proofs.Rims.RimWalk.{along, side-along, rim-entry, rim-next, again, rim-made}
-use Rattle.rules.proofs.Rings.Turning.{manifold-glued}
+use Rattle.theory.proofs.Links.Manifold.{Manifold}
+use Rattle.theory.proofs.Numbers.Fill.{fill-three, length-fill}
+use Rattle.theory.proofs.Rims.Curve.{point-at}
+use Rattle.theory.proofs.Rims.RimWalk.{along, side-along, rim-entry, rim-next, again, rim-made}
+use Rattle.theory.proofs.Rings.Turning.{manifold-glued}
 use Rattle.rules.specs.Below.{fill}
 use Rattle.rules.specs.Rim.{rim, smoothed, curveAt}
 use Rattle.rules.specs.Ring.{OnBoundary, firstSide}

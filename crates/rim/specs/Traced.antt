@@ -4,8 +4,8 @@ use mathlib.Core.List.{List}
 use mathlib.Core.Path.{_≡_}
 use lib.IntN.{ℤ}
 use lib.ListN.{length}
-use Rattle.rules.proofs.Links.Manifold.{Manifold}
-use Rattle.rules.proofs.Rims.RimWalk.{RimSide, along}
+use Rattle.theory.proofs.Links.Manifold.{Manifold}
+use Rattle.theory.proofs.Rims.RimWalk.{RimSide, along}
 use Rattle.rules.specs.Calls.{Outcome, answerOf, outcomeOf, tableRoom, zeroPoint}
 use Rattle.rules.specs.Rim.{rim, curveRefusal}
 use Rattle.rules.specs.Ring.{firstSide}

@@ -10,7 +10,7 @@ use mathlib.Core.Path.{_≡_, refl, sym, _∙_, ap}
 use lib.Dec.{eqb, ltb}
 use lib.ListN.{length, getD, drop, length-drop}
 use lib.Seq.{getD-drop, drop-drop}
-use Rattle.rules.proofs.Rings.FanTotal.{walkLength}
+use Rattle.theory.proofs.Rings.FanTotal.{walkLength}
 use Rattle.rules.specs.Ring.{firstSide, fanFrom, fan, neighbours, ring}
 use Rattle.rules.specs.Tables.{Topology, sides, origin, target, next, previous, link, rotate, boundary, topologyOf}
 use Rattle.rings.specs.Rings.{ringFrom, goesOn, entriesAt, Meets}

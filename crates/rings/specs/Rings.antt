@@ -5,7 +5,7 @@ use mathlib.Core.List.{List}
 use mathlib.Core.Path.{_≡_}
 use lib.Dec.{eqb, ltb}
 use lib.ListN.{length}
-use Rattle.rules.proofs.Rings.FanTotal.{walkLength}
+use Rattle.theory.proofs.Rings.FanTotal.{walkLength}
 use Rattle.rules.specs.Ring.{fanFrom, neighbours}
 use Rattle.rules.specs.Tables.{Topology, topologyOf, boundary}
 

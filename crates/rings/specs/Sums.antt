@@ -7,7 +7,7 @@ use mathlib.Core.Path.{_≡_}
 use lib.IntN.{ℤ, pos}
 use lib.ListN.{length, getD, set}
 use Rattle.points.specs.Axes.{plus, Fits}
-use Rattle.rules.proofs.Rings.RingSums.{outOf, SumOut}
+use Rattle.theory.proofs.Rings.RingSums.{outOf, SumOut}
 use Rattle.rules.specs.Conditions.{LongRing}
 use Rattle.rules.specs.Numbers.{InRange}
 use Rattle.rules.specs.Ring.{ring}

@@ -8,7 +8,8 @@ use lib.IntN.{ℤ, pos}
 use lib.ListN.{length, getD, set}
 use lib.Signed.{leZ}
 use Rattle.rules.specs.Below.{all, those, fill}
-use Rattle.rules.specs.Calls.{Outcome, outcomeOf, answerOf, bufferRoom, noRoom, zeroPoint, worked, unless, firstOf}
+use Rattle.rules.specs.Calls.{Outcome, outcomeOf, answerOf, bufferRoom, noRoom, zeroPoint, worked, unless}
+use Rattle.rules.specs.Calls.{firstOf}
 use Rattle.rules.specs.Calls.{_if_, onSound, refineRefusal}
 use Rattle.rules.specs.Sound.{Sound, isSound}
 use Rattle.rules.specs.Split.{atFirst, refine}

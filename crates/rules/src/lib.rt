@@ -1,1 +1,1 @@
-// The rules are in specs/ and the theory about them in proofs/: no code runs here.
+// The rules are in specs/, and examples computed from them in proofs/: no code runs here.

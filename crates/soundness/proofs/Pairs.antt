@@ -4,7 +4,7 @@ use native.Mathlib.Omega.{arith}
 use mathlib.Core.Logic.{_⊎_, inl, inr}
 use mathlib.Core.Path.{_≡_, sym, ap, _∙_}
 use lib.Dec.{T}
-use Rattle.rules.proofs.Numbers.Decide.{Decides, is-self, is-eq, is-lt, is-iff, is-and, is-or}
+use Rattle.theory.proofs.Numbers.Decide.{Decides, is-self, is-eq, is-lt, is-iff, is-and, is-or}
 use Rattle.rules.specs.Sound.{Linked, role, fiveKinds}
 use Rattle.rules.specs.Tables.{Topology, sides, origin, target, boundary, link}
 use Rattle.soundness.specs.Parts.{partnerFits, linkFits}

@@ -3,11 +3,11 @@ use Prim.Native.Nat.{ℕ, _+_, _*_, _/_, _≤_, _<_}
 use native.Mathlib.Omega.{arith}
 use mathlib.Core.Logic.{_≢_}
 use mathlib.Core.Path.{_≡_, refl, sym, ap, _∙_}
-use Rattle.rules.proofs.Numbers.Decide.{Decides, is-eq, is-lt, is-le, is-not, is-iff, is-and, is-all}
-use Rattle.rules.proofs.Links.Sides.{by-triangle}
-use Rattle.rules.proofs.Rings.Turning.{Glued}
-use Rattle.rules.proofs.Soundness.Relaxed.{linked-joined}
-use Rattle.rules.proofs.Soundness.SoundTest.{SoundSide}
+use Rattle.theory.proofs.Numbers.Decide.{Decides, is-eq, is-lt, is-le, is-not, is-iff, is-and, is-all}
+use Rattle.theory.proofs.Links.Sides.{by-triangle}
+use Rattle.theory.proofs.Rings.Turning.{Glued}
+use Rattle.theory.proofs.Soundness.Relaxed.{linked-joined}
+use Rattle.theory.proofs.Soundness.SoundTest.{SoundSide}
 use Rattle.rules.specs.Below.{all}
 use Rattle.rules.specs.Tables.{Topology, sides, next, origin, target, boundary, generation}
 use Rattle.soundness.proofs.Pairs.{LinkFits, link-is, links-fit, link-fits}

@@ -6,7 +6,7 @@ use mathlib.Core.Logic.{_≢_, _⊎_}
 use mathlib.Core.Path.{_≡_}
 use lib.ListN.{length, getD}
 use Rattle.rules.specs.Below.{all}
-use Rattle.rules.proofs.Rings.Turning.{Glued}
+use Rattle.theory.proofs.Rings.Turning.{Glued}
 use Rattle.rules.specs.Ring.{firstSide}
 use Rattle.rules.specs.Sound.{hasOneFan}
 use Rattle.rules.specs.Tables.{Topology, topologyOf, boundary}

@@ -8,10 +8,10 @@ use mathlib.Core.List.{List, [], _∷_}
 use mathlib.Core.Path.{_≡_, refl, sym}
 use lib.ListN.{length, getD, set, List·getD-eq-default}
 use lib.Seq.{getD-set-same, getD-set-other, set-out}
-use Rattle.rules.proofs.Splits.Bases.{base-is}
-use Rattle.rules.proofs.Numbers.Decide.{when-true}
-use Rattle.rules.proofs.Chains.RefineLoop.{settle-counts}
-use Rattle.rules.proofs.Chains.Runs.{split-even, split-odd}
+use Rattle.theory.proofs.Splits.Bases.{base-is}
+use Rattle.theory.proofs.Numbers.Decide.{when-true}
+use Rattle.theory.proofs.Chains.RefineLoop.{settle-counts}
+use Rattle.theory.proofs.Chains.Runs.{split-even, split-odd}
 use Rattle.rules.specs.Split.{Work, withSplit, faceCut, rimCut, flip, withFlip, facePlaced, rimPlaced, settle}
 use Rattle.rules.specs.Split.{settleAll, faceSplit, rimSplit, splitAt}
 use Rattle.rules.specs.Tables.{Topology, withTopology, link, generation, isBase}

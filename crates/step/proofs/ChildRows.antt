@@ -10,10 +10,10 @@ use lib.Dec.{eqb}
 use lib.IntN.{pos}
 use lib.ListN.{length, getD}
 use borrow.Author.Tests.{eq-eqb, ne-eqb}
-use Rattle.rules.proofs.Calls.Carried.{StepFound}
-use Rattle.rules.proofs.Links.Rows.{putRows, length-rows, rows-else, rows-more}
-use Rattle.rules.proofs.Steps.Children.{childSlot, childOf, slot-0, slot-12, slot-not, slot₀, slot₁, slot₂}
-use Rattle.rules.proofs.Steps.Closed.{childCorners, childLinks, withCentres, mates}
+use Rattle.theory.proofs.Calls.Carried.{StepFound}
+use Rattle.theory.proofs.Links.Rows.{putRows, length-rows, rows-else, rows-more}
+use Rattle.theory.proofs.Steps.Children.{childSlot, childOf, slot-0, slot-12, slot-not, slot₀, slot₁, slot₂}
+use Rattle.theory.proofs.Steps.Closed.{childCorners, childLinks, withCentres, mates}
 use Rattle.rules.specs.Tables.{Topology, Mesh, topologyOf, origin, link, next, previous, putThree}
 use Rattle.tables.specs.declared.Counts.{Counts}
 use Rattle.tables.specs.Lent.{entries}

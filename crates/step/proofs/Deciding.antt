@@ -5,8 +5,8 @@ use mathlib.Core.Bool.{Bool, true, false, not}
 use mathlib.Core.List.{List}
 use mathlib.Core.Path.{_≡_, refl}
 use lib.IntN.{ℤ}
-use Rattle.rules.proofs.Calls.CallRefusals.{closed-even-is, long-ring-is}
-use Rattle.rules.proofs.Numbers.Decide.{is-true, is-false, is-same, when-true}
+use Rattle.theory.proofs.Calls.CallRefusals.{closed-even-is, long-ring-is}
+use Rattle.theory.proofs.Numbers.Decide.{is-true, is-false, is-same, when-true}
 use Rattle.rules.specs.Calls.{closedEven, longRing}
 use Rattle.rules.specs.Sound.{Sound}
 use Rattle.rules.specs.Tables.{Mesh}

@@ -2,7 +2,7 @@
 use Prim.Native.Nat.{ℕ, _+_, _*_, _/_, _≤_, _<_}
 use mathlib.Core.List.{List, [], _∷_}
 use lib.ListN.{length, getD}
-use Rattle.rules.proofs.Steps.Children.{childSlot}
+use Rattle.theory.proofs.Steps.Children.{childSlot}
 use Rattle.rules.specs.Tables.{next, putThree}
 use Rattle.tables.specs.declared.Counts.{Counts}
 use Rattle.step.specs.declared.children.Partner.{Partner}

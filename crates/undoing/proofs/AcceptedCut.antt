@@ -8,13 +8,13 @@ use lib.Dec.{T, eqb}
 use lib.IntN.{ℤ, pos}
 use lib.ListN.{getD}
 use lib.Seq.{getD-take}
-use Rattle.rules.proofs.Calls.Carried.{refine-found, found-refined}
-use Rattle.rules.proofs.Loads.Alike.{all-same}
-use Rattle.rules.proofs.Notes.Restoring.{all-sizes}
-use Rattle.rules.proofs.Notes.Tests.{accepted-is, same-in-use-is}
-use Rattle.rules.proofs.Numbers.Decide.{Decides, is-self, is-eq, is-le, is-iff, is-and, is-same}
-use Rattle.rules.proofs.Soundness.Relaxed.{SameSlots, agree-on}
-use Rattle.rules.proofs.Soundness.SoundTest.{sound-is}
+use Rattle.theory.proofs.Calls.Carried.{refine-found, found-refined}
+use Rattle.theory.proofs.Loads.Alike.{all-same}
+use Rattle.theory.proofs.Notes.Restoring.{all-sizes}
+use Rattle.theory.proofs.Notes.Tests.{accepted-is, same-in-use-is}
+use Rattle.theory.proofs.Numbers.Decide.{Decides, is-self, is-eq, is-le, is-iff, is-and, is-same}
+use Rattle.theory.proofs.Soundness.Relaxed.{SameSlots, agree-on}
+use Rattle.theory.proofs.Soundness.SoundTest.{sound-is}
 use Rattle.rules.specs.Calls.{refineRefusal}
 use Rattle.rules.specs.Notes.{refined, notedTriangle, oldV, oldF, noteSlots, restored, sameNumber}
 use Rattle.rules.specs.Notes.{sameInUse, Accepted, accepted}

@@ -6,8 +6,8 @@ use native.Mathlib.Omega.{arith}
 use lib.IntN.{ℤ, pos}
 use lib.ListN.{length, take, replicate, length-replicate}
 use lib.Seq.{length-take-le}
-use Rattle.rules.proofs.Numbers.Take.{take-set, take-three}
-use Rattle.rules.proofs.Spares.Copies.{copied-all}
+use Rattle.theory.proofs.Numbers.Take.{take-set, take-three}
+use Rattle.theory.proofs.Spares.Copies.{copied-all}
 use Rattle.rules.specs.Notes.{oldV, oldF, noteSlots, noteNine, putBack, putBackAll, restored}
 use Rattle.rules.specs.Sound.{Sound}
 use Rattle.rules.specs.Spares.{Spares, copied}

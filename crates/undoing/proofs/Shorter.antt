@@ -8,14 +8,14 @@ use lib.Dec.{T, leb}
 use lib.IntN.{pos}
 use lib.ListN.{length, take}
 use lib.Seq.{length-take-le}
-use Rattle.rules.proofs.Calls.CallRefusals.{room-is}
-use Rattle.rules.proofs.Calls.Carried.{RefineFound, found-refined}
-use Rattle.rules.proofs.Chains.Going.{going-begins, going-on, same-past}
-use Rattle.rules.proofs.Numbers.Decide.{is-same, is-true}
-use Rattle.rules.proofs.Spares.CopiedBack.{tablesOf}
-use Rattle.rules.proofs.Spares.Copies.{copied-part, copied-same}
-use Rattle.rules.proofs.Spares.OverSpares.{over, Holds, held-sound, refineTests, roomIn, sound-refusal}
-use Rattle.rules.proofs.Spares.OverSpares.{held-refusal, held-refine}
+use Rattle.theory.proofs.Calls.CallRefusals.{room-is}
+use Rattle.theory.proofs.Calls.Carried.{RefineFound, found-refined}
+use Rattle.theory.proofs.Chains.Going.{going-begins, going-on, same-past}
+use Rattle.theory.proofs.Numbers.Decide.{is-same, is-true}
+use Rattle.theory.proofs.Spares.CopiedBack.{tablesOf}
+use Rattle.theory.proofs.Spares.Copies.{copied-part, copied-same}
+use Rattle.theory.proofs.Spares.OverSpares.{over, Holds, held-sound, refineTests, roomIn, sound-refusal}
+use Rattle.theory.proofs.Spares.OverSpares.{held-refusal, held-refine}
 use Rattle.rules.specs.Calls.{_if_, firstOf, verticesOf, trianglesOf, tooOld, altersLocked, refineRefusal}
 use Rattle.rules.specs.Conditions.{RoomFor}
 use Rattle.rules.specs.Promises.{SamePast}

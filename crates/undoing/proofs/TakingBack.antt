@@ -6,11 +6,11 @@ use mathlib.Core.Path.{_≡_, refl, sym, ap, _∙_}
 use Prim.Native.Nat.{ℕ, _≤_}
 use native.Mathlib.Omega.{arith}
 use lib.IntN.{ℤ}
-use Rattle.rules.proofs.Calls.CallRefusals.{take-back-refusal-first}
-use Rattle.rules.proofs.Calls.Carried.{take-back-found}
-use Rattle.rules.proofs.Calls.FirstThatHolds.{two-kept, two-passed, none-hold, refuses, carries}
-use Rattle.rules.proofs.Numbers.Decide.{when-true, stable}
-use Rattle.rules.proofs.Soundness.SoundTest.{sound-is}
+use Rattle.theory.proofs.Calls.CallRefusals.{take-back-refusal-first}
+use Rattle.theory.proofs.Calls.Carried.{take-back-found}
+use Rattle.theory.proofs.Calls.FirstThatHolds.{two-kept, two-passed, none-hold, refuses, carries}
+use Rattle.theory.proofs.Numbers.Decide.{when-true, stable}
+use Rattle.theory.proofs.Soundness.SoundTest.{sound-is}
 use Rattle.rules.specs.Calls.{noRoom, refusedWith, worked, firstOf, _if_}
 use Rattle.rules.specs.Notes.{oldV, oldF, noteSlots, putBackAll, restored, accepted, takeBackRefusal}
 use Rattle.rules.specs.Notes.{takeBackCall}

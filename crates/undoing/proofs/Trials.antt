@@ -6,10 +6,10 @@ use mathlib.Core.Logic.{_≢_}
 use mathlib.Core.Path.{_≡_, refl, sym, ap, _∙_}
 use Prim.Native.Nat.{ℕ, _≤_, _<_}
 use lib.Dec.{eqb, leb}
-use Rattle.rules.proofs.Calls.CallRefusals.{refine-judged}
-use Rattle.rules.proofs.Calls.FirstThatHolds.{judged-refusal, judged-carried}
-use Rattle.rules.proofs.Numbers.Decide.{is-le, is-and, when-true}
-use Rattle.rules.proofs.Soundness.SoundTest.{sound-is}
+use Rattle.theory.proofs.Calls.CallRefusals.{refine-judged}
+use Rattle.theory.proofs.Calls.FirstThatHolds.{judged-refusal, judged-carried}
+use Rattle.theory.proofs.Numbers.Decide.{is-le, is-and, when-true}
+use Rattle.theory.proofs.Soundness.SoundTest.{sound-is}
 use Rattle.rules.specs.Calls.{Outcome, refineRefusal, refineCall}
 use Rattle.rules.specs.Notes.{notedTriangle, oldV, oldF, restored, refined, sameInUse}
 use Rattle.rules.specs.Sound.{isSound}

@@ -13,7 +13,7 @@ use lib.Ieee.Fits.{down-pos}
 use lib.Ieee.Scale.{round-same}
 use lib.IntN.{ℤ, pos, negsuc, natAbs}
 use lib.Pow.{shl-lt}
-use Rattle.rules.proofs.Numbers.Differences.{its, nat, neg, near, at-most-gives}
+use Rattle.theory.proofs.Numbers.Differences.{its, nat, neg, near, at-most-gives}
 use Rattle.rules.specs.Numbers.{InRange}
 use Rattle.viewer.specs.View.{scale, millimetres, negative, IsExact}
 

@@ -7,9 +7,9 @@ use native.Mathlib.Omega.{arith}
 use lib.Ieee.{Float}
 use lib.IntN.{ℤ}
 use lib.ListN.{length}
-use Rattle.rules.proofs.Calls.CallRefusals.{view-judged}
-use Rattle.rules.proofs.Calls.FirstThatHolds.{judged-carried, judged-refusal}
-use Rattle.rules.proofs.Results.{position-carried}
+use Rattle.theory.proofs.Calls.CallRefusals.{view-judged}
+use Rattle.theory.proofs.Calls.FirstThatHolds.{judged-carried, judged-refusal}
+use Rattle.theory.proofs.Results.Rings.{position-carried}
 use Rattle.rules.specs.Calls.{positionCall, viewCall}
 use Rattle.rules.specs.Numbers.{InRange}
 use Rattle.rules.specs.Sound.{Sound}

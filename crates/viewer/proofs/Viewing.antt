@@ -6,11 +6,11 @@ use Prim.Native.Nat.{ℕ, zero, suc, _+_, _*_, _/_, _%_, _≤_}
 use native.Mathlib.Omega.{arith}
 use lib.Ieee.{Float}
 use lib.ListN.{length}
-use Rattle.rules.proofs.Calls.CallRefusals.{position-judged, position-refusal-first, view-refusal-first}
-use Rattle.rules.proofs.Calls.FirstThatHolds.{Judged, carried, refused, judged-carried, none-hold}
-use Rattle.rules.proofs.Numbers.Decide.{is-lt, stable}
-use Rattle.rules.proofs.Numbers.Fill.{length-fill, getD-fill, drop-fill}
-use Rattle.rules.proofs.Soundness.SoundTest.{sound-is}
+use Rattle.theory.proofs.Calls.CallRefusals.{position-judged, position-refusal-first, view-refusal-first}
+use Rattle.theory.proofs.Calls.FirstThatHolds.{Judged, carried, refused, judged-carried, none-hold}
+use Rattle.theory.proofs.Numbers.Decide.{is-lt, stable}
+use Rattle.theory.proofs.Numbers.Fill.{length-fill, getD-fill, drop-fill}
+use Rattle.theory.proofs.Soundness.SoundTest.{sound-is}
 use Rattle.rules.specs.Below.{fill}
 use Rattle.rules.specs.Calls.{Outcome, noRoom, refusedWith, unless, zeroPoint, positionRefusal, positionRead}
 use Rattle.rules.specs.Calls.{positionCall, viewRefusal, viewRead, viewCall}

@@ -1,9 +1,9 @@
 -- A box begins with the copy of a sound mesh, and what it made is what its definition says.
 use mathlib.Core.List.{List, []}
-use Rattle.rules.proofs.Boxes.BoxCall.{box-run}
-use Rattle.rules.proofs.Chains.Going.{Going}
-use Rattle.rules.proofs.Boxes.InSpares.{Boxing, boxing-begins}
-use Rattle.rules.proofs.Spares.OverSpares.{over-sound}
+use Rattle.theory.proofs.Boxes.BoxCall.{box-run}
+use Rattle.theory.proofs.Chains.Going.{Going}
+use Rattle.theory.proofs.Boxes.InSpares.{Boxing, boxing-begins}
+use Rattle.theory.proofs.Spares.OverSpares.{over-sound}
 use Rattle.rules.specs.Boxes.{Box, refineInBox}
 use Rattle.rules.specs.Sound.{Sound}
 use Rattle.rules.specs.Spares.{Spares}

@@ -5,8 +5,8 @@ use mathlib.Core.Path.{_≡_, subst}
 use Prim.Native.Nat.{ℕ, _+_, _*_, _<_}
 use Rattle.reporting.proofs.Telling.{tells-none, tells-on}
 use Rattle.reporting.specs.Told.{Tells, Told, toldUnless}
-use Rattle.rules.proofs.Boxes.InSpares.{Boxing, boxing-on, boxing-stops, boxing-ends}
-use Rattle.rules.proofs.Lists.Holding.{Done, holding-length}
+use Rattle.theory.proofs.Boxes.InSpares.{Boxing, boxing-on, boxing-stops, boxing-ends}
+use Rattle.theory.proofs.Lists.Holding.{Done, holding-length}
 use Rattle.rules.specs.Boxes.{Box, refineInBox}
 use Rattle.rules.specs.Calls.{Outcome, refineCall}
 use Rattle.rules.specs.Conditions.{Wanted, LowestWanted}

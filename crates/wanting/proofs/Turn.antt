@@ -14,14 +14,14 @@ use Rattle.marks.proofs.Tables.{levels-begin, none-marked, zeros}
 use Rattle.marks.specs.Marks.{marked}
 use Rattle.points.specs.Axes.{boxOf}
 use Rattle.points.specs.declared.Point.{Point}
-use Rattle.rules.proofs.Boxes.Staying.{wanted-stays}
-use Rattle.rules.proofs.Boxes.Wanting.{wanted-is}
-use Rattle.rules.proofs.Calls.CallRefusals.{refine-judged}
-use Rattle.rules.proofs.Calls.Carried.{refine-found, found-refined}
-use Rattle.rules.proofs.Calls.FirstThatHolds.{judged-carried}
-use Rattle.rules.proofs.Chains.Altering.{AlteredAt, onChain, isEnd, besideEnd}
-use Rattle.rules.proofs.Numbers.Decide.{Lowest, lowest-is}
-use Rattle.rules.proofs.Splits.Bases.{reached}
+use Rattle.theory.proofs.Boxes.Staying.{wanted-stays}
+use Rattle.theory.proofs.Boxes.Wanting.{wanted-is}
+use Rattle.theory.proofs.Calls.CallRefusals.{refine-judged}
+use Rattle.theory.proofs.Calls.Carried.{refine-found, found-refined}
+use Rattle.theory.proofs.Calls.FirstThatHolds.{judged-carried}
+use Rattle.theory.proofs.Chains.Altering.{AlteredAt, onChain, isEnd, besideEnd}
+use Rattle.theory.proofs.Numbers.Decide.{Lowest, lowest-is}
+use Rattle.theory.proofs.Splits.Bases.{reached}
 use Rattle.rules.specs.Below.{lowest}
 use Rattle.rules.specs.Boxes.{Box, inBox, wanted}
 use Rattle.rules.specs.Conditions.{Wanted, LowestWanted}

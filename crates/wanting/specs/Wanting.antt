@@ -9,7 +9,7 @@ use lib.ListN.{length, getD}
 use Rattle.marks.specs.Marks.{marked, Levels}
 use Rattle.points.specs.Axes as Axes
 use Rattle.points.specs.declared.Point.{Point}
-use Rattle.rules.proofs.Calls.Carried.{RefineFound}
+use Rattle.theory.proofs.Calls.Carried.{RefineFound}
 use Rattle.rules.specs.Boxes.{Box, inBox, wanted, refineInBox}
 use Rattle.rules.specs.Sound.{Sound}
 use Rattle.rules.specs.Spares.{Spares}

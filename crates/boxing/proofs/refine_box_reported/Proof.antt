@@ -4,7 +4,7 @@ use mathlib.Core.Path.{_≡_, ap}
 use Prim.Native.Nat.{_≤_}
 use native.Mathlib.Omega.{arith}
 use Rattle.points.specs.Axes.{boxOf}
-use Rattle.rules.proofs.Chains.Going.{Going}
+use Rattle.theory.proofs.Chains.Going.{Going}
 use Rattle.rules.specs.Boxes.{Box, refineInBox}
 use Rattle.rules.specs.Calls.{Outcome}
 use Rattle.rules.specs.Lists.{Progress, allOrNothing}

@@ -2,8 +2,8 @@
 use borrow.Author.Needs.{needs}
 use native.Mathlib.Omega.{arith}
 use mathlib.Core.Path.{sym, _∙_}
-use Rattle.rules.proofs.Calls.Carried.{LoadFound, load-found}
-use Rattle.rules.proofs.Loads.LoadTests.{load-refused, load-carried}
+use Rattle.theory.proofs.Calls.Carried.{LoadFound, load-found}
+use Rattle.theory.proofs.Loads.LoadTests.{load-refused, load-carried}
 use Rattle.rules.specs.Tables.{Mesh}
 use Rattle.tables.specs.Lent.{meshNow}
 use Rattle.cage.specs.Loading.{Sized}

@@ -5,10 +5,10 @@ use Prim.Native.Nat.{ℕ}
 use native.Mathlib.Omega.{arith}
 use mathlib.Core.Bool.{true}
 use mathlib.Core.Path.{_≡_, refl, sym, _∙_}
-use Rattle.rules.proofs.Loads.CageTests.{sizes-fit-is}
-use Rattle.rules.proofs.Loads.LoadTests.{load-by-tests}
-use Rattle.rules.proofs.Numbers.Decide.{when-true}
-use Rattle.rules.proofs.Soundness.SoundTest.{tables-agree-is, known-rule-is}
+use Rattle.theory.proofs.Loads.CageTests.{sizes-fit-is}
+use Rattle.theory.proofs.Loads.LoadTests.{load-by-tests}
+use Rattle.theory.proofs.Numbers.Decide.{when-true}
+use Rattle.theory.proofs.Soundness.SoundTest.{tables-agree-is, known-rule-is}
 use Rattle.rules.specs.Cage.{sizesFit}
 use Rattle.rules.specs.Calls.{loadRefusal}
 use Rattle.rules.specs.Conditions.{SizesFit}

@@ -6,8 +6,8 @@ use mathlib.Core.Logic.{_≢_}
 use Prim.Native.Nat.{ℕ, _+_, _-_, _≤_, _<_}
 use native.Mathlib.Omega.{arith}
 use lib.ListN.{length}
-use Rattle.rules.proofs.Lists.Holding.{Done, holding-sound, holding-few}
-use Rattle.rules.proofs.Soundness.Relaxed.{SameSlots}
+use Rattle.theory.proofs.Lists.Holding.{Done, holding-sound, holding-few}
+use Rattle.theory.proofs.Soundness.Relaxed.{SameSlots}
 use Rattle.rules.specs.Calls.{Outcome}
 use Rattle.rules.specs.Lists.{refineEach}
 use Rattle.rules.specs.Spares.{Spares}

@@ -3,7 +3,7 @@ use borrow.Author.Needs.{needs}
 use mathlib.Core.Path.{_≡_, ap}
 use Prim.Native.Nat.{_≤_}
 use native.Mathlib.Omega.{arith}
-use Rattle.rules.proofs.Chains.Going.{Going}
+use Rattle.theory.proofs.Chains.Going.{Going}
 use Rattle.rules.specs.Calls.{Outcome}
 use Rattle.rules.specs.Lists.{Progress, refineEach, allOrNothing}
 use Rattle.rules.specs.Spares.{Spares}

@@ -1,6 +1,6 @@
 -- `mesh::limit` meets its contract.
 use borrow.Author.Needs.{needs}
-use Rattle.rules.proofs.Steps.StepRefusals.{limit-refused}
+use Rattle.theory.proofs.Steps.StepRefusals.{limit-refused}
 use Rattle.rules.specs.Sound.{Sound}
 use Rattle.rules.specs.Tables.{Mesh}
 use Rattle.tables.specs.Lent.{meshNow}

@@ -1,7 +1,7 @@
 -- `mesh::slot_refusal` meets its contract.
 use borrow.Author.Tests.{le-leb, lt-leb}
 use lib.Dec.{leb}
-use Rattle.rules.proofs.Calls.FirstThatHolds.{third-kept, third-holds, third-none}
+use Rattle.theory.proofs.Calls.FirstThatHolds.{third-kept, third-holds, third-none}
 use Rattle.mesh.proofs.slot_refusal.Statement.{statement}
 use Rattle.mesh.proofs.slot_refusal.Tie as tie
 

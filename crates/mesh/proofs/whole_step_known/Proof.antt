@@ -1,5 +1,5 @@
 -- `mesh::whole_step_known` meets its contract.
-use Rattle.rules.proofs.Steps.StepRefusals.{step-refused}
+use Rattle.theory.proofs.Steps.StepRefusals.{step-refused}
 use Rattle.rules.specs.Tables.{Mesh}
 use Rattle.tables.specs.Lent.{meshNow}
 use Rattle.mesh.proofs.Refusing.{step-standing}

@@ -5,7 +5,7 @@ use Prim.Native.Nat.{_-_, _<_}
 use native.Mathlib.Omega.{arith}
 use lib.ListN.{length, getD, length-set}
 use Rattle.rules.specs.Tables.{previous}
-use Rattle.rules.proofs.Links.Sides.{previous-lt}
+use Rattle.theory.proofs.Links.Sides.{previous-lt}
 use Rattle.pairing.specs.Decoded.{decoded}
 use Rattle.pairing.specs.Pairing.{Last, Linking}
 use Rattle.pairing.proofs.join.Proof.Links.{linking-none, matches, linking-more}

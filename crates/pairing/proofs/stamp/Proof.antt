@@ -5,7 +5,7 @@ use Prim.Native.Nat.{_-_, _<_}
 use native.Mathlib.Omega.{arith}
 use lib.ListN.{length, getD, length-set}
 use Rattle.rules.specs.Tables.{next}
-use Rattle.rules.proofs.Links.Sides.{next-lt}
+use Rattle.theory.proofs.Links.Sides.{next-lt}
 use Rattle.pairing.specs.Decoded.{decoded}
 use Rattle.pairing.specs.Pairing.{Last, Stamping}
 use Rattle.pairing.proofs.Stamps.{Cursor, cursor, starts, goes-on, stamp-most, stamping-none, twice, stamping-more}

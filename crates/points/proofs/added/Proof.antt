@@ -4,7 +4,7 @@ use lib.IntN.{_+ℤ_}
 use mir.Syntax.{w32}
 use mir.Val.{SFits}
 use mir.Facts.{toZ-ofZ}
-use Rattle.rules.proofs.Numbers.Differences.{its}
+use Rattle.theory.proofs.Numbers.Differences.{its}
 use Rattle.points.proofs.Signed.{fit, sum-bounds}
 use Rattle.points.proofs.added.Statement.{statement}
 use Rattle.points.proofs.added.Tie as tie

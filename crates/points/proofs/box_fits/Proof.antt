@@ -6,8 +6,8 @@ use mathlib.Core.Path.{_≡_, refl, _∙_}
 use Prim.Native.Nat.{_≤_}
 use lib.IntN.{ℤ}
 use lib.Signed.{leZ, ≤ℤ-refl}
-use Rattle.rules.proofs.Numbers.Decide.{is-same, is-true}
-use Rattle.rules.proofs.Soundness.SoundTest.{le-is}
+use Rattle.theory.proofs.Numbers.Decide.{is-same, is-true}
+use Rattle.theory.proofs.Soundness.SoundTest.{le-is}
 use Rattle.points.proofs.box_fits.Statement.{statement}
 use Rattle.points.proofs.box_fits.Tie as tie
 

@@ -6,7 +6,7 @@ use lib.IntN.{pos, _-ℤ_}
 use mir.Syntax.{w32, w64}
 use mir.Val.{SFits, toZ}
 use mir.Facts.{toZ-ofZ, toZ-pos, sfits-widen}
-use Rattle.rules.proofs.Numbers.Differences.{nat, sub}
+use Rattle.theory.proofs.Numbers.Differences.{nat, sub}
 use Rattle.points.proofs.Signed.{fit}
 use Rattle.points.proofs.lowered.Statement.{statement}
 use Rattle.points.proofs.lowered.Tie as tie

@@ -8,8 +8,8 @@ use lib.IntN.{ℤ, pos, _+ℤ_, _-ℤ_, _*ℤ_}
 use mir.Syntax.{w32}
 use mir.Facts.{toZ-ofZ}
 use Rattle.rules.specs.Numbers.{rounded}
-use Rattle.rules.proofs.Numbers.Differences.{Is, nat, add, sub, scale, equal, at-most-gives}
-use Rattle.rules.proofs.Numbers.Rounding.{mean, mean-at-most}
+use Rattle.theory.proofs.Numbers.Differences.{Is, nat, add, sub, scale, equal, at-most-gives}
+use Rattle.theory.proofs.Numbers.Rounding.{mean, mean-at-most}
 use Rattle.points.proofs.Signed.{returned, counted, sum-of-one, sum-of-some, widened, widens}
 use Rattle.points.proofs.mean_of.Statement.{statement}
 use Rattle.points.proofs.mean_of.Tie as tie

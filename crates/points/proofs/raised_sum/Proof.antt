@@ -7,7 +7,7 @@ use lib.IntN.{pos, _+ℤ_}
 use mir.Syntax.{w64}
 use mir.Val.{toZ, ofZ}
 use mir.Facts.{toZ-ofZ, toZ-pos}
-use Rattle.rules.proofs.Numbers.Differences.{above, below, its, nat, add, sub, equal}
+use Rattle.theory.proofs.Numbers.Differences.{above, below, its, nat, add, sub, equal}
 use Rattle.points.proofs.Signed.{fit, sum-bounds}
 use Rattle.points.proofs.raised_sum.Statement.{statement}
 use Rattle.points.proofs.raised_sum.Tie as tie

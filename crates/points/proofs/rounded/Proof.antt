@@ -10,9 +10,9 @@ use mathlib.Core.Path.{_≡_, sym, _∙_}
 use lib.Dec.{eqb, ltb}
 use lib.IntN.{ℤ, pos, _-ℤ_}
 use Rattle.rules.specs.Numbers.{rounded}
-use Rattle.rules.proofs.Numbers.Decide.{Decides, is-eq, is-lt, is-le, is-and, is-or, when-true, when-false, stable}
-use Rattle.rules.proofs.Numbers.Differences.{nat, sub, add, scale, at-most, less}
-use Rattle.rules.proofs.Numbers.Rounding.{shy, shy-most, shy-none, shy-one, rounded-only}
+use Rattle.theory.proofs.Numbers.Decide.{Decides, is-eq, is-lt, is-le, is-and, is-or, when-true, when-false, stable}
+use Rattle.theory.proofs.Numbers.Differences.{nat, sub, add, scale, at-most, less}
+use Rattle.theory.proofs.Numbers.Rounding.{shy, shy-most, shy-none, shy-one, rounded-only}
 use Rattle.points.proofs.rounded.Statement.{statement}
 use Rattle.points.proofs.rounded.Tie as tie
 

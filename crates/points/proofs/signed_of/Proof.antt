@@ -6,7 +6,7 @@ use native.Mathlib.Omega.{arith}
 use mathlib.Core.Path.{_∙_}
 use mir.Syntax.{w32}
 use Rattle.rules.specs.Numbers.{signed}
-use Rattle.rules.proofs.Numbers.Differences.{nat, sub, equal}
+use Rattle.theory.proofs.Numbers.Differences.{nat, sub, equal}
 use Rattle.points.proofs.Signed.{returned}
 use Rattle.points.proofs.signed_of.Statement.{statement}
 use Rattle.points.proofs.signed_of.Tie as tie

@@ -6,8 +6,8 @@ use mathlib.Core.Path.{_≡_, _∙_}
 use lib.IntN.{ℤ, pos, _+ℤ_, _-ℤ_}
 use mir.Syntax.{w32}
 use Rattle.rules.specs.Numbers.{nearestThird}
-use Rattle.rules.proofs.Numbers.Differences.{Is, nat, add, sub, scale, near}
-use Rattle.rules.proofs.Numbers.Rounding.{nearest-third-only}
+use Rattle.theory.proofs.Numbers.Differences.{Is, nat, add, sub, scale, near}
+use Rattle.theory.proofs.Numbers.Rounding.{nearest-third-only}
 use Rattle.points.proofs.Signed.{returned, counted}
 use Rattle.points.proofs.third.Statement.{statement}
 use Rattle.points.proofs.third.Tie as tie

@@ -7,8 +7,8 @@ use mathlib.Core.Path.{_≡_, ap, _∙_}
 use lib.IntN.{ℤ, pos, _+ℤ_, _-ℤ_, _*ℤ_}
 use mir.Syntax.{w32}
 use Rattle.rules.specs.Numbers.{halfUp}
-use Rattle.rules.proofs.Numbers.Differences.{Is, nat, add, sub, scale, at-most, less}
-use Rattle.rules.proofs.Numbers.Rounding.{floor-only}
+use Rattle.theory.proofs.Numbers.Differences.{Is, nat, add, sub, scale, at-most, less}
+use Rattle.theory.proofs.Numbers.Rounding.{floor-only}
 use Rattle.points.proofs.Signed.{returned, counted}
 use Rattle.points.proofs.twenty_seventh.Statement.{statement}
 use Rattle.points.proofs.twenty_seventh.Tie as tie

@@ -1,7 +1,7 @@
 -- `reporting::is_flipped` meets its contract.
 use Prim.Native.Nat.{_%_}
 use lib.ListN.{getD}
-use Rattle.rules.proofs.Numbers.Decide.{is-eq, is-same, even-is}
+use Rattle.theory.proofs.Numbers.Decide.{is-eq, is-same, even-is}
 use borrow.Author.Needs.{needs}
 use Rattle.reporting.proofs.is_flipped.Statement.{statement}
 use Rattle.reporting.proofs.is_flipped.Tie as tie

@@ -8,8 +8,8 @@ use lib.Dec.{leb}
 use lib.IntN.{ℤ}
 use lib.ListN.{length}
 use mathlib.Core.Path.{_≡_, refl, sym, ap, _∙_, subst}
-use Rattle.rules.proofs.Calls.Carried.{RefineFound}
-use Rattle.rules.proofs.Chains.RefineLoop.{Refining, refining-begins, refining-ends, few-splits}
+use Rattle.theory.proofs.Calls.Carried.{RefineFound}
+use Rattle.theory.proofs.Chains.RefineLoop.{Refining, refining-begins, refining-ends, few-splits}
 use Rattle.rules.specs.Split as rules
 use Rattle.rules.specs.Split.{chainEnd}
 use Rattle.rules.specs.Tables.{Mesh}

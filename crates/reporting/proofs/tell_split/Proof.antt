@@ -6,7 +6,7 @@ use mathlib.Core.List.{List, [], _∷_, _++_}
 use mathlib.Core.Path.{_≡_, sym, _∙_, subst}
 use Prim.Native.Nat.{ℕ, _+_, _*_, _≤_, _<_}
 use lib.ListN.{length}
-use Rattle.rules.proofs.Splits.After.{isFlipped, isSecondFlipped, flipAfter, splitAfter}
+use Rattle.theory.proofs.Splits.After.{isFlipped, isSecondFlipped, flipAfter, splitAfter}
 use Rattle.reporting.specs.Told.{Tells}
 use Rattle.reporting.proofs.Telling.{room-first, room-then, tells-split}
 use borrow.Author.Needs.{needs}

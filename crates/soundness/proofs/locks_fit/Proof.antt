@@ -7,7 +7,7 @@ use mathlib.Core.List.{List}
 use mathlib.Core.Path.{_≡_, refl}
 use lib.Dec.{leb}
 use lib.ListN.{getD}
-use Rattle.rules.proofs.Numbers.Decide.{all-and}
+use Rattle.theory.proofs.Numbers.Decide.{all-and}
 use Rattle.rules.specs.Below.{all}
 use Rattle.soundness.proofs.locks_fit.Statement.{statement}
 use Rattle.soundness.proofs.locks_fit.Tie as tie

@@ -4,8 +4,8 @@ use Prim.Native.Nat.{_*_}
 use native.Mathlib.Omega.{arith}
 use mathlib.Core.Bool.{true}
 use mathlib.Core.Path.{_≡_}
-use Rattle.rules.proofs.Numbers.Decide.{when-true}
-use Rattle.rules.proofs.Soundness.SoundTest.{tables-agree-is}
+use Rattle.theory.proofs.Numbers.Decide.{when-true}
+use Rattle.theory.proofs.Soundness.SoundTest.{tables-agree-is}
 use Rattle.rules.specs.Below.{all}
 use Rattle.rules.specs.Tables.{Mesh, TablesAgree, topologyOf, meshOf, tablesAgree}
 use Rattle.soundness.specs.Parts.{countsFit}

@@ -1,8 +1,8 @@
 -- `soundness::tables_agree` meets its contract: the test of the rules decides the same statement.
 use borrow.Author.Needs.{needs}
 use native.Mathlib.Omega.{arith}
-use Rattle.rules.proofs.Numbers.Decide.{is-eq, is-iff, is-false, is-same}
-use Rattle.rules.proofs.Soundness.SoundTest.{tables-agree-is}
+use Rattle.theory.proofs.Numbers.Decide.{is-eq, is-iff, is-false, is-same}
+use Rattle.theory.proofs.Soundness.SoundTest.{tables-agree-is}
 use Rattle.soundness.proofs.tables_agree.Statement.{statement}
 use Rattle.soundness.proofs.tables_agree.Tie as tie
 

@@ -5,7 +5,7 @@ use Prim.Native.Nat.{ℕ, _%_}
 use mathlib.Core.Bool.{Bool, true, false, not}
 use mathlib.Core.Path.{_≡_, _∙_}
 use lib.Dec.{eqb}
-use Rattle.rules.proofs.Numbers.Decide.{is-eq, is-same, even-is}
+use Rattle.theory.proofs.Numbers.Decide.{is-eq, is-same, even-is}
 use Rattle.rules.specs.Below.{all}
 use Rattle.rules.specs.Calls.{closedEven}
 use Rattle.rules.specs.Tables.{topologyOf, Topology, sides, link, boundary, generation}

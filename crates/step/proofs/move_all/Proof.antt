@@ -9,7 +9,7 @@ use lib.IntN.{ℤ, pos}
 use lib.ListN.{length, getD}
 use Rattle.points.specs.Axes.{movedPoint}
 use Rattle.points.specs.declared.Point.{Point}
-use Rattle.rules.proofs.Steps.StepPositions.{move-else, move-next}
+use Rattle.theory.proofs.Steps.StepPositions.{move-else, move-next}
 use Rattle.rules.specs.Numbers.{moved}
 use Rattle.rules.specs.Step.{movedCoordinate, moveVertices}
 use Rattle.rules.specs.Tables.{Mesh}

@@ -6,7 +6,7 @@ use mathlib.Core.Bool.{not}
 use mathlib.Core.Path.{_≡_, refl}
 use lib.Dec.{eqb}
 use lib.ListN.{getD}
-use Rattle.rules.proofs.Numbers.Decide.{all-and}
+use Rattle.theory.proofs.Numbers.Decide.{all-and}
 use Rattle.rules.specs.Below.{all}
 use Rattle.rules.specs.Tables.{boundary}
 use Rattle.step.proofs.none_on_boundary.Statement.{statement}

@@ -7,7 +7,7 @@ use mathlib.Core.Path.{_≡_, refl, sym, _∙_, ap}
 use Prim.Native.Nat.{_*_}
 use native.Mathlib.Nat.{add-zero}
 use lib.Dec.{eqb}
-use Rattle.rules.proofs.Steps.StepRefusals.{step-by-tests}
+use Rattle.theory.proofs.Steps.StepRefusals.{step-by-tests}
 use Rattle.rules.specs.Calls.{closedEven, longRing, someLocked, roomFor}
 use Rattle.rules.specs.Sound.{Sound}
 use Rattle.rules.specs.Tables.{Mesh, generation}

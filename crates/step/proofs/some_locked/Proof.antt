@@ -7,7 +7,7 @@ use mathlib.Core.List.{List}
 use mathlib.Core.Path.{_≡_, sym}
 use lib.Dec.{eqb}
 use lib.ListN.{getD}
-use Rattle.rules.proofs.Numbers.Decide.{any-none, any-more}
+use Rattle.theory.proofs.Numbers.Decide.{any-none, any-more}
 use Rattle.rules.specs.Below.{any}
 use Rattle.rules.specs.Calls.{someLocked}
 use Rattle.step.proofs.some_locked.Statement.{statement}

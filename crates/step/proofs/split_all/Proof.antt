@@ -5,9 +5,9 @@ use native.Mathlib.Omega.{arith}
 use mathlib.Core.List.{List}
 use mathlib.Core.Path.{_≡_, refl}
 use lib.IntN.{ℤ}
-use Rattle.rules.proofs.Links.Rows.{putRows}
-use Rattle.rules.proofs.Steps.Children.{childOf}
-use Rattle.rules.proofs.Steps.Closed.{childCorners, childLinks, withCentres, unlockedNew, closedStep}
+use Rattle.theory.proofs.Links.Rows.{putRows}
+use Rattle.theory.proofs.Steps.Children.{childOf}
+use Rattle.theory.proofs.Steps.Closed.{childCorners, childLinks, withCentres, unlockedNew, closedStep}
 use Rattle.rules.specs.Below.{fill}
 use Rattle.rules.specs.Tables.{Mesh, topologyOf, meshOf, sides, generation}
 use Rattle.tables.specs.Lent.{meshNow}

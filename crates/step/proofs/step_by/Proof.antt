@@ -2,8 +2,8 @@
 use borrow.Author.Needs.{needs}
 use native.Mathlib.Omega.{arith}
 use mathlib.Core.Path.{sym, _∙_}
-use Rattle.rules.proofs.Calls.Carried.{step-found}
-use Rattle.rules.proofs.Steps.StepRefusals.{step-refused, step-carried}
+use Rattle.theory.proofs.Calls.Carried.{step-found}
+use Rattle.theory.proofs.Steps.StepRefusals.{step-refused, step-carried}
 use Rattle.step.proofs.step_by.Statement.{statement}
 use Rattle.step.proofs.step_by.Tie as tie
 

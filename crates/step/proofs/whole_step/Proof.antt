@@ -6,8 +6,8 @@ use mathlib.Core.List.{List, []}
 use mathlib.Core.Path.{_≡_, refl, sym, ap, _∙_}
 use lib.IntN.{ℤ, pos}
 use lib.ListN.{length, getD}
-use Rattle.rules.proofs.Calls.Carried.{StepFound}
-use Rattle.rules.proofs.Steps.Closed.{withCentres, centres-leave, closedStep, step-closed}
+use Rattle.theory.proofs.Calls.Carried.{StepFound}
+use Rattle.theory.proofs.Steps.Closed.{withCentres, centres-leave, closedStep, step-closed}
 use Rattle.rules.specs.Calls.{Outcome, worked}
 use Rattle.rules.specs.Split.{Work, withMesh}
 use Rattle.rules.specs.Step.{moveVertices, wholeStep}

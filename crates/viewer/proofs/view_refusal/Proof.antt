@@ -3,7 +3,7 @@ use borrow.Author.Needs.{needs}
 use borrow.Author.Tests.{lt-ltb, le-ltb}
 use Prim.Native.Nat.{_*_}
 use lib.Dec.{ltb}
-use Rattle.rules.proofs.Calls.FirstThatHolds.{third-kept, third-holds, third-none}
+use Rattle.theory.proofs.Calls.FirstThatHolds.{third-kept, third-holds, third-none}
 use Rattle.rules.specs.Calls.{viewRefusal}
 use Rattle.rules.specs.Tables.{Mesh}
 use Rattle.tables.specs.Lent.{meshNow}

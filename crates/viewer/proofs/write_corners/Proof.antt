@@ -10,7 +10,7 @@ use lib.ListN.{length, getD}
 use borrow.Author.Needs.{needs}
 use borrow.Author.Tests.{lt-ltb}
 use Rattle.points.specs.declared.Point.{Point}
-use Rattle.rules.proofs.Numbers.Fill.{fill-three}
+use Rattle.theory.proofs.Numbers.Fill.{fill-three}
 use Rattle.rules.specs.Below.{fill}
 use Rattle.rules.specs.Tables.{putThree}
 use Rattle.mesh.specs.Answers.{pointIf, pointOrZero}

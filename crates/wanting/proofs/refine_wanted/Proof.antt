@@ -7,9 +7,9 @@ use native.Mathlib.Omega.{arith}
 use lib.ListN.{length}
 use Rattle.marks.specs.Marks.{marked}
 use Rattle.points.specs.Axes.{boxOf}
-use Rattle.rules.proofs.Boxes.InSpares.{boxing-few}
-use Rattle.rules.proofs.Lists.Holding.{Done, holding-sound, holding-few}
-use Rattle.rules.proofs.Soundness.Relaxed.{SameSlots}
+use Rattle.theory.proofs.Boxes.InSpares.{boxing-few}
+use Rattle.theory.proofs.Lists.Holding.{Done, holding-sound, holding-few}
+use Rattle.theory.proofs.Soundness.Relaxed.{SameSlots}
 use Rattle.rules.specs.Below.{lowest}
 use Rattle.rules.specs.Boxes.{Box, refineInBox}
 use Rattle.rules.specs.Calls.{Outcome}

@@ -7,7 +7,7 @@ use mathlib.Core.List.{List}
 use mathlib.Core.Path.{_≡_, ap, _∙_}
 use mir.Syntax.{w32}
 use Rattle.points.proofs.Signed.{returned}
-use Rattle.rules.proofs.Numbers.Decide.{all-and}
+use Rattle.theory.proofs.Numbers.Decide.{all-and}
 use Rattle.rules.specs.Below.{all}
 use Rattle.rules.specs.Numbers.{numberAt, signed, inRange}
 use Rattle.cage.proofs.conditions.coordinates_fit.Statement.{statement}

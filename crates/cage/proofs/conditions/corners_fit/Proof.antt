@@ -4,7 +4,7 @@ use Prim.Native.Nat.{ℕ, _+_, _-_, _*_, _≤_}
 use native.Mathlib.Omega.{arith}
 use mathlib.Core.Bool.{Bool, true, false, _&&_}
 use mathlib.Core.Path.{_≡_, refl, _∙_}
-use Rattle.rules.proofs.Numbers.Decide.{all-and}
+use Rattle.theory.proofs.Numbers.Decide.{all-and}
 use Rattle.rules.specs.Below.{all}
 use Rattle.rules.specs.Cage.{cornersFit}
 use Rattle.cage.specs.Loading.{cornerFits}

@@ -4,7 +4,7 @@ use Prim.Native.Nat.{_+_, _-_, _*_, _≤_}
 use native.Mathlib.Omega.{arith}
 use mathlib.Core.Path.{_≡_}
 use lib.ListN.{length, length-set}
-use Rattle.rules.proofs.Numbers.Fill.{fill-more}
+use Rattle.theory.proofs.Numbers.Fill.{fill-more}
 use Rattle.rules.specs.Below.{fill}
 use Rattle.rules.specs.Numbers.{numberAt}
 use Rattle.cage.proofs.conditions.decode.Statement.{statement}

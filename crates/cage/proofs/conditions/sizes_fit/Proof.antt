@@ -1,7 +1,7 @@
 -- `cage::conditions::sizes_fit` meets its contract: the test of the rules decides the same statement.
 use native.Mathlib.Omega.{arith}
-use Rattle.rules.proofs.Loads.CageTests.{sizes-fit-is}
-use Rattle.rules.proofs.Numbers.Decide.{is-true, is-false, is-same}
+use Rattle.theory.proofs.Loads.CageTests.{sizes-fit-is}
+use Rattle.theory.proofs.Numbers.Decide.{is-true, is-false, is-same}
 use Rattle.rules.specs.Cage.{cageOf}
 use borrow.Author.Needs.{needs}
 use Rattle.cage.proofs.conditions.sizes_fit.Statement.{statement}

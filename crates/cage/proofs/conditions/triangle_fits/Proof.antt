@@ -1,7 +1,7 @@
 -- `cage::conditions::triangle_fits` meets its contract.
 use borrow.Author.Needs.{needs}
 use mathlib.Core.Path.{refl}
-use Rattle.rules.proofs.Links.Sides.{next-0, next-1, next-2}
+use Rattle.theory.proofs.Links.Sides.{next-0, next-1, next-2}
 use Rattle.cage.proofs.conditions.triangle_fits.Statement.{statement}
 use Rattle.cage.proofs.conditions.triangle_fits.Tie as tie
 

@@ -6,17 +6,17 @@ use mathlib.Core.List.{List, []}
 use Prim.Native.Nat.{ℕ, _+_, _*_, _≤_, _<_}
 use native.Mathlib.Omega.{arith}
 use lib.ListN.{length, getD}
-use Rattle.rules.proofs.Loads.Alike.{SameCorners, SameSides, all-same, corners-fit-same, sides-differ-same}
-use Rattle.rules.proofs.Loads.Alike.{partner-same, one-fan-same, some-turns-back-same}
-use Rattle.rules.proofs.Loads.CageTests.{sizes-fit-is, corners-fit-is, sides-differ-is}
-use Rattle.rules.proofs.Numbers.Decide.{Decides, is-true, is-false, is-same, when-true}
-use Rattle.rules.proofs.Numbers.Fill.{length-fill, getD-fill}
-use Rattle.rules.proofs.Loads.Load.{matches-opposite, opposite-back, partner-matches, loaded-loads}
-use Rattle.rules.proofs.Loads.LoadTests.{load-by-tests}
+use Rattle.theory.proofs.Loads.Alike.{SameCorners, SameSides, all-same, corners-fit-same, sides-differ-same}
+use Rattle.theory.proofs.Loads.Alike.{partner-same, one-fan-same, some-turns-back-same}
+use Rattle.theory.proofs.Loads.CageTests.{sizes-fit-is, corners-fit-is, sides-differ-is}
+use Rattle.theory.proofs.Numbers.Decide.{Decides, is-true, is-false, is-same, when-true}
+use Rattle.theory.proofs.Numbers.Fill.{length-fill, getD-fill}
+use Rattle.theory.proofs.Loads.Load.{matches-opposite, opposite-back, partner-matches, loaded-loads}
+use Rattle.theory.proofs.Loads.LoadTests.{load-by-tests}
 use Rattle.rules.specs.Promises.{Matches, only, alone}
-use Rattle.rules.proofs.Links.Manifold.{Joined, pair}
-use Rattle.rules.proofs.Soundness.SoundTest.{tables-agree-is, known-rule-is}
-use Rattle.rules.proofs.Rings.Turning.{Glued}
+use Rattle.theory.proofs.Links.Manifold.{Joined, pair}
+use Rattle.theory.proofs.Soundness.SoundTest.{tables-agree-is, known-rule-is}
+use Rattle.theory.proofs.Rings.Turning.{Glued}
 use Rattle.rules.specs.Below.{all, any, fill}
 use Rattle.rules.specs.Cage.{Cage, cageOf, partner, loaded, sizesFit, cornersFit, coordinatesFit, sidesDiffer, fansFit}
 use Rattle.rules.specs.Cage.{turnsBack, someInnerOfTwo}

@@ -4,7 +4,7 @@ use Prim.Native.Nat.{_-_, _≤_}
 use native.Mathlib.Omega.{arith}
 use mathlib.Core.Path.{_≡_, refl}
 use lib.ListN.{length, length-set}
-use Rattle.rules.proofs.Numbers.Fill.{fill-more}
+use Rattle.theory.proofs.Numbers.Fill.{fill-more}
 use Rattle.rules.specs.Below.{fill}
 use Rattle.cage.proofs.writing.clear.Statement.{statement}
 use Rattle.cage.proofs.writing.clear.Tie as tie

@@ -6,7 +6,7 @@ use mathlib.Core.Path.{_≡_}
 use lib.ListN.{length, length-set}
 use mir.Syntax.{w32}
 use Rattle.points.proofs.Signed.{returned}
-use Rattle.rules.proofs.Numbers.Fill.{fill-more}
+use Rattle.theory.proofs.Numbers.Fill.{fill-more}
 use Rattle.rules.specs.Below.{fill}
 use Rattle.rules.specs.Numbers.{numberAt, signed}
 use Rattle.cage.proofs.writing.place.Statement.{statement}

@@ -1,7 +1,7 @@
 -- `pairing::fans::fit` meets its contract.
 use borrow.Author.Needs.{needs}
 use mathlib.Core.List.{[]}
-use Rattle.rules.proofs.Numbers.Decide.{when-true, when-false}
+use Rattle.theory.proofs.Numbers.Decide.{when-true, when-false}
 use Rattle.pairing.proofs.fans.fit.Proof.Fits.{threads-begin, two-found, none-found}
 use Rattle.pairing.proofs.fans.fit.Statement.{statement}
 use Rattle.pairing.proofs.fans.fit.Tie as tie

@@ -2,7 +2,7 @@
 use borrow.Author.Needs.{needs}
 use native.Mathlib.Omega.{arith}
 use Prim.Native.Nat.{_-_, _*_, _<_}
-use Rattle.rules.proofs.Numbers.Decide.{is-false}
+use Rattle.theory.proofs.Numbers.Decide.{is-false}
 use Rattle.pairing.proofs.fans.inner_of_two.Proof.Counted.{Threaded, none-out, first-in-use, only-one}
 use Rattle.pairing.proofs.fans.inner_of_two.Proof.Counted.{second-in-use, third-out, first-on-boundary, just-two}
 use Rattle.pairing.proofs.fans.inner_of_two.Statement.{statement}

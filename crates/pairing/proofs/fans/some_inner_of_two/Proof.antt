@@ -4,7 +4,7 @@ use borrow.Author.Needs.{needs}
 use native.Mathlib.Omega.{arith}
 use Prim.Native.Nat.{ℕ, _-_, _≤_, _<_}
 use mathlib.Core.List.{[]}
-use Rattle.rules.proofs.Numbers.Decide.{is-true, is-false, when-true, when-false}
+use Rattle.theory.proofs.Numbers.Decide.{is-true, is-false, when-true, when-false}
 use Rattle.rules.specs.Conditions.{InnerOfTwo}
 use Rattle.rules.specs.Tables.{topologyOf}
 use Rattle.pairing.proofs.fans.some_inner_of_two.Statement.{statement}

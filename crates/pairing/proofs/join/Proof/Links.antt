@@ -8,7 +8,7 @@ use native.Mathlib.Decide.{ℕ-discrete, decLt}
 use lib.ListN.{length, getD, set, length-set}
 use lib.Seq.{getD-set-same, getD-set-other}
 use Rattle.rules.specs.Promises.{Opposite, Matches, only, alone}
-use Rattle.rules.proofs.Links.Sides.{next-previous, previous-lt}
+use Rattle.theory.proofs.Links.Sides.{next-previous, previous-lt}
 use Rattle.rules.specs.Cage.{Cage}
 use Rattle.rules.specs.Tables.{next, previous}
 use Rattle.pairing.specs.Pairing.{Last, Stamping, Stamp, taken, free, Linking}

@@ -6,7 +6,7 @@ use native.Mathlib.Omega.{arith}
 use native.Mathlib.Decide.{ℕ-discrete}
 use lib.ListN.{length, getD}
 use Rattle.rules.specs.Promises.{Matches}
-use Rattle.rules.proofs.Links.Sides.{next-lt, previous-next}
+use Rattle.theory.proofs.Links.Sides.{next-lt, previous-next}
 use Rattle.rules.specs.Cage.{Cage}
 use Rattle.rules.specs.Tables.{next, previous}
 use Rattle.soundness.specs.Walks.{Zeroed}

@@ -6,7 +6,7 @@ use lib.Signed.{mag}
 use mir.Syntax.{w32}
 use mir.Val.{SFits, toZ, ofZ}
 use mir.Facts.{toZ-ofZ}
-use Rattle.rules.proofs.Numbers.Rounding.{mean}
+use Rattle.theory.proofs.Numbers.Rounding.{mean}
 use Rattle.points.proofs.Signed.{returned}
 use Rattle.points.proofs.Axes.{fields-fit}
 use Rattle.points.proofs.Point.mean.Statement.{statement}

@@ -5,8 +5,8 @@ use mathlib.Core.List.{[]}
 use mathlib.Core.Path.{sym, _∙_}
 use Prim.Native.Nat.{_/_}
 use native.Mathlib.Omega.{arith}
-use Rattle.rules.proofs.Numbers.Decide.{when-true}
-use Rattle.rules.proofs.Splits.Bases.{base-is}
+use Rattle.theory.proofs.Numbers.Decide.{when-true}
+use Rattle.theory.proofs.Splits.Bases.{base-is}
 use Rattle.rules.specs.Tables.{topologyOf}
 use Rattle.refining.proofs.Locking.{odd-inside}
 use Rattle.refining.proofs.locked.is_locked_base.Statement.{statement}

@@ -6,7 +6,7 @@ use mathlib.Core.Bool.{Bool, _&&_}
 use mathlib.Core.List.{List}
 use mathlib.Core.Path.{_≡_, sym}
 use lib.IntN.{ℤ}
-use Rattle.rules.proofs.Numbers.Decide.{any-none, any-more}
+use Rattle.theory.proofs.Numbers.Decide.{any-none, any-more}
 use Rattle.rules.specs.Below.{any}
 use Rattle.rules.specs.Tables.{Mesh, link, isBase, locked}
 use Rattle.tables.specs.declared.Counts.{Counts}

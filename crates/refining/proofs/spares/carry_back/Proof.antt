@@ -1,6 +1,6 @@
 -- `refining::spares::carry_back` meets its contract.
 use borrow.Author.Needs.{needs}
-use Rattle.rules.proofs.Lists.Holding.{failed-is, copied-is}
+use Rattle.theory.proofs.Lists.Holding.{failed-is, copied-is}
 use Rattle.refining.proofs.Batching.{slots-back}
 use Rattle.refining.proofs.spares.carry_back.Statement.{statement}
 use Rattle.refining.proofs.spares.carry_back.Tie as tie

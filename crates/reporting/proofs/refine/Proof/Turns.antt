@@ -4,11 +4,11 @@ use native.Mathlib.Omega.{arith}
 use mathlib.Core.List.{List, _++_}
 use mathlib.Core.Path.{_≡_, sym, ap, _∙_, subst}
 use lib.ListN.{length, getD}
-use Rattle.rules.proofs.Calls.Carried.{RefineFound}
-use Rattle.rules.proofs.Chains.RefineLoop.{Across, Refining, few-splits, refining-next, refining-on, refining-across}
-use Rattle.rules.proofs.Chains.RefineLoop.{Ahead, ahead, ahead-end, ahead-splitting, longer-ahead}
-use Rattle.rules.proofs.Soundness.Relaxed.{agree-on}
-use Rattle.rules.proofs.Splits.After.{splitAfter}
+use Rattle.theory.proofs.Calls.Carried.{RefineFound}
+use Rattle.theory.proofs.Chains.RefineLoop.{Across, Refining, few-splits, refining-next, refining-on, refining-across}
+use Rattle.theory.proofs.Chains.RefineLoop.{Ahead, ahead, ahead-end, ahead-splitting, longer-ahead}
+use Rattle.theory.proofs.Soundness.Relaxed.{agree-on}
+use Rattle.theory.proofs.Splits.After.{splitAfter}
 use Rattle.rules.specs.Calls.{splitsOf}
 use Rattle.rules.specs.Split.{Work, atFirst, splitAt, chainEnd, refine}
 use Rattle.rules.specs.Tables.{Mesh, link, generation}

@@ -9,7 +9,7 @@ use lib.IntN.{ℤ, pos}
 use lib.ListN.{getD}
 use mir.Syntax.{w32}
 use Rattle.points.proofs.Signed.{returned}
-use Rattle.rules.proofs.Numbers.Decide.{all-and}
+use Rattle.theory.proofs.Numbers.Decide.{all-and}
 use Rattle.rules.specs.Below.{all}
 use Rattle.rules.specs.Notes.{sameNumber}
 use Rattle.restoring.proofs.comparing.same_coordinates.Statement.{statement}

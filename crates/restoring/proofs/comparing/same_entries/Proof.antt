@@ -7,7 +7,7 @@ use mathlib.Core.List.{List}
 use mathlib.Core.Path.{_≡_, refl}
 use lib.Dec.{eqb}
 use lib.ListN.{getD}
-use Rattle.rules.proofs.Numbers.Decide.{all-and}
+use Rattle.theory.proofs.Numbers.Decide.{all-and}
 use Rattle.rules.specs.Below.{all}
 use Rattle.restoring.proofs.comparing.same_entries.Statement.{statement}
 use Rattle.restoring.proofs.comparing.same_entries.Tie as tie

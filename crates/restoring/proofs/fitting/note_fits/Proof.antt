@@ -4,7 +4,7 @@ use Prim.Native.Nat.{_-_, _≤_}
 use native.Mathlib.Omega.{arith}
 use mathlib.Core.Bool.{true}
 use mathlib.Core.Path.{_≡_, refl}
-use Rattle.rules.proofs.Numbers.Decide.{all-more}
+use Rattle.theory.proofs.Numbers.Decide.{all-more}
 use Rattle.rules.specs.Below.{all}
 use Rattle.rules.specs.Notes.{noteSlots}
 use Rattle.soundness.proofs.Answers.{passed}

@@ -8,8 +8,8 @@ use mathlib.Core.Path.{_≡_, refl, sym, _∙_, subst}
 use lib.Dec.{T}
 use lib.IntN.{ℤ}
 use lib.ListN.{length, getD}
-use Rattle.rules.proofs.Rings.RingSums.{outOf, SumOut, none-added, none-out, ring-counted, ring-added}
-use Rattle.rules.proofs.Rings.RingVertices.{ring-some}
+use Rattle.theory.proofs.Rings.RingSums.{outOf, SumOut, none-added, none-out, ring-counted, ring-added}
+use Rattle.theory.proofs.Rings.RingVertices.{ring-some}
 use Rattle.rules.specs.Conditions.{LongRing}
 use Rattle.rules.specs.Ring.{ring}
 use Rattle.rules.specs.Tables.{Topology, Mesh, sides}

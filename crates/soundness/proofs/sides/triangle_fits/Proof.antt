@@ -8,7 +8,7 @@ use mathlib.Core.List.{List}
 use mathlib.Core.Path.{_≡_, refl, sym, ap}
 use lib.Dec.{leb}
 use lib.ListN.{getD}
-use Rattle.rules.proofs.Numbers.Decide.{when-true}
+use Rattle.theory.proofs.Numbers.Decide.{when-true}
 use Rattle.rules.specs.Tables.{next}
 use Rattle.soundness.specs.Parts.{SideRead, cornersFit, triangleFits}
 use Rattle.soundness.proofs.Answers.{refused, passed, never}

@@ -5,7 +5,7 @@ use Prim.Native.Nat.{_-_, _*_, _≤_}
 use mathlib.Core.Bool.{true}
 use mathlib.Core.Path.{_≡_, refl, sym}
 use lib.ListN.{length}
-use Rattle.rules.proofs.Numbers.Decide.{all-more, all-fails}
+use Rattle.theory.proofs.Numbers.Decide.{all-more, all-fails}
 use Rattle.rules.specs.Below.{all}
 use Rattle.rules.specs.Tables.{Topology, topologyOf}
 use Rattle.soundness.specs.Parts.{triangleFits}

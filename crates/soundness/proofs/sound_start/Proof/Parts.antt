@@ -6,9 +6,9 @@ use mathlib.Core.Path.{_≡_}
 use lib.Dec.{leb}
 use lib.IntN.{pos}
 use lib.ListN.{getD}
-use Rattle.rules.proofs.Numbers.Decide.{Decides, is-le, is-iff, is-then, is-and, is-all, is-same}
-use Rattle.rules.proofs.Rings.FanTest.{one-fan-is}
-use Rattle.rules.proofs.Soundness.SoundTest.{SoundSide, in-range-is, known-rule-is, tables-agree-is, sound-is}
+use Rattle.theory.proofs.Numbers.Decide.{Decides, is-le, is-iff, is-then, is-and, is-all, is-same}
+use Rattle.theory.proofs.Rings.FanTest.{one-fan-is}
+use Rattle.theory.proofs.Soundness.SoundTest.{SoundSide, in-range-is, known-rule-is, tables-agree-is, sound-is}
 use Rattle.rules.specs.Below.{all}
 use Rattle.rules.specs.Numbers.{InRange, inRange, KnownRule}
 use Rattle.rules.specs.Sound.{OneFan, Sound, hasOneFan, isSound}

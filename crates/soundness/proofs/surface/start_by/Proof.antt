@@ -9,10 +9,10 @@ use mathlib.Core.Bool.{true}
 use mathlib.Core.List.{List}
 use mathlib.Core.Path.{_≡_, refl}
 use lib.ListN.{getD}
-use Rattle.rules.proofs.Numbers.Decide.{is-all, when-true}
-use Rattle.rules.proofs.Rings.FanTest.{one-start, one-fan-is}
-use Rattle.rules.proofs.Rings.Fans.{Starts, first-side, first-in-use, first-none}
-use Rattle.rules.proofs.Rings.Turning.{Glued}
+use Rattle.theory.proofs.Numbers.Decide.{is-all, when-true}
+use Rattle.theory.proofs.Rings.FanTest.{one-start, one-fan-is}
+use Rattle.theory.proofs.Rings.Fans.{Starts, first-side, first-in-use, first-none}
+use Rattle.theory.proofs.Rings.Turning.{Glued}
 use Rattle.rules.specs.Below.{all}
 use Rattle.rules.specs.Ring.{firstSide}
 use Rattle.rules.specs.Sound.{OneFan, hasOneFan}

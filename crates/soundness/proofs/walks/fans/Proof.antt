@@ -7,7 +7,7 @@ use mathlib.Core.Bool.{true}
 use mathlib.Core.List.{List}
 use mathlib.Core.Path.{_≡_, refl}
 use lib.ListN.{getD}
-use Rattle.rules.proofs.Numbers.Decide.{all-more}
+use Rattle.theory.proofs.Numbers.Decide.{all-more}
 use Rattle.rules.specs.Below.{all, total}
 use Rattle.rules.specs.Tables.{Topology, topologyOf}
 use Rattle.soundness.proofs.walks.fans.Proof.Told.{hasStart, lengthFrom, no-start, made}

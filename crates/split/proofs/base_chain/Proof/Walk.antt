@@ -9,7 +9,7 @@ use mathlib.Core.Path.{_≡_, refl, sym, ap, _∙_, subst}
 use lib.ListN.{length, getD, set}
 use lib.Seq.{getD-set-same, getD-set-other}
 use borrow.Author.Tests.{eq-eqb, ne-eqb}
-use Rattle.rules.proofs.Numbers.Decide.{odd-test, even-test}
+use Rattle.theory.proofs.Numbers.Decide.{odd-test, even-test}
 use Rattle.rules.specs.Split.{chainEndWithin, chainOddWithin, chainEnd, chainOdd, chainAt}
 use Rattle.rules.specs.Tables.{Topology, link, boundary, generation}
 use Rattle.split.specs.Made.{BaseChain}

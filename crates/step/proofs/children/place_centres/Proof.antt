@@ -8,8 +8,8 @@ use lib.IntN.{ℤ, pos}
 use lib.ListN.{length, getD}
 use Rattle.points.specs.Axes.{eachAxis}
 use Rattle.points.specs.declared.Point.{Point}
-use Rattle.rules.proofs.Links.Rows.{putRows, rows-more}
-use Rattle.rules.proofs.Steps.Closed.{withCentres, centres-leave}
+use Rattle.theory.proofs.Links.Rows.{putRows, rows-more}
+use Rattle.theory.proofs.Steps.Closed.{withCentres, centres-leave}
 use Rattle.rules.specs.Split.{centre}
 use Rattle.rules.specs.Tables.{Mesh, topologyOf, meshOf, withPositions, origin, coordinate}
 use Rattle.tables.specs.declared.Counts.{Counts}

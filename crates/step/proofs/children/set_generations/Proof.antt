@@ -4,7 +4,7 @@ use Prim.Native.Nat.{_-_, _≤_}
 use native.Mathlib.Omega.{arith}
 use mathlib.Core.Path.{_≡_, refl, ap, _∙_}
 use lib.ListN.{length}
-use Rattle.rules.proofs.Numbers.Fill.{length-fill, fill-more}
+use Rattle.theory.proofs.Numbers.Fill.{length-fill, fill-more}
 use Rattle.rules.specs.Below.{fill}
 use Rattle.step.proofs.children.set_generations.Statement.{statement}
 use Rattle.step.proofs.children.set_generations.Tie as tie

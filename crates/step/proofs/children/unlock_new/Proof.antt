@@ -6,7 +6,7 @@ use native.Mathlib.Omega.{arith}
 use mathlib.Core.List.{List}
 use mathlib.Core.Path.{_≡_, refl, ap, _∙_}
 use lib.ListN.{length, length-set}
-use Rattle.rules.proofs.Steps.Closed.{unlockedNew}
+use Rattle.theory.proofs.Steps.Closed.{unlockedNew}
 use Rattle.rules.specs.Split.{newUnlocked}
 use Rattle.step.proofs.children.unlock_new.Statement.{statement}
 use Rattle.step.proofs.children.unlock_new.Tie as tie

@@ -5,9 +5,9 @@ use native.Mathlib.Omega.{arith}
 use mathlib.Core.List.{[]}
 use mathlib.Core.Path.{_≡_, refl, ap, _∙_}
 use lib.ListN.{length}
-use Rattle.rules.proofs.Links.Rows.{putRows, length-rows}
-use Rattle.rules.proofs.Steps.Children.{childOf}
-use Rattle.rules.proofs.Steps.Closed.{childCorners, childLinks}
+use Rattle.theory.proofs.Links.Rows.{putRows, length-rows}
+use Rattle.theory.proofs.Steps.Children.{childOf}
+use Rattle.theory.proofs.Steps.Closed.{childCorners, childLinks}
 use Rattle.tables.specs.Lent.{meshNow, topologyNow}
 use Rattle.step.proofs.ChildRows.{rows-on, same-corners, same-links, next-fits}
 use Rattle.step.proofs.children.write_all.Statement.{statement}

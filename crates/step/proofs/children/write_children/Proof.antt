@@ -2,7 +2,7 @@
 use borrow.Author.Needs.{needs}
 use Prim.Native.Nat.{_+_, _*_}
 use native.Mathlib.Omega.{arith}
-use Rattle.rules.proofs.Steps.Closed.{childCorners, childLinks}
+use Rattle.theory.proofs.Steps.Closed.{childCorners, childLinks}
 use Rattle.tables.specs.Lent.{topologyNow}
 use Rattle.step.proofs.ChildRows.{rows-of, child-rows}
 use Rattle.step.proofs.children.write_children.Statement.{statement}

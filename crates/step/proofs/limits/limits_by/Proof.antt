@@ -5,7 +5,7 @@ use mathlib.Core.List.{List}
 use mathlib.Core.Path.{refl, sym, ap, _∙_}
 use Prim.Native.Nat.{ℕ}
 use lib.IntN.{ℤ}
-use Rattle.rules.proofs.Steps.StepRefusals.{limit-refused, limit-carried}
+use Rattle.theory.proofs.Steps.StepRefusals.{limit-refused, limit-carried}
 use Rattle.rules.specs.Sound.{Sound}
 use Rattle.rules.specs.Tables.{Mesh}
 use Rattle.rings.specs.Sums.{RingSums}

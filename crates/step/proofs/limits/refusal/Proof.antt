@@ -6,7 +6,7 @@ use mathlib.Core.Bool.{true, not}
 use mathlib.Core.List.{List, []}
 use mathlib.Core.Path.{_≡_, refl, sym, _∙_}
 use Prim.Native.Nat.{ℕ}
-use Rattle.rules.proofs.Steps.StepRefusals.{limit-by-tests}
+use Rattle.theory.proofs.Steps.StepRefusals.{limit-by-tests}
 use Rattle.rules.specs.Calls.{closedEven, longRing}
 use Rattle.rules.specs.Sound.{Sound}
 use Rattle.rules.specs.Tables.{Mesh}

@@ -8,7 +8,7 @@ use lib.IntN.{ℤ, pos}
 use lib.ListN.{length, getD}
 use Rattle.points.specs.Axes.{limitPoint}
 use Rattle.points.specs.declared.Point.{Point}
-use Rattle.rules.proofs.Numbers.Fill.{fill-three}
+use Rattle.theory.proofs.Numbers.Fill.{fill-three}
 use Rattle.rules.specs.Below.{fill}
 use Rattle.rules.specs.Numbers.{limit}
 use Rattle.rules.specs.Step.{limitCoordinate, limitPositions}

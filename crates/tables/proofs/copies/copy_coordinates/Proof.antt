@@ -6,7 +6,7 @@ use mathlib.Core.Path.{_≡_}
 use lib.IntN.{pos}
 use lib.ListN.{length, getD, length-set}
 use mir.Facts.{toZ-ofZ}
-use Rattle.rules.proofs.Numbers.Fill.{fill-more}
+use Rattle.theory.proofs.Numbers.Fill.{fill-more}
 use Rattle.rules.specs.Below.{fill}
 use Rattle.tables.proofs.copies.copy_coordinates.Statement.{statement}
 use Rattle.tables.proofs.copies.copy_coordinates.Tie as tie

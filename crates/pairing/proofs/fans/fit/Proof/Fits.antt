@@ -7,10 +7,10 @@ use mathlib.Core.Logic.{inr}
 use mathlib.Core.Path.{_≡_, refl, sym}
 use lib.Dec.{T}
 use lib.ListN.{getD}
-use Rattle.rules.proofs.Loads.InnerOfTwo.{two-turn-back, some-two-is}
-use Rattle.rules.proofs.Numbers.Decide.{Decides, is-all, is-same, is-false, when-true}
-use Rattle.rules.proofs.Rings.FanTest.{one-fan-is}
-use Rattle.rules.proofs.Rings.Turning.{Glued}
+use Rattle.theory.proofs.Loads.InnerOfTwo.{two-turn-back, some-two-is}
+use Rattle.theory.proofs.Numbers.Decide.{Decides, is-all, is-same, is-false, when-true}
+use Rattle.theory.proofs.Rings.FanTest.{one-fan-is}
+use Rattle.theory.proofs.Rings.Turning.{Glued}
 use Rattle.rules.specs.Below.{all, any}
 use Rattle.rules.specs.Cage.{turnsBack}
 use Rattle.rules.specs.Conditions.{InnerOfTwo}

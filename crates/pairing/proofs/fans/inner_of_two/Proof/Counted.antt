@@ -8,9 +8,9 @@ use mathlib.Core.Logic.{_≢_, inl, inr}
 use mathlib.Core.Path.{_≡_, ap, sym, _∙_}
 use lib.Dec.{eqb}
 use lib.ListN.{getD}
-use Rattle.rules.proofs.Loads.InnerOfTwo.{OneOf, all-of-two, two-are-all, some-out}
-use Rattle.rules.proofs.Numbers.Decide.{Decides, is-eq, is-iff, is-not, bit-yes, bit-no}
-use Rattle.rules.proofs.Numbers.Sums.{total-one}
+use Rattle.theory.proofs.Loads.InnerOfTwo.{OneOf, all-of-two, two-are-all, some-out}
+use Rattle.theory.proofs.Numbers.Decide.{Decides, is-eq, is-iff, is-not, bit-yes, bit-no}
+use Rattle.theory.proofs.Numbers.Sums.{total-one}
 use Rattle.rules.specs.Below.{bit}
 use Rattle.rules.specs.Conditions.{InnerOfTwo}
 use Rattle.rules.specs.Ring.{OnBoundary}

@@ -10,9 +10,9 @@ use lib.ListN.{getD, length-set}
 use lib.Seq.{getD-set-same, getD-set-other}
 use Rattle.points.proofs.Axes.{each-fits}
 use Rattle.points.specs.Axes.{SumOf}
-use Rattle.rules.proofs.Links.Sides.{next-0, next-1, next-2, next-lt, put-at, put-else, length-put}
-use Rattle.rules.proofs.Rings.RingSums.{ahead, outOf, SumOut, one-added, one-out, other-added, other-out, out-up}
-use Rattle.rules.proofs.Rings.RingSums.{sum-low, sum-high}
+use Rattle.theory.proofs.Links.Sides.{next-0, next-1, next-2, next-lt, put-at, put-else, length-put}
+use Rattle.theory.proofs.Rings.RingSums.{ahead, outOf, SumOut, one-added, one-out, other-added, other-out, out-up}
+use Rattle.theory.proofs.Rings.RingSums.{sum-low, sum-high}
 use Rattle.rules.specs.Numbers.{InRange}
 use Rattle.rules.specs.Tables.{next}
 use Rattle.tables.specs.declared.Counts.{Counts}

@@ -7,11 +7,11 @@ use mathlib.Core.List.{List}
 use mathlib.Core.Path.{_≡_}
 use lib.Dec.{eqb, ltb}
 use lib.ListN.{getD}
-use Rattle.rules.proofs.Numbers.Decide.{is-lt, is-iff, is-then, is-all, is-same, all-fails}
-use Rattle.rules.proofs.Rings.FanTest.{one-fan-is}
-use Rattle.rules.proofs.Rings.FanTotal.{walkLength, walks-are}
-use Rattle.rules.proofs.Rings.Fans.{Begins}
-use Rattle.rules.proofs.Rings.Turning.{Glued}
+use Rattle.theory.proofs.Numbers.Decide.{is-lt, is-iff, is-then, is-all, is-same, all-fails}
+use Rattle.theory.proofs.Rings.FanTest.{one-fan-is}
+use Rattle.theory.proofs.Rings.FanTotal.{walkLength, walks-are}
+use Rattle.theory.proofs.Rings.Fans.{Begins}
+use Rattle.theory.proofs.Rings.Turning.{Glued}
 use Rattle.rules.specs.Below.{all, total}
 use Rattle.rules.specs.Sound.{OneFan, hasOneFan}
 use Rattle.rules.specs.Tables.{Topology, sides}

@@ -1,0 +1,19 @@
+-- What is proved of the rules: the theorems that users rely on, a page for each area, readable with the specs alone.
+pub mod Soundness
+pub mod Numbers
+pub mod Refusing
+pub mod Load
+pub mod Refine
+pub mod LeastDisturbance
+pub mod Notes
+pub mod Lists
+pub mod Previews
+pub mod Boxes
+pub mod Reports
+pub mod WholeStep
+pub mod Locks
+pub mod Limits
+pub mod Rings
+pub mod Rims
+pub mod Histories
+pub mod Mirrors

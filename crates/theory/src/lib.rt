@@ -1,0 +1,1 @@
+// The theory of the rules is in proofs/: no code runs here.
