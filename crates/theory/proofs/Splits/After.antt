@@ -26,8 +26,8 @@ use Rattle.rules.specs.Tables.{Topology, link, generation, odd}
 abbrev pub isFlipped : List ℕ → ℕ → Bool
 isFlipped generations c = not (odd (getD generations c 0))
 
--- The second child f of the split of t was. Where this was a rim split, f is even without a flip; there alone its side 2
--- leads to side 2 of t.
+-- The second child f of the split of t was. Where this was a rim split, f is even without a flip; there alone its
+-- side 2 leads to side 2 of t.
 abbrev pub isSecondFlipped : List ℕ → List ℕ → ℕ → ℕ → Bool
 isSecondFlipped links generations t f =
     isFlipped generations f && not (eqb (getD links (3 * f + 2) 0) (3 * t + 2))
@@ -95,8 +95,9 @@ child-after p g c {cs} {m} {k} (flipped u B S) s F C K w D =
     (children-on p g c m k cs (flipped u B S) C K w) D C)
 
 -- What settling c, and then the others, reports.
-pub settles-after : (p g c : ℕ) {cs : List ℕ} {w v : Work} (x : Work) (S : Settles c w v) → Settled cs (reached v) (reached x)
-    → Manifold (reached w) → Child p g c (reached w) → Children p g (reached w) cs → Without c cs → Distinct cs
+pub settles-after : (p g c : ℕ) {cs : List ℕ} {w v : Work} (x : Work) (S : Settles c w v)
+    → Settled cs (reached v) (reached x) → Manifold (reached w) → Child p g c (reached w) → Children p g (reached w) cs
+    → Without c cs → Distinct cs
     → x .report ≡ v .report ++ pairsAfter (reached x) cs
     → x .report ≡ w .report ++ pairsAfter (reached x) (c ∷ cs)
 settles-after p g c {cs} {w} x S s F C K q D e =
