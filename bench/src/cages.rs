@@ -97,6 +97,13 @@ pub fn disc(sides: u32) -> Cage {
     Cage { points: circle(sides, 0).chain([[0; 3]]).collect(), triangles: triangles.collect() }
 }
 
+/// Two pyramids over so many sides, base to base. Each triangle has an apex for its first corner.
+pub fn bipyramid(sides: u32) -> Cage {
+    let triangles = (0..sides).map(|i| (i, (i + 1) % sides)).flat_map(|(i, j)| [[sides, i, j], [sides + 1, j, i]]);
+    let points = circle(sides, 0).chain([[0, 0, RADIUS], [0, 0, -RADIUS]]);
+    Cage { points: points.collect(), triangles: triangles.collect() }
+}
+
 /// A disc with three vertices on its rim, and at each of them a fan of so many triangles and two more. The fans go round
 /// a smaller disc.
 pub fn collar(fan: u32) -> Cage {

@@ -2,6 +2,7 @@
 
 use crate::cages::{self, Cage, RADIUS};
 use crate::fast;
+use crate::slots;
 use crate::tables::{
     Answer, BOUNDARY, Call, HALF_AWAY, HALF_UP, Lent, NOTE_ENTRIES, Panel, Point, REPORT_ENTRIES, Tables,
 };
@@ -18,10 +19,12 @@ pub const LIMITS: [&str; 2] = ["limit", "limit, rule 2"];
 /// triangle is.
 pub const LONGEST_BESIDE_LOCKS: &str = "refine, chain of 10, beside locks";
 pub const LOCKED_STEP: &str = "whole step, locked";
-/// Refines with a note, of an even triangle, of an odd one and of the longest chain, and two of them taken back. The
-/// first is taken back too where it has brought the mesh above the triangles that a size of the library's local arrays
-/// has room for, so that those of the next are cleared.
-pub const NOTED: [&str; 3] = ["refine noted, even", "refine noted, odd", "refine noted, chain of 10"];
+/// Refines with a note, of an even triangle, of an odd one, of the longest chain and of the longest chain that changes
+/// the most slots, in the order that takes the most instructions; and two of them taken back. The first is taken back
+/// too where it has brought the mesh above the triangles that a size of the library's local arrays has room for, so that
+/// those of the next are cleared.
+pub const NOTED: [&str; 4] =
+    ["refine noted, even", "refine noted, odd", "refine noted, chain of 10", "refine noted, dearest order"];
 pub const BACKS: [&str; 3] = ["take back, even", "take back, chain of 10", "take back, just above a room"];
 /// The curve of a rim: of a sphere with its cap cut away, of an open cylinder, where all vertices are on one of two
 /// rims, in three triangles each, of a disc, where all but one are on the rim, in two each, and of a collar, where three
@@ -56,7 +59,7 @@ pub const BATCHES_REPORTED: [[&str; 2]; 3] = [
     ["box of nothing, reported", "box of a twentieth, reported"],
 ];
 
-const NAMES: [&str; 54] = [
+const NAMES: [&str; 55] = [
     "load",
     "soundness",
     "refine even",
@@ -70,6 +73,7 @@ const NAMES: [&str; 54] = [
     NOTED[0],
     NOTED[1],
     NOTED[2],
+    NOTED[3],
     REFINES_REPORTED[2],
     BACKS[0],
     BACKS[1],
@@ -182,6 +186,7 @@ pub fn all() -> Vec<Case> {
     let rooms = rooms.map(|(parts, triangles)| cages::sphere(parts).filled(triangles));
     let capped =
         [(1, 0), (10, 8 * RADIUS / 10), (57, 8 * RADIUS / 10)].map(|(parts, z)| cages::sphere(parts).capped(z));
+    let bipyramids = [24, 1_000, 32_490].map(cages::bipyramid);
     let cylinders = [3, 1_000, 16_384].map(cages::cylinder);
     let discs = [3, 2_000, 32_767].map(cages::disc);
     let collars = [1, 333, 10_000].map(cages::collar);
@@ -189,6 +194,7 @@ pub fn all() -> Vec<Case> {
     for name in NAMES {
         let plain = name.strip_suffix(REPORTED).unwrap_or(name);
         let (small, large) = match plain {
+            plain if plain == NOTED[3] => (&bipyramids[..2], &bipyramids[2]),
             plain if plain == BACKS[2] => (&rooms[..5], &rooms[5]),
             plain if plain == CURVES[0] => (&capped[..2], &capped[2]),
             plain if plain == CURVES[1] => (&cylinders[..2], &cylinders[2]),
@@ -234,14 +240,19 @@ fn case(name: &'static str, cage: &Cage, shuffled: bool) -> Case {
     let mut triangle = lent.counts.triangles / 2;
     let vertex = lent.counts.vertices / 2;
     let longest = [LONGEST, LONGEST_BESIDE_LOCKS, NOTED[2], BACKS[1]].contains(&name);
-    if name == "refine odd" || name == NOTED[1] || longest {
+    if name == "refine odd" || name == NOTED[1] || name == NOTED[3] || longest {
         set_up(&mut lent, Call::Refine(triangle));
     }
     if name == AT_BOUNDARY || name == LONGEST_AT_BOUNDARY {
         triangle = odd_at_boundary(&mut lent);
     }
     if longest || name == LONGEST_AT_BOUNDARY {
-        triangle = end_of_long_chain(&mut lent, triangle);
+        triangle = end_of_long_chain(&mut lent, triangle, &[1, 2]);
+    }
+    if name == NOTED[3] {
+        lay_bases_beside(&mut lent, triangle);
+        triangle = end_of_long_chain(&mut lent, triangle, &[2]);
+        triangle = slots::in_dearest_order(&mut lent, triangle);
     }
     if name == LONGEST_BESIDE_LOCKS {
         lock_unaltered(&mut lent, triangle);
@@ -356,9 +367,9 @@ fn odd_at_boundary(lent: &mut Lent) -> u32 {
 /// From an odd triangle of generation 1, one of generation 19 whose base chain has ten odd triangles, the most there
 /// can be. The sibling across a side is refined, which makes it even, and refined again, which lays a base on that
 /// side: the child with this base has a chain that goes on with the triangle's own. Sides 1 and 2 in turn keep that
-/// chain as it is.
-fn end_of_long_chain(lent: &mut Lent, mut triangle: u32) -> u32 {
-    for side in [1, 2].into_iter().cycle().take(9) {
+/// chain as it is, and so does side 2 alone about a vertex of many triangles.
+fn end_of_long_chain(lent: &mut Lent, mut triangle: u32, sides: &[usize]) -> u32 {
+    for &side in sides.iter().cycle().take(9) {
         let across = |lent: &Lent| lent.tables.links[3 * triangle as usize + side] / 3;
         for _ in 0..2 {
             let sibling = across(lent);
@@ -367,6 +378,17 @@ fn end_of_long_chain(lent: &mut Lent, mut triangle: u32) -> u32 {
         triangle = across(lent);
     }
     triangle
+}
+
+/// Lays bases on the other two sides of the even triangle that the base of this odd one meets, too.
+fn lay_bases_beside(lent: &mut Lent, odd: u32) {
+    let end = lent.tables.links[3 * odd as usize] / 3;
+    for side in 0..3 {
+        let across = lent.tables.links[3 * end as usize + side] / 3;
+        if across != odd {
+            set_up(lent, Call::Refine(across));
+        }
+    }
 }
 
 /// Locks all triangles that refining this one does not alter: those whose generation it leaves.

@@ -9,6 +9,7 @@ mod measure;
 #[allow(dead_code)]
 mod rawplinth;
 mod report;
+mod slots;
 mod tables;
 
 use std::thread;

@@ -73,7 +73,8 @@ pub fn compare(case: &Case) {
         LONGEST | LONGEST_BESIDE_LOCKS => (0, 10),
         LOCKED_STEP => (19, 0),
         LONGEST_AT_BOUNDARY => (0, 9),
-        name if NOTED.contains(&name) => (0, if name == NOTED[2] { 10 } else { 1 }),
+        name if NOTED[2..].contains(&name) => (0, 10),
+        name if NOTED.contains(&name) => (0, 1),
         name if STEPS.contains(&name) => (0, case.triangles),
         name if RECORDS.contains(&name) => (0, case.lent.record.len()),
         name if REPLAYS.contains(&name) || name == ONE_BY_ONE => (0, case.lent.list.len()),
@@ -83,6 +84,7 @@ pub fn compare(case: &Case) {
         _ => (0, 0),
     };
     assert!((refusal, splits as usize) == expected, "{}, {} triangles: {answer:?}", case.name, case.triangles);
+    assert!(case.name != NOTED[3] || ours.note[3] == 25, "{}, {} triangles: few slots", case.name, case.triangles);
 }
 
 /// Callgrind writes what it has counted whenever this is entered.
