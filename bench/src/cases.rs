@@ -12,6 +12,8 @@ pub const LONGEST: &str = "refine, chain of 10";
 /// A rim split, and the longest chain that ends with one, on a cage with a boundary.
 pub const AT_BOUNDARY: &str = "refine at the boundary";
 pub const LONGEST_AT_BOUNDARY: &str = "refine at the boundary, chain of 10";
+/// Splits of an even triangle that flip at one, two and three of its sides.
+pub const FLIPPING: [&str; 3] = ["refine even, one flip", "refine even, two flips", "refine even, three flips"];
 /// The calls that round halves, by either rule.
 pub const STEPS: [&str; 2] = ["whole step", "whole step, rule 2"];
 pub const LIMITS: [&str; 2] = ["limit", "limit, rule 2"];
@@ -51,30 +53,46 @@ pub const RECORDS: [&str; 2] = ["record load", "record refine"];
 /// What the name of a case ends in that has a report and else is the one without.
 const REPORTED: &str = ", reported";
 /// Such refines, and pairs of lists, previews and boxes, of few splits and of many.
-pub const REFINES_REPORTED: [&str; 3] =
-    ["refine even, reported", "refine, chain of 10, reported", "refine noted, chain of 10, reported"];
+pub const REFINES_REPORTED: [&str; 8] = [
+    "refine even, reported",
+    "refine even, one flip, reported",
+    "refine even, two flips, reported",
+    "refine even, three flips, reported",
+    "refine, chain of 10, reported",
+    "refine at the boundary, reported",
+    "refine at the boundary, chain of 10, reported",
+    "refine noted, chain of 10, reported",
+];
 pub const BATCHES_REPORTED: [[&str; 2]; 3] = [
     ["list of 1, reported", "list of 10,000, reported"],
     ["preview of 1, reported", "preview of 10,000, reported"],
     ["box of nothing, reported", "box of a twentieth, reported"],
 ];
 
-const NAMES: [&str; 55] = [
+const NAMES: [&str; 63] = [
     "load",
     "soundness",
     "refine even",
     REFINES_REPORTED[0],
+    FLIPPING[0],
+    REFINES_REPORTED[1],
+    FLIPPING[1],
+    REFINES_REPORTED[2],
+    FLIPPING[2],
+    REFINES_REPORTED[3],
     "refine odd",
     LONGEST,
-    REFINES_REPORTED[1],
+    REFINES_REPORTED[4],
     AT_BOUNDARY,
+    REFINES_REPORTED[5],
     LONGEST_AT_BOUNDARY,
+    REFINES_REPORTED[6],
     LONGEST_BESIDE_LOCKS,
     NOTED[0],
     NOTED[1],
     NOTED[2],
     NOTED[3],
-    REFINES_REPORTED[2],
+    REFINES_REPORTED[7],
     BACKS[0],
     BACKS[1],
     BACKS[2],
@@ -206,7 +224,7 @@ pub fn all() -> Vec<Case> {
             _ => (&small[..], &sphere),
         };
         for cage in small.iter().chain([large]) {
-            let open = name == AT_BOUNDARY || name == LONGEST_AT_BOUNDARY;
+            let open = plain == AT_BOUNDARY || plain == LONGEST_AT_BOUNDARY;
             let cage = if open { &cage.clone().opened() } else { cage };
             list.push(case(plain, cage, false).named(name));
             list.push(case(plain, &cage.clone().shuffled(), true).named(name));
@@ -243,6 +261,7 @@ fn case(name: &'static str, cage: &Cage, shuffled: bool) -> Case {
     if name == "refine odd" || name == NOTED[1] || name == NOTED[3] || longest {
         set_up(&mut lent, Call::Refine(triangle));
     }
+    lay_bases(&mut lent, triangle, flips(name));
     if name == AT_BOUNDARY || name == LONGEST_AT_BOUNDARY {
         triangle = odd_at_boundary(&mut lent);
     }
@@ -315,6 +334,11 @@ pub fn is_listed(name: &str) -> bool {
     LISTS.contains(&name) || PREVIEWS.contains(&name)
 }
 
+/// How many flips a split of an even triangle is set up for.
+pub fn flips(name: &str) -> usize {
+    FLIPPING.iter().position(|of| *of == name).map_or(0, |place| place + 1)
+}
+
 /// Whether a case refines triangles in a row, one after the other.
 fn refines_row(name: &str) -> bool {
     REPLAYS.contains(&name) || name == ONE_BY_ONE
@@ -353,6 +377,14 @@ fn on_boundary(lent: &Lent) -> u32 {
     let sides = lent.tables.corners.iter().zip(&lent.tables.links).take(3 * lent.counts.triangles as usize);
     let vertices: Vec<u32> = sides.filter(|(_, link)| **link == BOUNDARY).map(|(&corner, _)| corner).collect();
     vertices[vertices.len() / 2]
+}
+
+/// Lays bases on so many sides of an even triangle: those of children of the triangles across.
+fn lay_bases(lent: &mut Lent, triangle: u32, sides: usize) {
+    for side in 0..sides {
+        let across = lent.tables.links[3 * triangle as usize + side] / 3;
+        set_up(lent, Call::Refine(across));
+    }
 }
 
 /// A triangle of generation 1 whose base is on the boundary: a child of the first triangle there.

@@ -8,10 +8,10 @@ use std::process::Command;
 use std::time::Instant;
 
 use crate::cases::{
-    AT_BOUNDARY, BOXES, Case, LOCKED_STEP, LONGEST, LONGEST_AT_BOUNDARY, LONGEST_BESIDE_LOCKS, NOTED, ONE_BY_ONE,
-    RECORDS, REPLAYS, STEPS, is_listed,
+    AT_BOUNDARY, BOXES, Case, FLIPPING, LOCKED_STEP, LONGEST, LONGEST_AT_BOUNDARY, LONGEST_BESIDE_LOCKS, NOTED,
+    ONE_BY_ONE, RECORDS, REPLAYS, STEPS, flips, is_listed,
 };
-use crate::tables::{Answer, Lent, scan_tables};
+use crate::tables::{Answer, Lent, Reported, scan_tables};
 use crate::{fast, library};
 
 /// What is measured of a case.
@@ -71,6 +71,7 @@ pub fn compare(case: &Case) {
         "soundness" => (8, 0),
         "refine even" | "refine odd" | AT_BOUNDARY => (0, 1),
         LONGEST | LONGEST_BESIDE_LOCKS => (0, 10),
+        name if FLIPPING.contains(&name) => (0, 1),
         LOCKED_STEP => (19, 0),
         LONGEST_AT_BOUNDARY => (0, 9),
         name if NOTED[2..].contains(&name) => (0, 10),
@@ -83,7 +84,12 @@ pub fn compare(case: &Case) {
         name if name == BOXES[2] => (11, 0),
         _ => (0, 0),
     };
-    assert!((refusal, splits as usize) == expected, "{}, {} triangles: {answer:?}", case.name, case.triangles);
+    let flipped = match answer {
+        Answer::Worked(worked) | Answer::Reported(Reported { worked, .. }) if flips(case.plain) > 0 => worked.flips,
+        _ => 0,
+    };
+    let made = (refusal, splits as usize) == expected && flipped as usize == flips(case.plain);
+    assert!(made, "{}, {} triangles: {answer:?}", case.name, case.triangles);
     assert!(case.name != NOTED[3] || ours.note[3] == 25, "{}, {} triangles: few slots", case.name, case.triangles);
 }
 

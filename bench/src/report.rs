@@ -63,7 +63,7 @@ pub fn print(cases: &[Case], counts: Option<&[Counted]>, times: &[Timed]) {
     println!("|---|--:|---|{}", "--:|".repeat(HEADS.len() - 3));
     for (i, case) in cases.iter().enumerate() {
         let order = if case.shuffled { "shuffled" } else { "in order" };
-        let counted = counts.map_or_else(Default::default, |counts| count_columns(case, counts[i]));
+        let counted = counts.map_or_else(Default::default, |counts| count_columns(i, cases, counts));
         let [library, _, fast, scan] = times[i].map(microseconds);
         let triangles = thousands(case.triangles as u64);
         let counted = counted.join(" | ");
@@ -131,7 +131,8 @@ fn shares_of_reports(cases: &[Case], counts: &[Counted]) -> String {
         let (reported, case) = beyond(name, cases, counts);
         (reported - beyond(case.plain, cases, counts).0, case.splits_made() as f64)
     };
-    let [even, chain, noted] = REFINES_REPORTED.map(more).map(|(more, splits)| more / splits);
+    let [even, one, two, three, chain, rim, rim_chain, noted] =
+        REFINES_REPORTED.map(more).map(|(more, splits)| more / splits);
     let batches = BATCHES_REPORTED.map(|names| {
         let [(few, fewer), (many, splits)] = names.map(more);
         let split = (many - few) / (splits - fewer);
@@ -139,8 +140,10 @@ fn shares_of_reports(cases: &[Case], counts: &[Counted]) -> String {
     });
     let [list, preview, panel] = batches;
     format!(
-        "Reports: {even:.1} more for each split of an even triangle, {chain:.1} of a chain of 10, {noted:.1} with a \
-         note; for each call and each split, {list} more of a list, {preview} of a preview, {panel} of a box."
+        "Reports: {even:.1} more for the split of an even triangle, {one:.1} with one flip, {two:.1} with two, \
+         {three:.1} with three; {rim:.1} for a rim split; for each split of a chain of 10 {chain:.1}, at the boundary \
+         {rim_chain:.1}, with a note {noted:.1}; for each call and each split, {list} more of a list, {preview} of a \
+         preview, {panel} of a box."
     )
 }
 
@@ -180,13 +183,16 @@ fn largest(name: &str, cases: &[Case]) -> usize {
     cases.iter().rposition(|case| case.name == name && !case.shuffled).expect("each name is a case")
 }
 
-fn count_columns(case: &Case, [library, soundness, fast, scan]: Counted) -> [String; 7] {
+fn count_columns(place: usize, cases: &[Case], counts: &[Counted]) -> [String; 7] {
+    let case = &cases[place];
+    let [library, soundness, fast, scan] = counts[place];
+    let most = most_beyond(case, cases, counts, soundness);
     let expert = expert(case);
     let ratio = expert.map(|expert| library as f64 / expert as f64);
     let beyond = library.saturating_sub(soundness);
     [
         bold_if(case.name == REPLAYS[1] && library > MOST_OF_REPLAY, thousands(library)),
-        most_beyond(case, soundness).map_or(String::new(), |most| bold_if(beyond > most, thousands(beyond))),
+        most.map_or(String::new(), |most| bold_if(beyond > most, thousands(beyond))),
         expert.map_or(String::new(), thousands),
         ratio.map_or(String::new(), |ratio| bold_if(ratio > MOST_TIMES, format!("{ratio:.2}"))),
         thousands(fast),
@@ -201,14 +207,24 @@ fn expert(case: &Case) -> Option<u64> {
     (!case.shuffled).then_some(*count)
 }
 
-/// What a call may take beyond soundness on the same tables, where its bound is stated by this.
-fn most_beyond(case: &Case, soundness: u64) -> Option<u64> {
+/// What a call may take beyond soundness on the same tables, where its bound is stated by this. A refine with a report
+/// is held to what the one without takes.
+fn most_beyond(case: &Case, cases: &[Case], counts: &[Counted], soundness: u64) -> Option<u64> {
     let most = most_without_report(case, soundness)?;
     if case.name == case.plain {
         return Some(most);
     }
-    let runs = if is_listed(case.plain) || BOXES.contains(&case.plain) { 2 } else { 1 };
-    Some(runs * most + MOST_TO_REPORT * case.splits_made() as u64)
+    let plain = if REFINES_REPORTED.contains(&case.name) { without_report(case, cases, counts) } else { 2 * most };
+    Some(plain + MOST_TO_REPORT * case.splits_made() as u64)
+}
+
+/// What the case without a report takes beyond soundness on the same tables.
+fn without_report(case: &Case, cases: &[Case], counts: &[Counted]) -> u64 {
+    let same =
+        |other: &Case| (other.name, other.triangles, other.shuffled) == (case.plain, case.triangles, case.shuffled);
+    let [library, soundness, ..] =
+        counts[cases.iter().position(same).expect("each case with a report has one without")];
+    library - soundness
 }
 
 fn most_without_report(case: &Case, soundness: u64) -> Option<u64> {

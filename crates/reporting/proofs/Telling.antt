@@ -103,7 +103,8 @@ room-then {m} n T r =
 pub flip-room : (l : List ℕ) (c at n : ℕ) {b : Bool} → b ≡ true → at + length (flipAfter l b c) ≤ n → at + 2 ≤ n
 flip-room l c at n e = subst (λ (b : Bool). at + length (flipAfter l b c) ≤ n) e
 
-pub tells-split : (l g : List ℕ) (t f : ℕ) {a b c d e : List ℕ} {at i j k end : ℕ} → Tells (t ∷ f ∷ (f + 1) ∷ []) a b at i
+pub tells-split : (l g : List ℕ) (t f : ℕ) {a b c d e : List ℕ} {at i j k end : ℕ}
+    → Tells (t ∷ f ∷ (f + 1) ∷ []) a b at i
     → Tells (flipAfter l (isFlipped g t) t) b c i j → Tells (flipAfter l (isSecondFlipped l g t f) f) c d j k
     → Tells (flipAfter l (isFlipped g (f + 1)) (f + 1)) d e k end → Tells (splitAfter l g t f) a e at end
 tells-split l g t f T U W X = tells-on T (tells-on U (tells-on W X))
@@ -147,7 +148,8 @@ pub never-fits : {t n : ℕ} {m : Mesh} → RefineFound t m → n < splitsOf (m 
 never-fits R i = sym (lt-leb _ _ (lt-of-lt-of-le i (some-reported R)))
 
 -- Where it fits from a place on, there is room for it, and else it is not told.
-pub fits-from : {t : ℕ} (at n : ℕ) {m : Mesh} → RefineFound t m → leb (length (refine t (atFirst m) .report)) (n - at) ≡ true
+pub fits-from : {t : ℕ} (at n : ℕ) {m : Mesh} → RefineFound t m
+    → leb (length (refine t (atFirst m) .report)) (n - at) ≡ true
     → at + length (refine t (atFirst m) .report) ≤ n
 fits-from {t} at n {m} R e =
     omega (arith, leb-true (length (refine t (atFirst m) .report)) (n - at) e, some-reported R)

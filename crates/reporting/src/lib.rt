@@ -19,7 +19,7 @@ ghost use Rattle.split.specs.Made.{workNow, BaseChain};
 ghost use Rattle.reporting.specs.Told.{Tells, Told};
 
 // Tells the slots of the split of t: its own, and then the new ones.
-fn put_slots(report: &mut [u32], at: usize, t: u32, f: u32) -> usize
+fn tell_slots(report: &mut [u32], at: usize, t: u32, f: u32) -> usize
     requires { ⌜ (at + 3 ≤ length (now report)) × (f < 4294967295) ⌝ }
     ensures { λ r. ⌜ Tells (t ∷ f ∷ (f + 1) ∷ []) (now (report .entry)) (now (report .exit)) at r ⌝ }
 {
@@ -49,7 +49,7 @@ fn is_second_flipped(links: &[u32], generations: &[u8], t: u32, f: u32) -> bool
 }
 
 // Tells the flip of child c, if there was one: with the triangle that its side 1 leads to.
-fn put_flip(links: &[u32], c: u32, flipped: bool, report: &mut [u32], at: usize) -> usize
+fn tell_flip(links: &[u32], c: u32, flipped: bool, report: &mut [u32], at: usize) -> usize
     requires { ⌜ (3 * c + 1 < length (now links))
         × (at + length (flipAfter (now links) flipped c) ≤ length (now report)) ⌝ }
     ensures { λ r. ⌜ Tells (flipAfter (now (links .entry)) flipped c) (now (report .entry)) (now (report .exit))
@@ -65,7 +65,7 @@ fn put_flip(links: &[u32], c: u32, flipped: bool, report: &mut [u32], at: usize)
 }
 
 // Tells the split of t into t, f and f + 1, and its flips, by the tables that it has left, if it is to be told. To look
-// at the bases that the three are to meet, before the split, would take more: a division for each, be it flipped or not.
+// before the split at the bases that the three are to meet would take more: a division for each, flipped or not.
 fn tell_split(
     links: &[u32],
     generations: &[u8],
@@ -85,16 +85,16 @@ fn tell_split(
         return at;
     }
     let e = f + 1;
-    let slots = put_slots(report, at, t, f);
-    let first = put_flip(links, t, is_flipped(generations, t), report, slots);
-    let second = put_flip(
+    let slots = tell_slots(report, at, t, f);
+    let first = tell_flip(links, t, is_flipped(generations, t), report, slots);
+    let second = tell_flip(
         links,
         f,
         is_second_flipped(links, generations, t, f),
         report,
         first,
     );
-    put_flip(links, e, is_flipped(generations, e), report, second)
+    tell_flip(links, e, is_flipped(generations, e), report, second)
 }
 
 // How much of a report the flip at side h takes, if there is one.

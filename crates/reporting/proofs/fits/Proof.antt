@@ -18,14 +18,16 @@ cast-if2 : tie.Need-cast-if2
 cast-if2 c = search needs
 
 returns-2 : tie.Need-returns-2
-returns-2 c t n p corners k R C = never-fits R (omega (arith, c .if2 .taken, c .before .splits .ensures, C .odd, C .rim))
+returns-2 c t n p corners k R C =
+    never-fits R (omega (arith, c .if2 .taken, c .before .splits .ensures, C .odd, C .rim))
 
 report-length-requires : tie.Need-report-length-requires
 report-length-requires c κs = search needs
 
 returns-3 : tie.Need-returns-3
 returns-3 c t n p corners k R C =
-    ap (λ (l : ℕ). leb l (c .before .before .before .before .before .before .args .entries)) (c .report-length .ensures t n p corners k R C)
+    ap (λ (l : ℕ). leb l (c .before .before .before .before .before .before .args .entries))
+    (c .report-length .ensures t n p corners k R C)
 
 pub fits-spec : {M : Type 1} → statement M
 fits-spec =

@@ -56,8 +56,10 @@ module _ (c : tie.At-loop Inv-loop μ-loop) where
       (length (start .args .report .now) - start .args .at)
   fitted rule R =
       let args = start .args in
-      let n : Counts = record { vertices = args .counts .vertices; triangles = args .counts .triangles; rule = rule } in
-      c .before .fits2 .ensures (args .t) n (args .positions .now) (args .corners .now) (args .locks .now) R (start .pre .1)
+      let k = args .counts in
+      let n : Counts = record { vertices = k .vertices; triangles = k .triangles; rule = rule } in
+      c .before .fits2 .ensures (args .t) n (args .positions .now) (args .corners .now) (args .locks .now) R
+      (start .pre .1)
       ∙ ap (leb (length (rules.refine (args .t) (rules.atFirst (first rule)) .report)))
       (c .before .before .room-from .ensures)
 
@@ -165,6 +167,7 @@ tell-split-requires c κs =
     let (report, N, T) = so-far at in
     let (after, e) = at-split .split-at .ensures (rule at) report in
     let x = next at-split (rule at) after in
+    let args = start (head at) .args in
     let (own, new, both, few) = turn-within-tables (found at) N (more at) (at-end at) x e in (
       own,
       new,
@@ -172,7 +175,8 @@ tell-split-requires c κs =
       few,
       λ f.
           turn-room (found at) N (more at) (at-end at) x e (T f)
-          (fits-from (start (head at) .args .at) (length (start (head at) .args .report .now)) (found at) (sym (fitted (head at) (rule at) (found at)) ∙ f)),
+          (fits-from (args .at) (length (args .report .now)) (found at)
+          (sym (fitted (head at) (rule at) (found at)) ∙ f)),
     )
 
 sub-left : tie.Need-sub-left Inv-loop μ-loop

@@ -55,48 +55,48 @@ module _ (c : tie.Else1) where
   room = start .pre .4 (not-false (start .args .telling) (c .if1 .left))
 
 -- What is told so far, and the room for the rest.
-abbrev if-of-slots : tie.After-put-slots → tie.Else1
+abbrev if-of-slots : tie.After-tell-slots → tie.Else1
 if-of-slots c = c .before .before
 
-slots-room : (c : tie.After-put-slots) →
+slots-room : (c : tie.After-tell-slots) →
     let at = if-of-slots c in
-    c .put-slots .result + length (first at ++ (second at ++ third at)) ≤ length (c .put-slots .last .0)
+    c .tell-slots .result + length (first at ++ (second at ++ third at)) ≤ length (c .tell-slots .last .0)
 slots-room c =
     let at = if-of-slots c in
-    room-then (first at ++ (second at ++ third at)) (c .put-slots .ensures) (room at)
+    room-then (first at ++ (second at ++ third at)) (c .tell-slots .ensures) (room at)
 
-abbrev slots-of-first : tie.After-put-flip → tie.After-put-slots
+abbrev slots-of-first : tie.After-tell-flip → tie.After-tell-slots
 slots-of-first c = c .before .before .before .before .before
 
-first-told : (c : tie.After-put-flip) →
+first-told : (c : tie.After-tell-flip) →
     let at-slots = slots-of-first c in
-    Tells (first (if-of-slots at-slots)) (at-slots .put-slots .last .0) (c .put-flip .last .1 .1 .1 .0)
-    (at-slots .put-slots .result) (c .put-flip .result)
+    Tells (first (if-of-slots at-slots)) (at-slots .tell-slots .last .0) (c .tell-flip .last .1 .1 .1 .0)
+    (at-slots .tell-slots .result) (c .tell-flip .result)
 first-told c =
     let at = if-of-slots (slots-of-first c) in
-    answered (l at) (t at) (c .before .before .is-flipped .ensures) (c .put-flip .ensures)
+    answered (l at) (t at) (c .before .before .is-flipped .ensures) (c .tell-flip .ensures)
 
-first-room : (c : tie.After-put-flip) →
+first-room : (c : tie.After-tell-flip) →
     let at = if-of-slots (slots-of-first c) in
-    c .put-flip .result + length (second at ++ third at) ≤ length (c .put-flip .last .1 .1 .1 .0)
+    c .tell-flip .result + length (second at ++ third at) ≤ length (c .tell-flip .last .1 .1 .1 .0)
 first-room c =
     let at = if-of-slots (slots-of-first c) in
     room-then (second at ++ third at) (first-told c) (slots-room (slots-of-first c))
 
-abbrev first-of-second : tie.After-put-flip2 → tie.After-put-flip
+abbrev first-of-second : tie.After-tell-flip2 → tie.After-tell-flip
 first-of-second c = c .before .before .before .before .before
 
-second-told : (c : tie.After-put-flip2) →
+second-told : (c : tie.After-tell-flip2) →
     let at-first = first-of-second c in
-    Tells (second (if-of-slots (slots-of-first at-first))) (at-first .put-flip .last .1 .1 .1 .0)
-    (c .put-flip2 .last .1 .1 .1 .0) (at-first .put-flip .result) (c .put-flip2 .result)
+    Tells (second (if-of-slots (slots-of-first at-first))) (at-first .tell-flip .last .1 .1 .1 .0)
+    (c .tell-flip2 .last .1 .1 .1 .0) (at-first .tell-flip .result) (c .tell-flip2 .result)
 second-told c =
     let at = if-of-slots (slots-of-first (first-of-second c)) in
-    answered (l at) (f at) (c .before .before .is-second-flipped .ensures) (c .put-flip2 .ensures)
+    answered (l at) (f at) (c .before .before .is-second-flipped .ensures) (c .tell-flip2 .ensures)
 
-second-room : (c : tie.After-put-flip2) →
+second-room : (c : tie.After-tell-flip2) →
     let at = if-of-slots (slots-of-first (first-of-second c)) in
-    c .put-flip2 .result + length (third at) ≤ length (c .put-flip2 .last .1 .1 .1 .0)
+    c .tell-flip2 .result + length (third at) ≤ length (c .tell-flip2 .last .1 .1 .1 .0)
 second-room c =
     let at = if-of-slots (slots-of-first (first-of-second c)) in
     room-then (third at) (second-told c) (first-room (first-of-second c))
@@ -104,8 +104,8 @@ second-room c =
 add-e : tie.Need-add-e
 add-e c = search needs
 
-put-slots-requires : tie.Need-put-slots-requires
-put-slots-requires c κs =
+tell-slots-requires : tie.Need-tell-slots-requires
+tell-slots-requires c κs =
     let at = c .before in
     let slots = t at ∷ f at ∷ (f at + 1) ∷ [] in (
       room-first slots (first at ++ (second at ++ third at)) _ _ (room at),
@@ -115,8 +115,8 @@ put-slots-requires c κs =
 is-flipped-requires : tie.Need-is-flipped-requires
 is-flipped-requires c κs = search needs
 
-put-flip-requires : tie.Need-put-flip-requires
-put-flip-requires c κs =
+tell-flip-requires : tie.Need-tell-flip-requires
+tell-flip-requires c κs =
     let at-is-flipped = c .before in
     let at-slots = at-is-flipped .before .before .before in
     let at = if-of-slots at-slots in (
@@ -128,8 +128,8 @@ put-flip-requires c κs =
 is-second-flipped-requires : tie.Need-is-second-flipped-requires
 is-second-flipped-requires c κs = search needs
 
-put-flip-requires-2 : tie.Need-put-flip-requires-2
-put-flip-requires-2 c κs =
+tell-flip-requires-2 : tie.Need-tell-flip-requires-2
+tell-flip-requires-2 c κs =
     let at-is-flipped = c .before in
     let at-first = at-is-flipped .before .before .before in
     let at = if-of-slots (slots-of-first at-first) in (
@@ -141,8 +141,8 @@ put-flip-requires-2 c κs =
 is-flipped-requires-2 : tie.Need-is-flipped-requires-2
 is-flipped-requires-2 c κs = search needs
 
-put-flip-requires-3 : tie.Need-put-flip-requires-3
-put-flip-requires-3 c κs =
+tell-flip-requires-3 : tie.Need-tell-flip-requires-3
+tell-flip-requires-3 c κs =
     let at-is-flipped = c .before in
     let at-second = at-is-flipped .before .before .before in
     let at = if-of-slots (slots-of-first (first-of-second at-second)) in (
@@ -161,8 +161,8 @@ returns-2 c q =
     let at-first = first-of-second at-second in
     let at-slots = slots-of-first at-first in
     let at = if-of-slots at-slots in
-    tells-split (l at) (g at) (t at) (f at) (at-slots .put-slots .ensures) (first-told at-first) (second-told at-second)
-    (answered (l at) (f at + 1) (at-is-flipped .is-flipped2 .ensures) (at-third .put-flip3 .ensures))
+    tells-split (l at) (g at) (t at) (f at) (at-slots .tell-slots .ensures) (first-told at-first) (second-told at-second)
+    (answered (l at) (f at + 1) (at-is-flipped .is-flipped2 .ensures) (at-third .tell-flip3 .ensures))
 
 pub tell-split-spec : {M : Type 1} → statement M
 tell-split-spec =
@@ -170,12 +170,12 @@ tell-split-spec =
     (tie.spec
     returns
     add-e
-    put-slots-requires
+    tell-slots-requires
     is-flipped-requires
-    put-flip-requires
+    tell-flip-requires
     is-second-flipped-requires
-    put-flip-requires-2
+    tell-flip-requires-2
     is-flipped-requires-2
-    put-flip-requires-3
+    tell-flip-requires-3
     same-length
     returns-2)

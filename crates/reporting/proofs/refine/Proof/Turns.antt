@@ -21,7 +21,8 @@ pub end-within : {t end : ℕ} {m : Mesh} → RefineFound t m → end ≡ chainE
     → 3 * end + 2 < length (m .topology .links)
 end-within {t} {end} {m} R e = go (splitsOf (m .topology) t) (omega arith) (ahead R)
   where
-    go : (k : ℕ) → 0 < k → Ahead k (generation (m .topology) t) t (atFirst m) → 3 * end + 2 < length (m .topology .links)
+    go : (k : ℕ) → 0 < k → Ahead k (generation (m .topology) t) t (atFirst m)
+        → 3 * end + 2 < length (m .topology .links)
     go zero i A = absurd (omega arith)
     go (suc k) i A = omega (arith, e, ahead-end A .inUse, A .manifold .linkRoom)
 
@@ -57,10 +58,11 @@ module _ {t left end : ℕ} {m : Mesh} {slots : List ℕ} {w : Work} (R : Refine
 
     turn-report : a .report ≡ w .report ++ told
     turn-report =
-        let after : ℕ → Work → Type 0 =
-        λ v b. b .report
-        ≡ w .report ++ splitAfter (b .mesh .topology .links) (b .mesh .topology .generations) v (w .mesh .topology .triangles) in
-        subst (after end) (sym ea) (subst (λ (v : ℕ). after v (splitAt v w)) (sym e) (ahead-splitting (turn .ahead) .after))
+        let after : ℕ → Work → Type 0 = λ v b.
+        let m = b .mesh .topology in
+        b .report ≡ w .report ++ splitAfter (m .links) (m .generations) v (w .mesh .topology .triangles) in
+        subst (after end) (sym ea)
+        (subst (λ (v : ℕ). after v (splitAt v w)) (sym e) (ahead-splitting (turn .ahead) .after))
 
     pub turn-within-tables :
         let g = a .mesh .topology .generations in
@@ -71,14 +73,16 @@ module _ {t left end : ℕ} {m : Mesh} {slots : List ℕ} {w : Work} (R : Refine
         let A = agree-on (R .sound .tables) (turn-on .room) in
         let q : length (a .mesh .topology .generations) ≡ length (w .mesh .topology .generations) =
         turn-on .room .generations ∙ sym (N .room .generations) in
-        (omega (arith, e, S .inUse, S .room .triangles), omega (arith, S .room .triangles), omega (arith, A .links), A .fewTriangles)
+        let l = S .room .triangles in
+        (omega (arith, e, S .inUse), omega arith, omega (arith, A .links), A .fewTriangles)
 
     -- Where the whole report has room, it has; and it is told after what was.
     pub turn-room : {r₀ r : List ℕ} {at next : ℕ} → Tells (w .report) r₀ r at next
         → at + length (refine t (atFirst m) .report) ≤ length r₀ → next + length told ≤ length r
     turn-room T l =
         let i : length (a .report) ≤ length (refine t (atFirst m) .report) =
-        subst (λ (x : Work). length (a .report) ≤ length (x .report)) (turn-on .result) (longer-ahead (left - 1) a (turn-on .ahead)) in
+        subst (λ (x : Work). length (a .report) ≤ length (x .report)) (turn-on .result)
+        (longer-ahead (left - 1) a (turn-on .ahead)) in
         room-then told T (omega (arith, ap length turn-report))
 
     pub turn-told : {r₀ r x : List ℕ} {at next end : ℕ} → Tells (w .report) r₀ r at next → Tells told r x next end

@@ -1,11 +1,11 @@
--- `reporting::put_slots` meets its contract.
+-- `reporting::tell_slots` meets its contract.
 use native.Mathlib.Omega.{arith}
 use Prim.Native.Nat.{_+_}
 use lib.ListN.{length-set}
 use Rattle.reporting.proofs.Telling.{tells-three}
 use borrow.Author.Needs.{needs}
-use Rattle.reporting.proofs.put_slots.Statement.{statement}
-use Rattle.reporting.proofs.put_slots.Tie as tie
+use Rattle.reporting.proofs.tell_slots.Statement.{statement}
+use Rattle.reporting.proofs.tell_slots.Tie as tie
 
 mul-report : tie.Need-mul-report
 mul-report c = search needs
@@ -45,8 +45,8 @@ returns c =
     let args = c .args in
     tells-three (args .t) (args .f) (args .f + 1) (args .at) (args .report .now)
 
-pub put-slots-spec : {M : Type 1} → statement M
-put-slots-spec =
+pub tell-slots-spec : {M : Type 1} → statement M
+tell-slots-spec =
     tie.close
     (tie.spec
     mul-report

@@ -1,11 +1,12 @@
--- `reporting::put_flip` meets its contract.
+-- `reporting::tell_flip` meets its contract.
 use borrow.Author.Tests.{not-true, not-false}
 use native.Mathlib.Omega.{arith}
+use Prim.Native.Nat.{_+_, _≤_}
 use lib.ListN.{length, length-set}
 use Rattle.reporting.proofs.Telling.{tells-none, tells-two, flip-room}
 use borrow.Author.Needs.{needs}
-use Rattle.reporting.proofs.put_flip.Statement.{statement}
-use Rattle.reporting.proofs.put_flip.Tie as tie
+use Rattle.reporting.proofs.tell_flip.Statement.{statement}
+use Rattle.reporting.proofs.tell_flip.Tie as tie
 
 returns : tie.Need-returns
 returns c =
@@ -21,13 +22,17 @@ add-side c = search needs
 mul-report : tie.Need-mul-report
 mul-report c = search needs
 
-slice-write-report : tie.Need-slice-write-report
-slice-write-report c =
+-- It was flipped, and there is room for two entries.
+room : (c : tie.Else1) →
     let args = c .before .args in
-    omega (
-      arith,
-      flip-room (args .links .now) (args .c) (args .at) (length (args .report .now)) (not-false (args .flipped) (c .if1 .left)) (c .before .pre .1),
-    )
+    args .at + 2 ≤ length (args .report .now)
+room c =
+    let args = c .before .args in
+    flip-room (args .links .now) (args .c) (args .at) (length (args .report .now))
+    (not-false (args .flipped) (c .if1 .left)) (c .before .pre .1)
+
+slice-write-report : tie.Need-slice-write-report
+slice-write-report c = omega (arith, room c)
 
 mul-report-2 : tie.Need-mul-report-2
 mul-report-2 c = search needs
@@ -42,13 +47,7 @@ mul-report-3 : tie.Need-mul-report-3
 mul-report-3 c = search needs
 
 slice-write-report-2 : tie.Need-slice-write-report-2
-slice-write-report-2 c =
-    let at-if1 = c .before in
-    let args = at-if1 .before .args in
-    let room =
-    flip-room (args .links .now) (args .c) (args .at) (length (args .report .now)) (not-false (args .flipped) (at-if1 .if1 .left))
-    (at-if1 .before .pre .1) in
-    simp length-set (omega (arith, room))
+slice-write-report-2 c = simp length-set (omega (arith, room (c .before)))
 
 add-result : tie.Need-add-result
 add-result c = search needs
@@ -62,8 +61,8 @@ returns-2 c =
     let args = at-if1 .before .args in
     rw (not-false (args .flipped) (at-if1 .if1 .left)) (tells-two (args .c) _ (args .at) (args .report .now))
 
-pub put-flip-spec : {M : Type 1} → statement M
-put-flip-spec =
+pub tell-flip-spec : {M : Type 1} → statement M
+tell-flip-spec =
     tie.close
     (tie.spec
     returns
