@@ -8,7 +8,8 @@ use native.Mathlib.Decide.{ℕ-discrete}
 use Rattle.theory.proofs.Boxes.BoxCall.{box-sound}
 use Rattle.theory.proofs.Lists.ListCall.{same-sizes-is, spares-sound}
 use Rattle.theory.proofs.Numbers.Decide.{is-same, is-true}
-use Rattle.theory.proofs.Results.Refusing.{refusal-leaves}
+use Rattle.theory.proofs.Locks.LockedFaces.{refused-stands}
+use Rattle.theory.proofs.Notes.Restoring.{slots-same}
 use Rattle.theory.proofs.Results.Load.{load-carried}
 use Rattle.theory.proofs.Results.Refine.{refine-carried}
 use Rattle.theory.proofs.Results.WholeStep.{whole-step-carried}
@@ -23,7 +24,7 @@ use Rattle.rules.specs.Calls.{Outcome, spareRoom, unless}
 use Rattle.rules.specs.History.{Change, loads, refines, steps, refinesEach, refinesInBox, setsLock, refinesNoted}
 use Rattle.rules.specs.History.{takesBack, reports, changed, changes}
 use Rattle.rules.specs.Lists.{Progress, refineEach, sparesRefusal, allOrNothing, listCall}
-use Rattle.rules.specs.Promises.{SamePast, refusedWork, refusedAs, refusedReport}
+use Rattle.rules.specs.Promises.{SamePast}
 use Rattle.rules.specs.Reports.{Refining, one, withNote, each, inBox, plainCall}
 use Rattle.rules.specs.Spares.{Spares, SameSizes, sameSizes}
 use Rattle.rules.specs.Tables.{Mesh, vertexSlots, triangleSlots}
@@ -32,36 +33,10 @@ use Rattle.journal.specs.Recording.{entryFor, entryForRefining}
 
 -- ---- a change that is refused leaves the mesh
 
-work-leaves : (first : ℕ) (p : Progress) (spares : Spares) (n : ℕ) (m : Mesh)
-    → refusedWork first p spares n m .mesh ≡ m
-work-leaves zero p spares n m = refl
-work-leaves (suc k) p spares n m = refl
-
-refining-leaves : (r : Refining) (n : ℕ) (m : Mesh) → refusedReport r n m .mesh ≡ m
-refining-leaves (one t) n m = refl
-refining-leaves (withNote t note) n m = refl
-refining-leaves (each list spares) n m = work-leaves (sparesRefusal spares m) (refineEach list m) spares n m
-refining-leaves (inBox b spares) n m = work-leaves (boxRefusal b spares m) (refineInBox b m) spares n m
-
-as-it-was : (c : Change) (n : ℕ) (m : Mesh) → refusedAs (changes c) n m .mesh ≡ m
-as-it-was (loads rule cage) n m = refl
-as-it-was (refines t) n m = refl
-as-it-was steps n m = refl
-as-it-was (refinesEach list spares) n m = refining-leaves (each list spares) n m
-as-it-was (refinesInBox b spares) n m = refining-leaves (inBox b spares) n m
-as-it-was (setsLock on t) n m = refl
-as-it-was (refinesNoted t note) n m = refl
-as-it-was (takesBack note) n m = refl
-as-it-was (reports r buffer) n m = refining-leaves r n m
-
 pub refused-mesh : (c : Change) (m : Mesh) → changed c m .answer .refusal ≢ 0 → changed c m .mesh ≡ m
-refused-mesh c m x =
-    ap (λ (o : Outcome). o .mesh) (refusal-leaves (changes c) m x) ∙ as-it-was c (changed c m .answer .refusal) m
+refused-mesh c m x = refused-stands (changes c) m x
 
 -- ---- the lengths of the tables
-
-pub slots-same : (m : Mesh) → SameSlots m m
-slots-same m = record { positions = refl; corners = refl; links = refl; generations = refl; locks = refl }
 
 slots-past : {m n : Mesh} → SamePast m n → SameSlots m n
 slots-past P = record {

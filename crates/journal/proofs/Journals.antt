@@ -12,6 +12,7 @@ use lib.Dec.{ltb}
 use lib.ListN.{length, take, drop, length-drop, length-append}
 use lib.Seq.{drop-drop, drop-append-le}
 use Rattle.theory.proofs.Calls.EveryCall.{question-stands}
+use Rattle.theory.proofs.Notes.Restoring.{slots-same, slots-on}
 use Rattle.theory.proofs.Soundness.Relaxed.{SameSlots}
 use Rattle.rules.specs.History.{Call, changes, asks, outcome, after}
 use Rattle.rules.specs.Spares.{Spares}
@@ -20,22 +21,13 @@ use Rattle.journal.specs.Journal.{Entry, stopAt, headerStop}
 use Rattle.journal.specs.Records.{Records, noRecords, decode}
 use Rattle.journal.specs.Recording.{callsOf, StopsWith, noRecord, tooMany, refuses, ReplayOf, andThen}
 use Rattle.journal.specs.Replay.{Lent, Replay, stopped, replayFirst, startedAt, replayIf, replay}
-use Rattle.journal.proofs.Changes.{slots-same, change-slots, vertex-slots, triangle-slots}
+use Rattle.journal.proofs.Changes.{change-slots, vertex-slots, triangle-slots}
 use Rattle.journal.proofs.Headers.{header-numbers, header-short, header-longer}
 use Rattle.journal.proofs.Reading.{stop-numbers, decode-stops}
 use Rattle.journal.proofs.Replaying.{Replays, Tells, replays-first, replays-is, replays-tells, tells-of}
 use Rattle.journal.proofs.Replaying.{rest-read, seq, replays-longer}
 
 -- ---- every history keeps the lengths of the tables
-
-slots-on : {m n k : Mesh} → SameSlots m n → SameSlots n k → SameSlots m k
-slots-on a b = record {
-  positions = b .positions ∙ a .positions;
-  corners = b .corners ∙ a .corners;
-  links = b .links ∙ a .links;
-  generations = b .generations ∙ a .generations;
-  locks = b .locks ∙ a .locks;
-}
 
 pub call-slots : (c : Call) (m : Mesh) → SameSlots m (outcome c m .mesh)
 call-slots (changes c) m = change-slots c m

@@ -74,7 +74,7 @@ refused-mesh (asks (previewReported list spares buffer)) n m =
 refused-mesh (asks (previewOf list spares)) n m = refused-work (sparesRefusal spares m) (refineEach list m) spares n m
 
 -- A refused call leaves the mesh.
-refused-stands : (c : Call) (m : Mesh) → outcome c m .answer .refusal ≢ 0 → outcome c m .mesh ≡ m
+pub refused-stands : (c : Call) (m : Mesh) → outcome c m .answer .refusal ≢ 0 → outcome c m .mesh ≡ m
 refused-stands c m n = ap (λ (o : Outcome). o .mesh) (refused-is c m n) ∙ refused-mesh c _ m
 
 -- ---- carried out
