@@ -59,8 +59,9 @@ fn tell_flip(links: &[u32], c: u32, flipped: bool, report: &mut [u32], at: usize
         return at;
     }
     let side = 3 * (c as usize) + 1;
+    let u = links[side] / 3;
     report[at] = c;
-    report[at + 1] = links[side] / 3;
+    report[at + 1] = u;
     at + 2
 }
 

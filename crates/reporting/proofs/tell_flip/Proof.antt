@@ -13,15 +13,6 @@ returns c =
     let args = c .before .args in
     rw (not-true (args .flipped) (c .if1 .taken)) (tells-none (args .at) (args .report .now))
 
-mul-side : tie.Need-mul-side
-mul-side c = search needs
-
-add-side : tie.Need-add-side
-add-side c = search needs
-
-mul-report : tie.Need-mul-report
-mul-report c = search needs
-
 -- It was flipped, and there is room for two entries.
 room : (c : tie.Else1) →
     let args = c .before .args in
@@ -31,20 +22,29 @@ room c =
     flip-room (args .links .now) (args .c) (args .at) (length (args .report .now))
     (not-false (args .flipped) (c .if1 .left)) (c .before .pre .1)
 
+mul-side : tie.Need-mul-side
+mul-side c = search needs
+
+add-side : tie.Need-add-side
+add-side c = search needs
+
+mul-u : tie.Need-mul-u
+mul-u c = search needs
+
+shared-slice-read-u : tie.Need-shared-slice-read-u
+shared-slice-read-u c = search needs
+
+mul-report : tie.Need-mul-report
+mul-report c = search needs
+
 slice-write-report : tie.Need-slice-write-report
-slice-write-report c = omega (arith, room c)
-
-mul-report-2 : tie.Need-mul-report-2
-mul-report-2 c = search needs
-
-shared-slice-read-report : tie.Need-shared-slice-read-report
-shared-slice-read-report c = search needs
+slice-write-report c = omega (arith, room (c .before))
 
 add-report : tie.Need-add-report
 add-report c = search needs
 
-mul-report-3 : tie.Need-mul-report-3
-mul-report-3 c = search needs
+mul-report-2 : tie.Need-mul-report-2
+mul-report-2 c = search needs
 
 slice-write-report-2 : tie.Need-slice-write-report-2
 slice-write-report-2 c = simp length-set (omega (arith, room (c .before)))
@@ -68,12 +68,12 @@ tell-flip-spec =
     returns
     mul-side
     add-side
+    mul-u
+    shared-slice-read-u
     mul-report
     slice-write-report
-    mul-report-2
-    shared-slice-read-report
     add-report
-    mul-report-3
+    mul-report-2
     slice-write-report-2
     add-result
     same-length
