@@ -114,6 +114,10 @@ tells-split l g t f T U W X = tells-on T (tells-on U (tells-on W X))
 after-first : (l s a b c : ℕ) → 1 ≤ s → l + 2 ≡ 5 * s + a + b + c → 5 * s - 2 + a + b + c ≡ l
 after-first l s a b c i e = omega arith
 
+pub splits-are : {m : Topology} {t : ℕ} {chain : Chain} → BaseChain m t chain
+    → max 1 (chain .odd - chain .rim) ≡ splitsOf m t
+splits-are C = rw (C .odd, C .rim) refl
+
 pub length-steps : {t : ℕ} {m : Mesh} {chain : Chain} {own second third splits : ℕ} → RefineFound t m
     → BaseChain (m .topology) t chain
     → let h = 3 * chain .end in
@@ -121,8 +125,7 @@ pub length-steps : {t : ℕ} {m : Mesh} {chain : Chain} {own second third splits
     → third ≡ length (pairAt (m .topology) 0 (h + 2)) → splits ≡ max 1 (chain .odd - chain .rim)
     → 5 * splits - 2 + own + second + third ≡ length (refine t (atFirst m) .report)
 length-steps {t} {m} {chain} R C p q r s =
-    let x : max 1 (chain .odd - chain .rim) ≡ splitsOf (m .topology) t = rw (C .odd, C .rim) refl in
-    rw (p, q, r, s, x, C .end) (after-first _ _ _ _ _ (some-split (m .topology) t) (refine-report-length R))
+    rw (p, q, r, s, splits-are C, C .end) (after-first _ _ _ _ _ (some-split (m .topology) t) (refine-report-length R))
   where
     some-split : (m : Topology) (t : ℕ) → 1 ≤ splitsOf m t
     some-split m t = omega arith

@@ -166,7 +166,8 @@ fn across_last(links: &[u32], slots: &[u32; 20], odd: u32) -> u32
 // The refinement of t, from the end of its base chain upwards. An odd triangle keeps its slot and its place in the
 // chain until it is flipped. What lies across its base is read anew for each split, as a flip may move it to another
 // slot. The splits are told from place `at` of the report on, if it has room for all of them. A plain call has no room
-// for any, which is tested once and not for each split.
+// for any, which is tested once and not for each split. The first split has a call of its own: with one call for all,
+// split_at would be inlined, and each split would take some 20 instructions more.
 pub fn refine(
     positions: &mut [i32],
     corners: &mut [u32],
@@ -189,7 +190,7 @@ pub fn refine(
         ≡ w) × Told (w .report) (now (report .entry)) (now (report .exit)) at) ⌝ }
 {
     let slots = chain.slots;
-    let mut work = Work {
+    let start = Work {
         vertices: counts.vertices,
         triangles: counts.triangles,
         splits: 0,
@@ -197,16 +198,30 @@ pub fn refine(
     };
     let mut left = chain.splits();
     let telling = fits(links, generations, chain, room_from(report.len(), at));
-    let mut end = chain.end;
-    let mut told = at;
-    while 0 < left {
+    let mut work = split::split_at(
+        positions,
+        corners,
+        links,
+        generations,
+        locks,
+        start,
+        chain.end,
+    );
+    let mut told = tell_split(
+        links,
+        generations,
+        chain.end,
+        start.triangles,
+        telling,
+        report,
+        at,
+    );
+    while 1 < left {
+        left -= 1;
+        let end = across_last(links, &slots, left);
         let f = work.triangles;
         work = split::split_at(positions, corners, links, generations, locks, work, end);
         told = tell_split(links, generations, end, f, telling, report, told);
-        left -= 1;
-        if 0 < left {
-            end = across_last(links, &slots, left);
-        }
     }
     work
 }

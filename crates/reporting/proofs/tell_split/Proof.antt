@@ -161,7 +161,8 @@ returns-2 c q =
     let at-first = first-of-second at-second in
     let at-slots = slots-of-first at-first in
     let at = if-of-slots at-slots in
-    tells-split (l at) (g at) (t at) (f at) (at-slots .tell-slots .ensures) (first-told at-first) (second-told at-second)
+    tells-split (l at) (g at) (t at) (f at) (at-slots .tell-slots .ensures) (first-told at-first)
+    (second-told at-second)
     (answered (l at) (f at + 1) (at-is-flipped .is-flipped2 .ensures) (at-third .tell-flip3 .ensures))
 
 pub tell-split-spec : {M : Type 1} → statement M

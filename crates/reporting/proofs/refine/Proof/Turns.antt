@@ -1,6 +1,7 @@
--- A turn of the loop of refine: what its split asks, what is told of it, and where the next one is.
-use Prim.Native.Nat.{ℕ, zero, suc, _+_, _-_, _*_, _/_, _≤_, _<_}
+-- A split of refine: what it asks, what is told of it, and where the next one is.
+use Prim.Native.Nat.{ℕ, zero, suc, _+_, _-_, _*_, _≤_, _<_}
 use native.Mathlib.Omega.{arith}
+use mathlib.Core.Bool.{Bool, true}
 use mathlib.Core.List.{List, _++_}
 use mathlib.Core.Path.{_≡_, sym, ap, _∙_, subst}
 use lib.ListN.{length, getD}
@@ -11,7 +12,7 @@ use Rattle.theory.proofs.Soundness.Relaxed.{agree-on}
 use Rattle.theory.proofs.Splits.After.{splitAfter}
 use Rattle.rules.specs.Calls.{splitsOf}
 use Rattle.rules.specs.Split.{Work, atFirst, splitAt, chainEnd, refine}
-use Rattle.rules.specs.Tables.{Mesh, link, generation}
+use Rattle.rules.specs.Tables.{Mesh, generation}
 use Rattle.split.specs.Made.{MaySplit}
 use Rattle.reporting.specs.Told.{Tells}
 use Rattle.reporting.proofs.Telling.{tells-on, room-then}
@@ -25,6 +26,19 @@ end-within {t} {end} {m} R e = go (splitsOf (m .topology) t) (omega arith) (ahea
         → 3 * end + 2 < length (m .topology .links)
     go zero i A = absurd (omega arith)
     go (suc k) i A = omega (arith, e, ahead-end A .inUse, A .manifold .linkRoom)
+
+-- Refining t in m with some splits left, which is told from place `at` of b on if it is to be told: it has made w, and
+-- told b as far as place `next`.
+pub record Turned (t : ℕ) (m : Mesh) (slots : List ℕ) (telling : Bool) (b : List ℕ) (at left : ℕ) (w : Work)
+    (s : List ℕ) (next : ℕ) : Type 0 where
+  pub refining : Refining t m slots left w
+  pub tells : telling ≡ true → Tells (w .report) b s at next
+  pub size : length s ≡ length b
+
+-- The next split is across the base of the last triangle that is remembered.
+abbrev pub Next : ℕ → List ℕ → ℕ → Work → Type 0
+Next t slots left w =
+    0 < left → Across (getD slots (left - 1) 0) (chainEnd (w .mesh .topology) t) (w .mesh .topology)
 
 -- With some splits left, the next at the end of the chain, which makes w to a.
 module _ {t left end : ℕ} {m : Mesh} {slots : List ℕ} {w : Work} (R : RefineFound t m) (N : Refining t m slots left w)
@@ -49,7 +63,7 @@ module _ {t left end : ℕ} {m : Mesh} {slots : List ℕ} {w : Work} (R : Refine
     split-is : a ≡ splitAt (chainEnd (w .mesh .topology) t) w
     split-is = ea ∙ ap (λ (v : ℕ). splitAt v w) e
 
-    pub turn-on : Refining t m slots (left - 1) a
+    turn-on : Refining t m slots (left - 1) a
     turn-on = rw split-is (refining-on R turn)
 
     -- What it reports, read from the tables that it leaves.
@@ -64,42 +78,39 @@ module _ {t left end : ℕ} {m : Mesh} {slots : List ℕ} {w : Work} (R : Refine
         subst (after end) (sym ea)
         (subst (λ (v : ℕ). after v (splitAt v w)) (sym e) (ahead-splitting (turn .ahead) .after))
 
-    pub turn-within-tables :
-        let g = a .mesh .topology .generations in
-        (end < length g) × (w .mesh .topology .triangles + 1 < length g)
-        × (3 * length g ≤ length (a .mesh .topology .links)) × (length g ≤ 65536)
-    turn-within-tables =
-        let S = refining-next R turn in
-        let A = agree-on (R .sound .tables) (turn-on .room) in
-        let q : length (a .mesh .topology .generations) ≡ length (w .mesh .topology .generations) =
-        turn-on .room .generations ∙ sym (N .room .generations) in
-        let l = S .room .triangles in
-        (omega (arith, e, S .inUse), omega arith, omega (arith, A .links), A .fewTriangles)
+    -- Where it is to be told, and the whole report has room, it has; and it is told after what was.
+    module _ {telling : Bool} {b s : List ℕ} {at next : ℕ} (T : Turned t m slots telling b at left w s next) where
+      pub turn-asks : (telling ≡ true → at + length (refine t (atFirst m) .report) ≤ length b) →
+          let g = a .mesh .topology .generations in
+          (end < length g) × (w .mesh .topology .triangles + 1 < length g)
+          × (3 * length g ≤ length (a .mesh .topology .links)) × (length g ≤ 65536)
+          × (telling ≡ true → next + length told ≤ length s)
+      turn-asks room =
+          let S = refining-next R turn in
+          let A = agree-on (R .sound .tables) (turn-on .room) in
+          let q : length (a .mesh .topology .generations) ≡ length (w .mesh .topology .generations) =
+          turn-on .room .generations ∙ sym (N .room .generations) in
+          let l = S .room .triangles in
+          let i : length (a .report) ≤ length (refine t (atFirst m) .report) =
+          subst (λ (x : Work). length (a .report) ≤ length (x .report)) (turn-on .result)
+          (longer-ahead (left - 1) a (turn-on .ahead)) in (
+            omega (arith, e, S .inUse),
+            omega arith,
+            omega (arith, A .links),
+            A .fewTriangles,
+            λ f. room-then told (T .tells f) (omega (arith, room f, ap length turn-report)),
+          )
 
-    -- Where the whole report has room, it has; and it is told after what was.
-    pub turn-room : {r₀ r : List ℕ} {at next : ℕ} → Tells (w .report) r₀ r at next
-        → at + length (refine t (atFirst m) .report) ≤ length r₀ → next + length told ≤ length r
-    turn-room T l =
-        let i : length (a .report) ≤ length (refine t (atFirst m) .report) =
-        subst (λ (x : Work). length (a .report) ≤ length (x .report)) (turn-on .result)
-        (longer-ahead (left - 1) a (turn-on .ahead)) in
-        room-then told T (omega (arith, ap length turn-report))
-
-    pub turn-told : {r₀ r x : List ℕ} {at next end : ℕ} → Tells (w .report) r₀ r at next → Tells told r x next end
-        → Tells (a .report) r₀ x at end
-    turn-told {r₀} {x = x} {at} {end = end} T U =
-        subst (λ (l : List ℕ). Tells l r₀ x at end) (sym turn-report) (tells-on T U)
-
-    -- With another split left, it is across the base of the last triangle that is remembered.
-    module _ (j : 0 < left - 1) where
-      next : Across (getD slots (left - 1 - 1) 0) (chainEnd (a .mesh .topology) t) (a .mesh .topology)
-      next =
-          let q : left ≡ suc (suc (left - 1 - 1)) = omega arith in
-          rw split-is (refining-across R (subst (λ (k : ℕ). Refining t m slots k w) q N))
-
-      pub turn-within : 3 * getD slots (left - 1 - 1) 0 < length (a .mesh .topology .links)
-      turn-within = omega (arith, next .inUse, turn-on .ahead .room .links)
-
-      pub turn-end : (r : ℕ) → r ≡ link (a .mesh .topology) (3 * getD slots (left - 1 - 1) 0) / 3
-          → r ≡ chainEnd (a .mesh .topology) t
-      turn-end r q = q ∙ sym (next .next)
+      pub turn-done : {x : List ℕ} {then : ℕ} → (telling ≡ true → Tells told s x next then) → length x ≡ length s
+          → Turned t m slots telling b at (left - 1) a x then × Next t slots (left - 1) a
+      turn-done {x} {then} U z = (
+        record {
+          refining = turn-on;
+          tells = λ f.
+              subst (λ (l : List ℕ). Tells l b x at then) (sym turn-report) (tells-on (T .tells f) (U f));
+          size = z ∙ T .size;
+        },
+        λ j.
+            let q : left ≡ suc (suc (left - 1 - 1)) = omega arith in
+            rw split-is (refining-across R (subst (λ (k : ℕ). Refining t m slots k w) q N)),
+      )
