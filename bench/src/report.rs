@@ -14,7 +14,9 @@ const EXPERT: [(&str, usize, u64); 4] = [
     ("whole step", 21_780, 9_800_000),
 ];
 /// How many times the expert's instructions a call may take.
-const MOST_TIMES: f64 = 1.5;
+const MOST_TIMES: f64 = 1.0;
+/// How many instructions calls may take in all.
+const MOST_IN_ALL: [(&str, usize, u64); 2] = [("load", 4, 4_000), ("whole step", 21_780, 8_700_000)];
 /// How many instructions beyond those of soundness a refine, a lock, a ring or a position, in millimetres or not, may
 /// take, and limit positions and a view of all triangles for each triangle.
 const MOST_BEYOND: u64 = 3_000;
@@ -191,7 +193,7 @@ fn count_columns(place: usize, cases: &[Case], counts: &[Counted]) -> [String; 7
     let ratio = expert.map(|expert| library as f64 / expert as f64);
     let beyond = library.saturating_sub(soundness);
     [
-        bold_if(case.name == REPLAYS[1] && library > MOST_OF_REPLAY, thousands(library)),
+        bold_if(most_in_all(case).is_some_and(|most| library > most), thousands(library)),
         most.map_or(String::new(), |most| bold_if(beyond > most, thousands(beyond))),
         expert.map_or(String::new(), thousands),
         ratio.map_or(String::new(), |ratio| bold_if(ratio > MOST_TIMES, format!("{ratio:.2}"))),
@@ -199,6 +201,12 @@ fn count_columns(place: usize, cases: &[Case], counts: &[Counted]) -> [String; 7
         format!("{:.2}", library as f64 / fast as f64),
         thousands(scan),
     ]
+}
+
+fn most_in_all(case: &Case) -> Option<u64> {
+    let same = |of: &&(&str, usize, u64)| (of.0, of.1) == (case.name, case.triangles);
+    let replay = (case.name == REPLAYS[1]).then_some(MOST_OF_REPLAY);
+    MOST_IN_ALL.iter().find(same).map(|of| of.2).or(replay)
 }
 
 fn expert(case: &Case) -> Option<u64> {
