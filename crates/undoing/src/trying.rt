@@ -59,7 +59,7 @@ fn refines_to(
         t,
         0,
         &mut none,
-        0,
+        1,
     );
     if made.refusal != 0 {
         return false;
@@ -181,6 +181,43 @@ fn accepts_in(
         &mut room_links[..sides],
         &mut room_generations[..triangles],
         &mut room_locks[..triangles],
+    )
+}
+
+// The same in tables for up to 32 vertices and triangles.
+fn accepts_within_32(
+    positions: &[i32],
+    corners: &[u32],
+    links: &[u32],
+    generations: &[u8],
+    locks: &[u8],
+    counts: Counts,
+    note: &[u32],
+) -> bool
+    requires { ⌜ NoteFits (now note) ⌝ }
+    requires { ⌜ Sound (meshNow counts (now positions) (now corners) (now links) (now generations) (now locks)) ⌝ }
+    requires { ⌜ Within 32 counts ⌝ }
+    ensures { λ r. ⌜ r ≡ acceptedCut (now (note .entry)) (meshNow counts (now (positions .entry))
+        (now (corners .entry)) (now (links .entry)) (now (generations .entry)) (now (locks .entry))) ⌝ }
+{
+    let mut room_positions = [0i32; 96];
+    let mut room_corners = [0u32; 96];
+    let mut room_links = [0u32; 96];
+    let mut room_generations = [0u8; 32];
+    let mut room_locks = [0u8; 32];
+    accepts_in(
+        positions,
+        corners,
+        links,
+        generations,
+        locks,
+        counts,
+        note,
+        &mut room_positions,
+        &mut room_corners,
+        &mut room_links,
+        &mut room_generations,
+        &mut room_locks,
     )
 }
 
@@ -511,6 +548,9 @@ pub fn accepts(
     }
     if 3000 < counts.triangles {
         return accepts_beyond_3000(positions, corners, links, generations, locks, counts, note);
+    }
+    if within(32, counts) {
+        return accepts_within_32(positions, corners, links, generations, locks, counts, note);
     }
     if within(160, counts) {
         return accepts_within_160(positions, corners, links, generations, locks, counts, note);
