@@ -401,7 +401,7 @@ rawplinth_batch_worked rawplinth_refine_box(
      with a report
      take_back                   the slots of the note, note[4+9*i] for i below note[3]; those from the restored number
                                  of triangles on are gone
-     load, whole_step            everything, and so after a refine, a list or a box without a report
+     load, whole_step, replay    everything, and so after a refine, a list or a box without a report
      other calls, previews and   nothing
      refused ones among them */
 

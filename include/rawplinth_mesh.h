@@ -3,8 +3,8 @@
    Each call that is lent a mesh has its function here: rawplinth_mesh_refine for rawplinth_refine, and so on. It takes
    the mesh in place of the five tables and the counts, and spare tables in place of the five spare ones; its other
    arguments, in their order, and its answer are the call's, and rawplinth.h tells what it does, refuses and writes. One
-   that changes the mesh puts the counts of the answer into it: a caller has none to carry on, and those of a preview or
-   of another mesh cannot get there. The calls record_.. are lent no mesh and are made as they are.
+   that changes the mesh puts the counts of the answer into it: a caller has none to carry on, and no call puts those of
+   a preview or of another mesh there. The calls record_.. are lent no mesh and are made as they are.
 
    Header only, for C99 and C++. It takes no heap, and keeps nothing but in the two structs. */
 #ifndef RAWPLINTH_MESH_H
@@ -36,8 +36,9 @@ typedef struct {
     (3 * (size_t)(vertex_slots) + 6 * (size_t)(triangle_slots) + ((size_t)(triangle_slots) + 1) / 2)
 
 /* A mesh with its tables in a block, which is an array or what malloc gave, and nothing in use: load a cage into it.
-   What the block holds does not matter; it must not be null, and must last as long as the mesh. In a block that is too
-   short, or with more slots than allowed, the mesh has no slots: then load refuses with 2, and other calls with 7.
+   block_length counts entries, not bytes. What the block holds does not matter; it must not be null, and must last as
+   long as the mesh. In a block that is too short, or with more slots than allowed, the mesh has no slots: then load
+   refuses with 2, and other calls with 7, where nothing before these refuses.
    To keep a mesh as it is, copy the block and the counts. To go on with it, in this block or another one, copy the
    block back, and set the counts of the mesh there. */
 static inline rawplinth_mesh rawplinth_mesh_in(
@@ -63,10 +64,14 @@ static inline rawplinth_mesh rawplinth_mesh_in(
 }
 
 /* Spare tables for a mesh, with its slots, in a block that is not the mesh's. They serve every mesh with these slots,
-   one call at a time. In a block that is too short they have no slots, and calls refuse them with 17. */
+   one call at a time. In a block that is too short, or the mesh's own, they have no slots, and calls refuse them with
+   17. */
 static inline rawplinth_spares rawplinth_spares_in(uint32_t *block, size_t block_length, const rawplinth_mesh *mesh)
 {
     rawplinth_spares spares;
+    if ((int32_t *)block == mesh->positions) {
+        block_length = 0;
+    }
     spares.held = rawplinth_mesh_in(block, block_length, mesh->vertex_slots, mesh->triangle_slots);
     return spares;
 }

@@ -1,5 +1,6 @@
-// The public calls on one mesh, without spare tables and reports. None asks anything of its caller, but those named `known` are to be told
-// the first refusal of the mesh. What cannot be done is refused, and then nothing lent is written.
+// The public calls on one mesh, without spare tables and reports. None asks anything of its caller, but those named
+// `known` are to be told the first refusal of the mesh. What cannot be done is refused, and then nothing lent is
+// written.
 use points::Point;
 use tables::Counts;
 use tables::Worked;

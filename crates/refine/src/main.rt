@@ -31,8 +31,8 @@ fn print(answer: Worked) {
     put(answer.counts.triangles, b"\n");
 }
 
-// Loads the cage in a file by rule 1, in a fresh store; one that is missing is empty. The buffer has a byte more than the largest cage of
-// this store, so that a longer file is longer here too.
+// Loads the cage in a file by rule 1, in a fresh store; one that is missing is empty. The buffer has a byte more than
+// the largest cage of this store, so that a longer file is longer here too.
 fn load(
     positions: &mut [i32],
     corners: &mut [u32],

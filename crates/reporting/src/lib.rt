@@ -167,7 +167,7 @@ fn across_last(links: &[u32], slots: &[u32; 20], odd: u32) -> u32
 // chain until it is flipped. What lies across its base is read anew for each split, as a flip may move it to another
 // slot. The splits are told from place `at` of the report on, if it has room for all of them. A plain call has no room
 // for any, which is tested once and not for each split. The first split has a call of its own: with one call for all,
-// split_at would be inlined, and each split would take some 20 instructions more.
+// split_at would be inlined, and each split would take 20 to 30 instructions more.
 pub fn refine(
     positions: &mut [i32],
     corners: &mut [u32],

@@ -40,9 +40,9 @@ faceCut t m =
     withCounts (suc p) (f + 2) three
 
 -- The 1-to-3 split of an odd t = (A,B,P) whose base A→B is on the boundary (the outline's rim), with no flip yet. A'
--- and B' are the new vertices V and V + 1; the new slots are f = F and e = F + 1. t becomes (P,A,A') and e (B,P,B'), two
--- generations up, and f (A',B',P), three up. The base goes, and the other two sides become bases: P→A moves to side 0 of
--- t, B→P to slot e, and their partners' links name the new places. (Request b)
+-- and B' are the new vertices V and V + 1; the new slots are f = F and e = F + 1. t becomes (P,A,A') and e (B,P,B'),
+-- two generations up, and f (A',B',P), three up. The base goes, and the other two sides become bases: P→A moves to side
+-- 0 of t, B→P to slot e, and their partners' links name the new places. (Request b)
 --
 --               P                            P
 --             .   .                       . / \ .
