@@ -78,7 +78,7 @@ static inline rawplinth_spares rawplinth_spares_in(uint32_t *block, size_t block
 
 /* The mesh that spare tables hold, to be read until they are next lent: after a preview that is not refused the one
    that the list would make. Where 1, 17, 18 or 7 refused, and after a replay, there is none, and calls refuse it
-   with 7. */
+   with 7. It must not be lent together with the spare tables that hold it. */
 static inline const rawplinth_mesh *rawplinth_held(const rawplinth_spares *spares)
 {
     return &spares->held;
