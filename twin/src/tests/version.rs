@@ -16,7 +16,8 @@ fn header_and_changes_have_the_version_of_the_declarations() {
     let define = format!("#define RAWPLINTH_VERSION {RAWPLINTH_VERSION}");
     assert!(header.lines().any(|line| line == define), "{define}");
     let changes = include_str!("../../../docs/changes/README.md");
-    let table = changes.lines().skip_while(|line| !line.starts_with("| version ")).take_while(|line| line.starts_with('|'));
-    let versions = table.skip(2).map(|row| row.split('|').nth(1).unwrap_or("").trim().parse());
+    let from_table = changes.lines().skip_while(|line| !line.starts_with("| version "));
+    let rows = from_table.take_while(|line| line.starts_with('|')).skip(2);
+    let versions = rows.map(|row| row.split('|').nth(1).unwrap_or("").trim().parse());
     assert!(versions.eq((1..=RAWPLINTH_VERSION).map(Ok)), "a line of docs/changes/README.md for each version");
 }
