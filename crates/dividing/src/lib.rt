@@ -18,7 +18,7 @@ use tables::Counts;
 
 // What the partner of a side tells the child there: the centre of the partner's triangle, side 0 of the partner's child
 // and side 2 of the child after it.
-#[derive(Drop)]
+#[derive(Clone, Copy)]
 struct Partner {
     centre: u32,
     base: u32,
@@ -26,7 +26,7 @@ struct Partner {
 }
 
 // What stands in the slot of a child, beside its generation.
-#[derive(Drop)]
+#[derive(Clone, Copy)]
 struct Child {
     corners: [u32; 3],
     links: [u32; 3],

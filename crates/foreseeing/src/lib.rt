@@ -12,7 +12,7 @@ use tables::Counts;
 // The answer of a preview: V and F are those that the list would answer, and no counts of the mesh, which stands. On a
 // refusal they are the mesh's own.
 #[repr(C)]
-#[derive(Drop)]
+#[derive(Clone, Copy)]
 pub struct BatchForeseen {
     pub refusal: u32,
     pub splits: u32,
@@ -118,7 +118,7 @@ pub fn preview(
 
 // The answer of a preview with a report: what is foreseen, and the length of the report.
 #[repr(C)]
-#[derive(Drop)]
+#[derive(Clone, Copy)]
 pub struct ForeseenReported {
     pub foreseen: BatchForeseen,
     pub reported: u32,

@@ -17,7 +17,7 @@ use points::Point;
 use tables::{Counts, Worked};
 
 // What a call answered: its refusal, or 0, and the counts.
-#[derive(Drop)]
+#[derive(Clone, Copy)]
 pub struct Made {
     pub refusal: u32,
     pub counts: Counts,

@@ -8,7 +8,7 @@ ghost use Rattle.points.specs.Axes.{SumOf, Fits, smoothed_point};
 
 // A point, in units of 1/1024 mm.
 #[repr(C)]
-#[derive(Drop)]
+#[derive(Clone, Copy)]
 pub struct Point {
     pub x: i32,
     pub y: i32,

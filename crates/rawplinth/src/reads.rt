@@ -119,7 +119,7 @@ pub extern "C" fn rawplinth_rim_curve(
 
 // What C is told of a seen vertex: on a refusal its number with zeros, and else a point in millimetres.
 #[repr(C)]
-#[derive(Drop)]
+#[derive(Clone, Copy)]
 pub struct PointSeen {
     pub refusal: u32,
     pub point: ViewPoint,

@@ -10,7 +10,7 @@ use tables::Counts;
 
 // The answer of ring.
 #[repr(C)]
-#[derive(Drop)]
+#[derive(Clone, Copy)]
 pub struct RingRead {
     pub refusal: u32,
     pub length: u32,
@@ -19,7 +19,7 @@ pub struct RingRead {
 
 // The answer of position.
 #[repr(C)]
-#[derive(Drop)]
+#[derive(Clone, Copy)]
 pub struct PositionRead {
     pub refusal: u32,
     pub point: Point,
@@ -28,7 +28,7 @@ pub struct PositionRead {
 
 // The answer of limit.
 #[repr(C)]
-#[derive(Drop)]
+#[derive(Clone, Copy)]
 pub struct LimitRead {
     pub refusal: u32,
     pub counts: Counts,
@@ -72,7 +72,7 @@ pub fn limit(
 }
 
 // What is known of a ring before it is written: its refusal, or 0 with the side where it starts and its length.
-#[derive(Drop)]
+#[derive(Clone, Copy)]
 struct FoundRing {
     refusal: u32,
     first: u32,

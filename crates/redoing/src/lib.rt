@@ -9,7 +9,7 @@ use tables::Counts;
 // The answer of a replay: the counts, why it stopped, what the next record's call is refused with, how many records
 // were replayed, and where the next one starts.
 #[repr(C)]
-#[derive(Drop)]
+#[derive(Clone, Copy)]
 pub struct Replayed {
     pub counts: Counts,
     pub stop: u32,

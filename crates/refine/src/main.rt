@@ -9,7 +9,7 @@ use libc::STDOUT_FILENO;
 use tables::{Counts, Worked};
 
 // The counts after the requests of a read, and how many bytes of the buffer it filled.
-#[derive(Drop)]
+#[derive(Clone, Copy)]
 struct Answered {
     counts: Counts,
     read: usize,

@@ -20,7 +20,7 @@ use tables::{Counts, Worked};
 
 // What is found before a refine: its refusal, and where that is 0 the base chain of its triangle and the length of its
 // report.
-#[derive(Drop)]
+#[derive(Clone, Copy)]
 pub struct Found {
     pub refusal: u32,
     pub chain: Chain,
@@ -29,7 +29,7 @@ pub struct Found {
 
 // The answer of a refine with a report: the length of the report too.
 #[repr(C)]
-#[derive(Drop)]
+#[derive(Clone, Copy)]
 pub struct Reported {
     pub worked: Worked,
     pub reported: u32,

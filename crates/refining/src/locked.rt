@@ -34,7 +34,7 @@ fn some_locked(locks: &[u8], slots: &[u32; 20], n: u32) -> bool
 }
 
 // How many bases meet some sides, and whether one of the triangles looked at is locked.
-#[derive(Drop)]
+#[derive(Clone, Copy)]
 pub struct Bases {
     pub count: u32,
     pub locked: bool,

@@ -9,7 +9,7 @@ use tables::Counts;
 
 // Refines made one after the other: the number that the next one failed with, or 23, 0 for none, how many succeeded,
 // and the counts of the mesh in the spare tables.
-#[derive(Drop)]
+#[derive(Clone, Copy)]
 pub struct Batch {
     pub refusal: u32,
     pub splits: u32,
@@ -21,7 +21,7 @@ pub struct Batch {
 // The answer of a call that refines several triangles in spare tables: how many succeeded, which is all of them
 // unless one failed, and the counts of the mesh that the spare tables hold, 0 where none was copied.
 #[repr(C)]
-#[derive(Drop)]
+#[derive(Clone, Copy)]
 pub struct BatchWorked {
     pub refusal: u32,
     pub splits: u32,
@@ -53,7 +53,7 @@ impl BatchWorked {
 
 // The answer of such a call with a report: the length of the report too.
 #[repr(C)]
-#[derive(Drop)]
+#[derive(Clone, Copy)]
 pub struct BatchReported {
     pub worked: BatchWorked,
     pub reported: u32,

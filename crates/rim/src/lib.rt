@@ -14,7 +14,7 @@ use tables::{BOUNDARY, Counts};
 
 // The answer of curve: how many vertices the rim has.
 #[repr(C)]
-#[derive(Drop)]
+#[derive(Clone, Copy)]
 pub struct RimRead {
     pub refusal: u32,
     pub length: u32,
@@ -22,14 +22,14 @@ pub struct RimRead {
 }
 
 // A rim from one of its sides on: how many vertices it has, and its side back to the first.
-#[derive(Drop)]
+#[derive(Clone, Copy)]
 struct Trace {
     length: usize,
     last: usize,
 }
 
 // What is known of a rim before its curve is written: its refusal, or 0 with its first side and where it closes.
-#[derive(Drop)]
+#[derive(Clone, Copy)]
 struct FoundRim {
     refusal: u32,
     first: usize,

@@ -12,7 +12,7 @@ pub mod sums;
 pub mod walks;
 
 // What a walk round a vertex meets: how many sides, one in each triangle, and how many entries of the ring.
-#[derive(Drop)]
+#[derive(Clone, Copy)]
 pub struct Walked {
     pub sides: usize,
     pub entries: usize,

@@ -13,7 +13,7 @@ use points::Point;
 use tables::{Counts, Triangle};
 
 // The slots in use, and the splits, face and rim, and flips made so far.
-#[derive(Drop)]
+#[derive(Clone, Copy)]
 pub struct Work {
     pub vertices: u32,
     pub triangles: u32,
@@ -23,7 +23,7 @@ pub struct Work {
 
 // A base chain: its number of odd triangles, the slot of its last triangle, how it ends, and the slots of the odd ones
 // in order. Where it ends at the boundary its last triangle is odd, and `rim` is 1; else `rim` is 0.
-#[derive(Drop)]
+#[derive(Clone, Copy)]
 pub struct Chain {
     pub odd: u32,
     pub end: u32,

@@ -14,7 +14,7 @@ pub mod sides;
 
 // The slots in use, which are the first of their tables, and the rule of rounding, 1 or 2.
 #[repr(C)]
-#[derive(Drop)]
+#[derive(Clone, Copy)]
 pub struct Counts {
     pub vertices: u32,
     pub triangles: u32,
@@ -23,7 +23,7 @@ pub struct Counts {
 
 // The answer of a call that may change the mesh: on a refusal all but its number and the counts is 0.
 #[repr(C)]
-#[derive(Drop)]
+#[derive(Clone, Copy)]
 pub struct Worked {
     pub refusal: u32,
     pub splits: u32,
@@ -35,7 +35,7 @@ pub struct Worked {
 pub const BOUNDARY: u32 = 4294967295;
 
 // Side i runs from corner i to the next, and links[i] is the side across it or the boundary.
-#[derive(Drop)]
+#[derive(Clone, Copy)]
 pub struct Triangle {
     pub corners: [u32; 3],
     pub links: [u32; 3],

@@ -13,7 +13,7 @@ use tables::Counts;
 
 // A point in millimetres.
 #[repr(C)]
-#[derive(Drop)]
+#[derive(Clone, Copy)]
 pub struct ViewPoint {
     pub x: f32,
     pub y: f32,
@@ -21,7 +21,7 @@ pub struct ViewPoint {
 }
 
 // What is seen of a vertex: its point, or the number of the refusal.
-#[derive(Drop)]
+#[derive(Clone, Copy)]
 pub enum Seen {
     Point(ViewPoint),
     Refused(u32),
@@ -29,7 +29,7 @@ pub enum Seen {
 
 // The answer for all triangles.
 #[repr(C)]
-#[derive(Drop)]
+#[derive(Clone, Copy)]
 pub struct Shown {
     pub refusal: u32,
     pub counts: Counts,

@@ -155,6 +155,6 @@ stops_same no_turn N F no_turn (short t M K) = (refl, fails_once F (fails_of (lo
 stops_same no_turn N F (one_turn M f U) E = absurd (cannot_fail f (fails_of (lowest_same N M) F))
 stops_same (one_turn M f T) N F no_turn (whole z nothing) = absurd (nothing _ M.in_use M.wanted)
 stops_same (one_turn M f T) N F no_turn (short t O K) = absurd (cannot_fail f (fails_of (lowest_same O M) K))
-stops_same {w = w} (one_turn M f T) N F (one_turn O g U) E =
-    let S = stops_same T N F (turns_of w (lowest_same O M) U) E in
+stops_same {w = w} (one_turn M f T) N F (one_turn {k = j} O g U) E =
+    let S = stops_same {j = j} T N F (turns_of w (lowest_same O M) U) E in
     (ap suc S.0, S.1)

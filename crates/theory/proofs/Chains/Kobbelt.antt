@@ -129,7 +129,7 @@ raise_far {v} (suc k) (suc j) t u g h w F K l q M (across o r p) i R =
     (subst₂ (MateSplit t g)
     (sym (raise_splits j h s v w (omega arith) (path_end (generation m s) F K c (omega arith) p)))
     (sym (raise_splits (suc j) g t v w (omega arith) (path_end (generation m t) F K l (omega arith) a)))
-    (raise_far k j t s g h y S.manifold (S.bases_meet K) (omega (arith, S.triangles)) (A.0 ∙ q) N A.1.2
+    (raise_far {v = _} k j t s g h y S.manifold (S.bases_meet K) (omega (arith, S.triangles)) (A.0 ∙ q) N A.1.2
     (omega arith)
     (room_rest (suc k) v _ _ _ m (reached y) S R)))
 

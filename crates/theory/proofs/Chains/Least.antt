@@ -176,11 +176,12 @@ module _ {t : ℕ} {m : Mesh} (R : RefineFound t m) {slots : List ℕ} where
   refining_run : {w : Work} (left : ℕ) → Refining t m slots left w → (0 < left → ¬ TooOld (reached w) t)
       → RunOf left w (refine t (at_first m))
   refining_run zero N y = record { run = []; may = tt; makes = refining_ends R N; splits = refl }
-  refining_run (suc zero) N y =
-      run_on (may_split N (y (omega arith))) (refining_run zero (refining_on R N) (λ z. absurd (omega arith)))
-  refining_run (suc (suc k)) N y =
+  refining_run {w = w} (suc zero) N y =
       run_on (may_split N (y (omega arith)))
-      (refining_run (suc k) (refining_on R N) (λ _. still_young (found_young R) N.ahead))
+      (refining_run {w = split_at (chain_end (reached w) t) w} zero (refining_on R N) (λ z. absurd (omega arith)))
+  refining_run {w = w} (suc (suc k)) N y =
+      run_on (may_split N (y (omega arith)))
+      (refining_run {w = split_at (chain_end (reached w) t) w} (suc k) (refining_on R N) (λ _. still_young (found_young R) N.ahead))
 
 pub refine_run : {t : ℕ} {m : Mesh} → RefineFound t m
     → RunOf (splits_of m.topology t) (at_first m) (refine t (at_first m))

@@ -180,7 +180,7 @@ module _ {r s : Mesh} (A : TablesAgree r) (B : TablesAgree s) where
   settle_all_over : {v f : ℕ} {w x : Work} (cs : List ℕ) → f ≤ slots_of_both r s → Over r s v f w x
       → Each (λ c. c < f) cs → Over r s v f (settle_all cs w) (settle_all cs x)
   settle_all_over [] z O l = O
-  settle_all_over (c ∷ cs) z O l = settle_all_over cs z (settle_over z O c l.0) l.1
+  settle_all_over {w = w} (c ∷ cs) z O l = settle_all_over {w = settle c w} cs z (settle_over z O c l.0) l.1
 
   module _ {v f : ℕ} {w x : Work} (O : Over r s v f w x) (t : ℕ) (l : t < f) where
     corner_same : (c k : ℕ) → c < 3 → k < 3
@@ -281,7 +281,8 @@ module _ {r s : Mesh} (A : TablesAgree r) (B : TablesAgree s) where
       let c = chain_end_same O.tables (generation (reached w) t) t l in
       go (dec_lt g (generation (reached w) t)) c.0 (λ Y.
       let G = raise_grows k g t (split_at end w) in
-      raise_over k g t (split_over O end c.1 (slots_before G Y)).1 (omega arith) Y) Z
+      let S = split_over O end c.1 (slots_before G Y) in
+      raise_over {v = S.0} {f = f + 2} {w = split_at end w} {x = split_at end x} k g t S.1 (omega arith) Y) Z
     where
       end : ℕ
       end = chain_end (reached w) t

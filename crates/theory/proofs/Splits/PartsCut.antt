@@ -159,8 +159,8 @@ module _ (v : ℕ) (p : Parts) (m n : Topology) (F : Manifold m) (b : v < m.tria
           (λ h. h / 3 ≡ v → Onto (v ∷ rest) (rename_two (3 * v + 1) p.place₁ (3 * v + 2) p.place₂ h)) v
           (λ _. inl
           (rename_else (3 * v + 1) p.place₁ (3 * v + 2) p.place₂ (3 * v) (omega arith) (omega arith)))
-          (λ _. rw (rename_a (3 * v + 1) p.place₁ (3 * v + 2) p.place₂) L.onto₁)
-          (λ _. rw (rename_b (3 * v + 1) p.place₁ (3 * v + 2) p.place₂ (omega arith)) L.onto₂)
+          (λ _. subst (Onto (v ∷ rest)) (sym (rename_a (3 * v + 1) p.place₁ (3 * v + 2) p.place₂)) L.onto₁)
+          (λ _. subst (Onto (v ∷ rest)) (sym (rename_b (3 * v + 1) p.place₁ (3 * v + 2) p.place₂ (omega arith))) L.onto₂)
           (λ h d e. absurd (d e))
 
       Among-or : ℕ → ℕ → Type 0

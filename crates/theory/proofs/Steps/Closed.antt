@@ -11,6 +11,7 @@ use Rattle.theory.proofs.Calls.Carried.{StepFound}
 use Rattle.theory.proofs.Links.Manifold.{Manifold, Partnered, partnered, no_self}
 use Rattle.theory.proofs.Links.Rows.{put_rows, rows_else, rows_same}
 use Rattle.theory.proofs.Links.Sides.{Row, previous_lt}
+use Rattle.theory.proofs.Numbers.Decide.{two_even}
 use Rattle.theory.proofs.Numbers.Fill.{fill_is}
 use Rattle.theory.proofs.Soundness.Relaxed.{sound_manifold, sound_bases}
 use Rattle.theory.proofs.Splits.Bases.{Settling, reached}
