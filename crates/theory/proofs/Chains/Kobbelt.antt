@@ -129,14 +129,14 @@ raise_far {v} (suc k) (suc j) t u g h w F K l q M (across o r p) i R =
     (subst₂ (MateSplit t g)
     (sym (raise_splits j h s v w (omega arith) (path_end (generation m s) F K c (omega arith) p)))
     (sym (raise_splits (suc j) g t v w (omega arith) (path_end (generation m t) F K l (omega arith) a)))
-    (raise_far {v = _} k j t s g h y S.manifold (S.bases_meet K) (omega (arith, S.triangles)) (A.0 ∙ q) N A.1.2
+    (raise_far {v = A.1.0} k j t s g h y S.manifold (S.bases_meet K) (omega (arith, S.triangles)) (A.0 ∙ q) N A.1.2
     (omega arith)
     (room_rest (suc k) v _ _ _ m (reached y) S R)))
 
 module _ (s : ℕ) (w : Work) (F : Manifold (reached w)) (K : BasesMeetIn nowhere (reached w))
     (R : Room s (reached w)) where
   -- By the length k of the base chain of t, which ends at v.
-  raise_kobbelt : {v k : ℕ} (n j t : ℕ) → t < (reached w).triangles → Path (reached w) t v k → k < n → k < j
+  raise_kobbelt : (n j t : ℕ) {v k : ℕ} → t < (reached w).triangles → Path (reached w) t v k → k < n → k < j
       → max 1 k ≤ s
       → raise j (generation (reached w) t) t w ≡ kobbelt n t w
   raise_kobbelt zero j t l p a b i = absurd (omega arith)
