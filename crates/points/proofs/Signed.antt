@@ -25,7 +25,7 @@ pub widens : {z : ℤ} → SFits w32 z → SFits w64 (to_z w32 (of_z w32 z))
 widens f = rw (to_z-of_z f) (sfits_widen tt f)
 
 pub widened : {z : ℤ} → SFits w32 z → to_z w64 (of_z w64 (to_z w32 (of_z w32 z))) ≡ z
-widened f = rw (to_z-of_z f) (to_z-of_z (sfits_widen tt f))
+widened f = rw (to_z-of_z f) (to_z-of_z {w = w64} (sfits_widen tt f))
 
 -- A number that a contract gives as a difference of naturals.
 pub counted : (a b : ℕ) {w : Width} {z : ℤ} → SFits w z → to_z w (of_z w z) ≡ pos a -ℤ pos b → Is z a b

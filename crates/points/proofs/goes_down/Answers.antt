@@ -5,8 +5,7 @@ use mathlib.Core.Logic.{◌≢◌}
 use mathlib.Core.Path.{◌≡◌}
 use borrow.Author.Tests.{lt-ltb, le-ltb, eq-eqb, ne_eqb}
 use lib.Dec.{eqb, ltb}
-use Rattle.points.proofs.goes_down.Statement.{statement}
-use Rattle.points.proofs.goes_down.Tie as tie
+use Rattle.points.proofs.goes_down.Goals as goal
 
 module _ (rule down rest d : ℕ) where
   abbrev answer : Bool
@@ -24,23 +23,18 @@ module _ (rule down rest d : ℕ) where
   above : d ≤ rest → rest ≢ d → eqb rest d ≡ answer
   above h e = rw (le-ltb rest d h, ne_eqb rest d e)
 
-returns : tie.Need-returns
-returns c = let a = c.before.args in below a.rule a.down a.rest a.d c.if1.true
+pub returns-then-rest-d : goal.returns-then-rest-d
+returns-then-rest-d c =
+    below c.args.rule c.args.down c.args.rest c.args.d c.if-rest-d.true
 
-returns-2 : tie.Need-returns-2
-returns-2 c =
-    let a = c.before.before.before.args in
-    at_half a.rule a.down a.rest a.d c.before.before.if1.false c.before.if2.true c.if3.true
+pub returns-then-rule-eq2 : goal.returns-then-rule-eq2
+returns-then-rule-eq2 c =
+    at_half c.args.rule c.args.down c.args.rest c.args.d c.if-rest-d.false c.if-rest-d-2.true c.if-rule-eq2.true
 
-returns-3 : tie.Need-returns-3
-returns-3 c =
-    let a = c.before.before.before.args in
-    by_one a.rule a.down a.rest a.d c.before.before.if1.false c.before.if2.true c.if3.false
+pub returns-else-rule-eq2 : goal.returns-else-rule-eq2
+returns-else-rule-eq2 c =
+    by_one c.args.rule c.args.down c.args.rest c.args.d c.if-rest-d.false c.if-rest-d-2.true c.if-rule-eq2.false
 
-returns-4 : tie.Need-returns-4
-returns-4 c =
-    let a = c.before.before.args in
-    above a.rule a.down a.rest a.d c.before.if1.false c.if2.false
-
-pub goes-down-spec : {M : Type 1} → statement M
-goes-down-spec = tie.close (tie.spec returns returns-2 returns-3 returns-4)
+pub returns-else-rest-d-2 : goal.returns-else-rest-d-2
+returns-else-rest-d-2 c =
+    above c.args.rule c.args.down c.args.rest c.args.d c.if-rest-d.false c.if-rest-d-2.false

@@ -13,8 +13,7 @@ use Rattle.rules.specs.Numbers.{rounded}
 use Rattle.theory.proofs.Numbers.Decide.{Decides, is_eq, is_lt, is_le, is_and, is_or, when_true, when_false, stable}
 use Rattle.theory.proofs.Numbers.Differences.{nat, sub, add, scale, at_most, less}
 use Rattle.theory.proofs.Numbers.Rounding.{shy, shy_most, shy_none, shy_one, rounded_only}
-use Rattle.points.proofs.rounded.Statement.{statement}
-use Rattle.points.proofs.rounded.Tie as tie
+use Rattle.points.proofs.rounded.Goals as goal
 
 -- The fraction m / d - c goes to q - c, which lies as near as `shy` asks.
 module _ (rule m d c : ℕ) (some : 0 < d) where
@@ -75,40 +74,22 @@ module _ (rule m d c : ℕ) (some : 0 < d) where
           let s = shy_none rule n (inr (at_most (nat 0) (sub (nat m) (nat (c * d))) (omega arith))) in
           omega arith
 
-div-down : tie.Need-nonzero-div-down
-div-down c = search rules
+pub overflow_mul-m : goal.overflow_mul-m
+overflow_mul-m c =
+    omega (arith, mod-lt c.args.m c.requires.0)
 
-rem-goes-down : tie.Need-nonzero-rem-goes-down
-rem-goes-down c = search rules
+pub overflow_add-result : goal.overflow_add-result
+overflow_add-result c =
+    omega (arith, div-le_self c.args.m c.args.d, c.requires)
 
-mul-goes-down : tie.Need-overflow-mul-goes-down
-mul-goes-down c = omega (arith, mod-lt c.args.m c.requires.0)
+pub returns-then-goes_down : goal.returns-then-goes_down
+returns-then-goes_down c =
+    let test = goes c.args.rule c.args.m c.args.d 2147483648 c.requires.0 in
+    goes_down c.args.rule c.args.m c.args.d 2147483648 c.requires.0
+    (when_true test (sym c.goes_down.ensures ∙ c.if-goes_down.true))
 
-goes-down-requires : tie.Need-goes-down-requires
-goes-down-requires c κs = search rules
-
-add-result : tie.Need-overflow-add-result
-add-result c =
-    let start = c.before.before in
-    omega (arith, div-le_self start.args.m start.args.d, start.requires)
-
-returns : tie.Need-returns
-returns c =
-    let start = c.before.before in
-    let a = start.args in
-    let test = goes a.rule a.m a.d 2147483648 start.requires.0 in
-    goes_down a.rule a.m a.d 2147483648 start.requires.0
-    (when_true test (sym c.before.goes_down.ensures ∙ c.if1.true))
-
-returns-2 : tie.Need-returns-2
-returns-2 c =
-    let start = c.before.before in
-    let a = start.args in
-    let test = goes a.rule a.m a.d 2147483648 start.requires.0 in
-    goes_up a.rule a.m a.d 2147483648 start.requires.0
-    (when_false test (sym c.before.goes_down.ensures ∙ c.if1.false))
-
-pub rounded-spec : {M : Type 1} → statement M
-rounded-spec =
-    tie.close
-    (tie.spec div-down rem-goes-down mul-goes-down goes-down-requires add-result returns returns-2)
+pub returns-else-goes_down : goal.returns-else-goes_down
+returns-else-goes_down c =
+    let test = goes c.args.rule c.args.m c.args.d 2147483648 c.requires.0 in
+    goes_up c.args.rule c.args.m c.args.d 2147483648 c.requires.0
+    (when_false test (sym c.goes_down.ensures ∙ c.if-goes_down.false))

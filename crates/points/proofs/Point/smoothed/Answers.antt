@@ -1,0 +1,34 @@
+-- `points::Point::smoothed` meets its contract: one law, `axis`, on each axis.
+use borrow.Author.Rules.{rules}
+use Prim.Native.Nat.{ℕ, ◌<◌}
+use mathlib.Core.Path.{◌≡◌, ◌∙◌}
+use lib.IntN.{ℤ, pos, ◌+ℤ◌, ◌*ℤ◌}
+use lib.Signed.{mag}
+use mir.Syntax.{w32}
+use mir.Val.{SFits, to_z, of_z}
+use mir.Facts.{to_z-of_z}
+use Rattle.rules.specs.Numbers.{half_up}
+use Rattle.points.proofs.Signed.{returned}
+use Rattle.points.proofs.Axes.{fields_fit}
+use Rattle.points.proofs.Point.smoothed.Goals as goal
+
+abbrev read : ℤ → ℤ
+read z = to_z w32 (of_z w32 z)
+
+axis : (n k l : ℕ) {x y z r : ℤ} → SFits w32 x → SFits w32 y → SFits w32 z → mag r < 2147483648
+    → r ≡ half_up (pos n *ℤ read x +ℤ pos k *ℤ read y +ℤ pos l *ℤ read z) 27
+    → read r ≡ half_up (pos n *ℤ x +ℤ pos k *ℤ y +ℤ pos l *ℤ z) 27
+axis n k l fx fy fz h e = returned w32 h (e ∙ rw (to_z-of_z fx, to_z-of_z fy, to_z-of_z fz))
+
+pub returns : goal.returns
+returns c =
+    let fa = fields_fit w32 c.args.a.x c.args.a.y c.args.a.z c.struct_told-1.given in
+    let fb = fields_fit w32 c.args.b.x c.args.b.y c.args.b.z c.struct_told-2-1.given in
+    let fd = fields_fit w32 c.args.c.x c.args.c.y c.args.c.z c.struct_told-3-1.given in
+    let x = axis c.args.x c.args.y c.args.z (fa 0) (fb 0) (fd 0) c.twenty_seventh.type_inv
+    c.twenty_seventh.ensures in
+    let y = axis c.args.x c.args.y c.args.z (fa 1) (fb 1) (fd 1) c.twenty_seventh-2.type_inv
+    c.twenty_seventh-2.ensures in
+    let z = axis c.args.x c.args.y c.args.z (fa 2) (fb 2) (fd 2) c.twenty_seventh-3.type_inv
+    c.twenty_seventh-3.ensures in
+    rw (x, y, z)
