@@ -29,13 +29,12 @@ loop-i-smaller c =
     omega arith
 
 pub loop-i-preserved : goal.loop-i-preserved
-loop-i-preserved c =
-    (
-      omega arith,
-      one_taken c.args.table.now c.args.bytes.now c.requires c.loop-i.i
-          c.loop-i.c c.loop-i-test.true (c.type_inv.bytes c.loop-i.i).fits
-          c.loop-i.invariant.1,
-    )
+loop-i-preserved c = (
+  omega arith,
+  one_taken c.args.table.now c.args.bytes.now c.requires c.loop-i.i
+      c.loop-i.c c.loop-i-test.true (c.type_inv.bytes c.loop-i.i).fits
+      c.loop-i.invariant.1,
+)
 
 pub returns : goal.returns
 returns c =

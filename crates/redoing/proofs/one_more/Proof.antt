@@ -1,4 +1,4 @@
--- `redoing::one_more_lem` meets its contract: the next record is replayed, or stops the replay.
+-- `redoing::one_more` meets its contract: the next record is replayed, or stops the replay.
 use Prim.Native.Nat.{◌<◌, ◌^◌}
 use native.Mathlib.Omega.{arith}
 use mathlib.Core.Path.{refl}

@@ -1,4 +1,4 @@
--- `rings::goes_on_lem` meets its contract.
+-- `rings::goes_on` meets its contract.
 use borrow.Author.Rules.{rules}
 use borrow.Author.Tests.{lt-ltb, le-ltb}
 use Rattle.rings.proofs.goes_on.Statement.{statement}

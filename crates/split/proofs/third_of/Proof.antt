@@ -1,4 +1,4 @@
--- `split::third_of_lem` meets its contract.
+-- `split::third_of` meets its contract.
 use borrow.Author.Rules.{rules}
 use Rattle.tables.specs.Lent.{mesh_now}
 use Rattle.split.proofs.Steps.{third_steps}

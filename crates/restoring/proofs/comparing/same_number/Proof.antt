@@ -1,4 +1,4 @@
--- `restoring::comparing::same_number_lem` meets its contract.
+-- `restoring::comparing::same_number` meets its contract.
 use Rattle.restoring.proofs.SameMeshes.{same_bits}
 use Rattle.restoring.proofs.comparing.same_number.Statement.{statement}
 use Rattle.restoring.proofs.comparing.same_number.Tie as tie

@@ -1,0 +1,18 @@
+use borrow.Author.Rules.{rules, sfits_of}
+use Prim.Native.Nat.{◌-◌, ◌≤◌}
+use native.Mathlib.Omega.{arith}
+use mathlib.Core.Path.{◌≡◌}
+use lib.IntN.{pos}
+use lib.ListN.{length, get_or, length-set}
+use mir.Facts.{to_z-of_z}
+use Rattle.theory.proofs.Numbers.Fill.{fill_more}
+use Rattle.rules.specs.Below.{fill}
+use Rattle.tables.proofs.copies.copy_coordinates.Given as goal
+
+abbrev pub invariant-loop-i : goal.invariant-loop-i
+invariant-loop-i l =
+    (l.i ≤ l.count) × (length l.to ≡ length l.initial.to) × (l.to ≡ fill l.i (λ k. get_or l.from k (pos 0)) l.initial.to)
+
+abbrev pub decreases-loop-i : goal.decreases-loop-i
+decreases-loop-i l =
+    l.count - l.i
