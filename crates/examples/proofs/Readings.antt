@@ -423,7 +423,7 @@ pub record Table : Type 0 where
   -- The sides round this flip, of slots 7 and 0, are where Actions tells, with the corners that they had.
   pub flipped_meet : link unflipped 21 ≡ 0
   pub flipped_sides : map (λ h. origin (flip 7 0 unflipped) (place_after (flips 7 0) unflipped h)) (1 ∷ 2 ∷ 22 ∷ 23 ∷ [])
-      ∷ map (origin unflipped) (1 ∷ 2 ∷ 22 ∷ 23 ∷ []) ∷ [] ≡ replicate 2 (1 ∷ 4 ∷ 0 ∷ 5 ∷ [])
+      ≡ map (origin unflipped) (1 ∷ 2 ∷ 22 ∷ 23 ∷ [])
   -- A lock set twice is set, one cleared twice is clear, and then the triangle is refined.
   pub unlocked_again : map line_of (drop 1 (made_each (loads 1 tetrahedron ∷ sets_lock true 0 ∷ sets_lock true 0
       ∷ refines 0 ∷ sets_lock false 0 ∷ sets_lock false 0 ∷ refines 0 ∷ []) store)) ≡

@@ -18,8 +18,7 @@ use Rattle.theory.proofs.Links.Manifold.{Manifold, Base}
 use Rattle.theory.proofs.Numbers.Decide.{is_same, is_false, odd_test, even_test}
 use Rattle.theory.proofs.Splits.Bases.{reached, base_is, boundary_not_base}
 use Rattle.theory.proofs.Splits.Cut.{Spread, CutResult}
-use Rattle.theory.proofs.Splits.Flipped.{BaseAt, pair_if, pair_at, bases_at}
-use Rattle.rules.specs.Below.{bit}
+use Rattle.theory.proofs.Splits.Flipped.{BaseAt, pair_if, pair_at}
 use Rattle.rules.specs.Calls.{splits_of}
 use Rattle.rules.specs.Conditions.{Splittable, is_even, on_boundary}
 use Rattle.rules.specs.Promises.{Written}
@@ -116,13 +115,15 @@ unfolding split_ends
 ends_flips zero w A = omega arith
 ends_flips (suc k) w A = omega (arith, ends_flips k _ (ahead_on A), next_flips A)
 
--- What a flip adds to a report, if there is one.
-pair_length : (b : Bool) (c h : ℕ) → length (pair_if b c h) ≡ 2 * bit b
+-- What the flip at side h adds to a report, whatever the child.
+pair_length : (b : Bool) (c h : ℕ) → length (pair_if b c h) ≡ length (pair_if b 0 h)
 pair_length true c h = refl
 pair_length false c h = refl
 
--- What a split reports: three slots, and two for each base that it meets.
-told_length : (v : ℕ) (m : Topology) → Splittable m v → Manifold m → length (split_told m v) ≡ 3 + 2 * bases_at m v
+-- What a split reports: three slots, and two for each side that meets a base.
+told_length : (v : ℕ) (m : Topology) → Splittable m v → Manifold m
+    → length (split_told m v)
+    ≡ 3 + length (pair_at m 0 (3 * v)) + length (pair_at m 0 (3 * v + 1)) + length (pair_at m 0 (3 * v + 2))
 told_length v m (is_even e) F =
     let f : ℕ = m.triangles in
     rw (even_test (generation m v) e)
@@ -142,7 +143,7 @@ told_length v m (on_boundary o q) F =
     (omega (
       arith,
       length-append (pair_at m v (3 * v + 2)) (pair_at m (f + 1) (3 * v + 1)),
-      ap bit x,
+      ap (λ (b : Bool). length (pair_if b 0 (link m (3 * v)))) x,
       pair_length (is_base m (link m (3 * v + 2))) v (link m (3 * v + 2)),
       pair_length (is_base m (link m (3 * v + 1))) (f + 1) (link m (3 * v + 1)),
     ))
@@ -171,15 +172,19 @@ module _ {t : ℕ} {m : Mesh} (R : RefineFound t m) where
       go (suc k) i A j =
           omega (arith, split_counts (chain_end m.topology t) (at_first m) (ahead_end A).fit)
 
-  -- The report of a refine has five slots for each split, but of the first three, and two for each base that it meets.
+  -- The report of a refine has five slots for each split, of which the first may flip up to three times.
   pub refine-report-length :
+      let v = chain_end m.topology t in
       length (refine t (at_first m)).report + 2
-      ≡ 5 * splits_of m.topology t + 2 * bases_at m.topology (chain_end m.topology t)
+      ≡ 5 * splits_of m.topology t + length (pair_at m.topology 0 (3 * v))
+      + length (pair_at m.topology 0 (3 * v + 1)) + length (pair_at m.topology 0 (3 * v + 2))
   refine-report-length = go (splits_of m.topology t) refl (ahead R)
     where
       go : (k : ℕ) → splits_of m.topology t ≡ k → Ahead k (generation m.topology t) t (at_first m)
-          → length (refine t (at_first m)).report + 2
-          ≡ 5 * splits_of m.topology t + 2 * bases_at m.topology (chain_end m.topology t)
+          → let v = chain_end m.topology t in
+          length (refine t (at_first m)).report + 2
+          ≡ 5 * splits_of m.topology t + length (pair_at m.topology 0 (3 * v))
+          + length (pair_at m.topology 0 (3 * v + 1)) + length (pair_at m.topology 0 (3 * v + 2))
       go zero e A = absurd (omega arith)
       go (suc k) e A =
           let v : ℕ = chain_end m.topology t in
