@@ -1,5 +1,4 @@
 -- `marks::with_bit` meets its contract.
-use borrow.Author.Rules.{rules}
 use native.Mathlib.Nat.{one-mul}
 use native.Mathlib.Omega.{arith}
 use Prim.Native.Nat.{ℕ, ◌*◌, ◌%◌, ◌^◌, ◌<◌}
@@ -10,8 +9,7 @@ use lib.Dec.{eqb}
 use lib.Pow.{shl_exact}
 use Rattle.marks.proofs.Bits.{bit_on, bit_off}
 use Rattle.marks.specs.Marks.{bit_at}
-use Rattle.marks.proofs.with_bit.Statement.{statement}
-use Rattle.marks.proofs.with_bit.Tie as tie
+use Rattle.marks.proofs.with_bit.Goals as goal
 
 module _ (x b j : ℕ) (on : Bool) (l : b < 64) where
   -- What the shift of 1 by b gives.
@@ -27,18 +25,10 @@ module _ (x b j : ℕ) (on : Bool) (l : b < 64) where
       ≡ elim (eqb j b) [ true ↦ on | false ↦ bit_at x j ]
   set_off e = rw shifted (bit_off x b j) ∙ ap (λ (t : Bool). elim (eqb j b) [ true ↦ t | false ↦ bit_at x j ]) (sym e)
 
-shl-bit : tie.Need-overflow-shl-bit
-shl-bit c = search rules
+pub returns-then-on : goal.returns-then-on
+returns-then-on c =
+    λ j. set_on c.args.word c.args.b j c.args.on c.requires c.if-on.true
 
-returns : tie.Need-returns
-returns c =
-    let a = c.before.args in
-    λ j. set_on a.word a.b j a.on c.before.requires c.if1.true
-
-returns-2 : tie.Need-returns-2
-returns-2 c =
-    let a = c.before.args in
-    λ j. set_off a.word a.b j a.on c.before.requires c.if1.false
-
-pub with-bit-spec : {M : Type 1} → statement M
-with-bit-spec = tie.close (tie.spec shl-bit returns returns-2)
+pub returns-else-on : goal.returns-else-on
+returns-else-on c =
+    λ j. set_off c.args.word c.args.b j c.args.on c.requires c.if-on.false
