@@ -1,2 +1,3 @@
 -- Laws of walks and their rings.
 pub mod Walk
+pub mod Buffer

@@ -1,2 +1,3 @@
--- Laws of ring sums that their callers cite.
+-- Laws of ring sums.
 pub mod Zeros
+pub mod Sides

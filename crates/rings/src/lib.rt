@@ -1,5 +1,7 @@
 // The walk round a vertex, from the side where it starts, and its ring: length and entries; the sums of all rings, and
 // the test of fans.
+#![tactic(auto)]
+
 ghost use Rattle.std.specs.Prelude.{◌≡◌, List, ℕ, ◌+◌, ◌*◌, ◌≤◌, length, get_or};
 ghost use Rattle.rules.specs.Below.{fill};
 ghost use Rattle.rules.specs.Tables.{previous, topology_of};

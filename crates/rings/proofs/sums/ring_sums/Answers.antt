@@ -1,0 +1,114 @@
+-- `rings::sums::ring_sums` meets its contract: a pass over the sides adds up every ring.
+use Prim.Native.Nat.{ℕ, ◌+◌, ◌*◌, ◌<◌}
+use native.Mathlib.Omega.{arith}
+use mathlib.Core.List.{List}
+use mathlib.Core.Path.{◌≡◌, refl, sym, ◌∙◌, subst}
+use lib.Dec.{T}
+use lib.IntN.{ℤ}
+use lib.ListN.{length, get_or}
+use Rattle.theory.proofs.Rings.RingSums.{out_of, SumOut, none_added, none_out, ring_counted, ring_added}
+use Rattle.theory.proofs.Rings.RingVertices.{ring_some}
+use Rattle.rules.specs.Conditions.{LongRing}
+use Rattle.rules.specs.Ring.{ring}
+use Rattle.rules.specs.Tables.{Topology, Mesh, sides}
+use Rattle.tables.specs.Lent.{mesh_now}
+use Rattle.tables.specs.declared.Counts.{Counts}
+use Rattle.rings.specs.Sums.{Closed, Cleared, RingSums, Summable, Summed}
+use Rattle.rings.proofs.sums.ring_sums.Goals as goal
+
+-- ---- before the first side
+
+module _ {n : Counts} {positions : List ℤ} {corners links generations locks : List ℕ}
+    (C : Closed (mesh_now n positions corners links generations locks)) where
+  summable : Summable n positions corners
+  summable =
+      let S = C.sound in
+      record {
+        few = omega (arith, S.tables.few_triangles, S.triangle_room);
+        room = omega (arith, S.tables.corners, S.triangle_room);
+        slots = omega (arith, S.vertex_room);
+        corner = S.corner;
+        range = S.range;
+      }
+
+none_summed : {n : ℕ} {positions : List ℤ} {corners lengths : List ℕ} {sums : List ℤ} → Cleared n lengths sums
+    → Summed 0 n positions corners lengths sums
+none_summed {n} {positions} {corners} Z = record {
+  length_room = Z.length_zeros.size;
+  sum_room = Z.sum_zeros.size;
+  counted = λ v b. Z.length_zeros.each v b ∙ sym (none_out positions corners v);
+  few = λ v b. omega (arith, Z.length_zeros.each v b);
+  added = λ v k b i.
+      subst (SumOut 0 positions corners v k) (sym (Z.sum_zeros.each (3 * v + k) (omega arith)))
+      (none_added positions corners v k);
+}
+
+-- ---- after the last side
+
+module _ {m : Mesh} (C : Closed m) where
+  abbrev t : Topology
+  t = m.topology
+
+  long_ring_lem : (v : ℕ) × (v < t.vertices) × (12 < out_of (sides t) t.corners v) → LongRing t
+  long_ring_lem (v, b, l) = (v, b, rw (ring_counted C.sound C.inner v b) l)
+
+  module _ {lengths : List ℕ} {sums : List ℤ}
+      (S : Summed (sides t) t.vertices m.positions t.corners lengths sums) where
+    is_length : (v : ℕ) → v < t.vertices → get_or lengths v 0 ≡ length (ring t v)
+    is_length v b = S.counted v b ∙ sym (ring_counted C.sound C.inner v b)
+
+    ring_sums : RingSums m lengths sums
+    ring_sums = record {
+      length_room = S.length_room;
+      sum_room = S.sum_room;
+      long = is_length;
+      some = λ v b. omega (arith, is_length v b, ring_some C.sound v b);
+      few = S.few;
+      sum = λ v k b i. ring_added C.sound C.inner v b k (S.added v k b i);
+    }
+
+-- ---- the needs
+
+pub loop-t-init : goal.loop-t-init
+loop-t-init c =
+    (omega arith, refl, refl, none_summed c.requires.cleared)
+
+pub add_triangle-requires : goal.add_triangle-requires
+add_triangle-requires c =
+    (summable c.requires.by_index.3, c.loop-t-test.true, c.loop-t.invariant.3)
+
+pub shape_of-lengths-then-not-add_triangle : goal.shape_of-lengths-then-not-add_triangle
+shape_of-lengths-then-not-add_triangle c =
+    omega (arith, c.add_triangle.auto, c.loop-t.invariant.1)
+
+pub shape_of-sums-then-not-add_triangle : goal.shape_of-sums-then-not-add_triangle
+shape_of-sums-then-not-add_triangle c =
+    omega (arith, c.add_triangle.auto, c.loop-t.invariant.2)
+
+pub returns-then-not-add_triangle : goal.returns-then-not-add_triangle
+returns-then-not-add_triangle c l g k C =
+    record {
+      whole = λ e. absurd (subst T (sym e) tt);
+      crowded = λ _. long_ring_lem C (c.add_triangle.ensures.crowded c.if-not-add_triangle.true);
+    }
+
+pub loop-t-preserved : goal.loop-t-preserved
+loop-t-preserved c = (
+  omega arith,
+  omega (arith, c.add_triangle.auto, c.loop-t.invariant.1),
+  omega (arith, c.add_triangle.auto, c.loop-t.invariant.2),
+  c.add_triangle.ensures.whole c.if-not-add_triangle.false,
+)
+
+pub shape_of-lengths : goal.shape_of-lengths
+shape_of-lengths c =
+    c.loop-t.invariant.1
+
+pub shape_of-sums : goal.shape_of-sums
+shape_of-sums c =
+    c.loop-t.invariant.2
+
+pub returns : goal.returns
+returns c l g k C =
+    let e : c.loop-t.t ≡ c.args.counts.triangles = omega arith in
+    record { whole = λ _. ring_sums C (rw e at c.loop-t.invariant.3); crowded = λ q. absurd (subst T q tt) }

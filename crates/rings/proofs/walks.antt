@@ -1,0 +1,2 @@
+-- The test of fans.
+pub mod Told
