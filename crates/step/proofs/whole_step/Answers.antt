@@ -1,5 +1,4 @@
 -- `step::whole_step` meets its contract.
-use borrow.Author.Rules.{rules}
 use Prim.Native.Nat.{ℕ, ◌*◌, ◌/◌}
 use native.Mathlib.Omega.{arith}
 use mathlib.Core.List.{List, []}
@@ -15,8 +14,7 @@ use Rattle.rules.specs.Tables.{Mesh, mesh_of, with_positions}
 use Rattle.rings.specs.Sums.{RingSums}
 use Rattle.moving.specs.Moves.{Movable}
 use Rattle.dividing.proofs.ChildRows.{length_placed}
-use Rattle.step.proofs.whole_step.Statement.{statement}
-use Rattle.step.proofs.whole_step.Tie as tie
+use Rattle.step.proofs.whole_step.Goals as goal
 
 -- The step is its closed form and then its moves.
 whole_step_steps : (m : Mesh) → StepFound m → (w : Mesh) (positions : List ℤ) → w ≡ closed_step m
@@ -55,62 +53,31 @@ movable {m} {w = w} F R e =
       rings = R;
     }
 
-split-all-requires : tie.Need-split-all-requires
-split-all-requires c κs = search rules
+pub move_all-requires : goal.move_all-requires
+move_all-requires c =
+    (_, movable c.requires.0 c.requires.1 c.split_all.ensures)
 
-move-all-requires : tie.Need-move-all-requires
-move-all-requires c κs =
-    let at_split = c.before.before.before.before.before.before.before.before.before.before in
-    let start = at_split.before.before.before.before.before.before.before.before.before.before.before in
-    (_, movable start.requires.0 start.requires.1 at_split.split-all.ensures)
+pub shape_of-positions : goal.shape_of-positions
+shape_of-positions c =
+    omega (arith, c.split_all.auto, c.move_all.auto)
 
-mul-t25 : tie.Need-overflow-mul-t25
-mul-t25 c = search rules
+pub shape_of-corners : goal.shape_of-corners
+shape_of-corners c =
+    omega (arith, c.split_all.auto)
 
-add-t27 : tie.Need-overflow-add-t27
-add-t27 c = search rules
+pub shape_of-links : goal.shape_of-links
+shape_of-links c =
+    omega (arith, c.split_all.auto)
 
-mul-t28 : tie.Need-overflow-mul-t28
-mul-t28 c = search rules
+pub shape_of-generations : goal.shape_of-generations
+shape_of-generations c =
+    omega (arith, c.split_all.auto)
 
-module _ (c : tie.After-positions2) where
-  abbrev at_split : tie.After-split-all
-  at_split = c.before.before.before.before.before.before.before.before.before.before.before.before
+pub shape_of-locks : goal.shape_of-locks
+shape_of-locks c =
+    omega (arith, c.split_all.auto)
 
-same_length : tie.Need-same-length
-same_length c = omega (arith, (at_split c).split-all.auto, c.before.move_all.auto)
-
-same-length-2 : tie.Need-same-length-2
-same-length-2 c = omega (arith, (at_split c).split-all.auto)
-
-same-length-3 : tie.Need-same-length-3
-same-length-3 c = omega (arith, (at_split c).split-all.auto)
-
-same-length-4 : tie.Need-same-length-4
-same-length-4 c = omega (arith, (at_split c).split-all.auto)
-
-same-length-5 : tie.Need-same-length-5
-same-length-5 c = omega (arith, (at_split c).split-all.auto)
-
-returns : tie.Need-returns
+pub returns : goal.returns
 returns c =
-    let start = (at_split c).before.before.before.before.before.before.before.before.before.before.before in
-    let split = (at_split c).split-all.ensures in
-    whole_step_steps _ start.pre.0 _ _ split
-    (c.before.move_all.ensures _ (movable start.pre.0 start.pre.1 split))
-
-pub whole-step-spec : {M : Type 1} → statement M
-whole-step-spec =
-    tie.close
-    (tie.spec
-    split-all-requires
-    move-all-requires
-    mul-t25
-    add-t27
-    mul-t28
-    same_length
-    same-length-2
-    same-length-3
-    same-length-4
-    same-length-5
-    returns)
+    whole_step_steps _ c.requires.0 _ _ c.split_all.ensures
+    (c.move_all.ensures _ (movable c.requires.0 c.requires.1 c.split_all.ensures))
