@@ -8,7 +8,10 @@
 RT := $(shell command -v rt || echo /opt/rattle/bin/rt)
 SECONDS := 600
 SEED := 1
+SOURCES := crates.txt $(shell find crates -name out -prune -o \( -name '*.rt' -o -name '*.antt' \) -print)
 LIB = target/staticlib/librawplinth.a
+# rt ci builds the program too, and leaves it here.
+PROGRAM = crates/refine/out/refine
 CFLAGS = -std=c99 -Wall -Wextra -Wpedantic -Werror -Iinclude
 CARGO = RAWPLINTH_LIB='$(CURDIR)/target/staticlib' cargo
 TWIN = --release --quiet --manifest-path twin/Cargo.toml --target-dir target/twin
@@ -16,12 +19,16 @@ TWIN = --release --quiet --manifest-path twin/Cargo.toml --target-dir target/twi
 .PHONY: test run lib example twin twin-run twin-faults twin-tests twin-program soak bench
 test:
 	bash .ci/run
-run:
-	@$(RT) check refine >/dev/null
-	@cd crates/refine/data && ../../../target/bin/refine
+run: $(PROGRAM)
+	@cd crates/refine/data && ../out/refine
+$(PROGRAM): $(SOURCES)
+	@cd crates/refine && $(RT) run >/dev/null
+	@touch $@
 lib: $(LIB)
-$(LIB): crates.txt $(shell find crates -name '*.rt' -o -name '*.antt')
-	@$(RT) staticlib rawplinth >/dev/null
+$(LIB): $(SOURCES)
+	@cd crates/rawplinth && $(RT) lib >/dev/null
+	@mkdir -p $(@D)
+	@cp crates/rawplinth/out/librawplinth.a $@
 example: lib
 	@for name in tetrahedron octahedron list shell journal editor; do \
 	    $(CC) $(CFLAGS) example/$$name.c $(LIB) -o target/$$name && target/$$name || exit 1; \
@@ -33,9 +40,8 @@ twin-faults: lib
 	$(CARGO) run $(TWIN) -- --faults
 twin-tests: lib
 	$(CARGO) test $(TWIN)
-twin-program: lib
-	@$(RT) check refine >/dev/null
-	$(CARGO) run $(TWIN) -- --program target/bin/refine
+twin-program: lib $(PROGRAM)
+	$(CARGO) run $(TWIN) -- --program $(PROGRAM)
 soak: lib
 	$(CARGO) run $(TWIN) -- --seconds $(SECONDS) --seed $(SEED)
 bench: lib

@@ -6,7 +6,7 @@ use crate::setups::{
     end_of_long_chain, lay_bases, lay_bases_beside, lock_unaltered, odd_at_boundary, on_boundary, set_up,
 };
 use crate::slots;
-use crate::tables::{Answer, Call, HALF_AWAY, HALF_UP, Lent, NOTE_ENTRIES, Panel, Point, Tables};
+use crate::tables::{Answer, Call, HALF_AWAY, HALF_UP, Lent, NOTE_ENTRIES, Panel, Point, REPORT_ENTRIES, Tables};
 
 /// The refine that makes the most splits.
 pub const LONGEST: &str = "refine, chain of 10";
@@ -179,16 +179,13 @@ impl Case {
         [rim.len(), rim.iter().map(|&vertex| triangles[vertex as usize]).sum()]
     }
 
-    /// The case by this name: itself, or with a report. A refine has just the entries that its report takes, any other
-    /// call as many as always do.
+    /// The case by this name: itself, or with a report and entries enough for it.
     fn named(mut self, name: &'static str) -> Case {
         if name != self.plain {
             let (slots, in_use) = (self.lent.tables.generations.len(), self.lent.counts.triangles as usize);
-            self.lent.report = vec![u32::MAX; 3 * slots - 2 * in_use];
+            let entries = if REFINES_REPORTED.contains(&name) { REPORT_ENTRIES } else { 3 * slots - 2 * in_use };
+            self.lent.report = vec![u32::MAX; entries];
             self.call = self.call.reported();
-            if let Answer::Reported(told) = fast::answer(&mut self.lent.clone(), self.call) {
-                self.lent.report.truncate(told.reported as usize);
-            }
         }
         Case { name, ..self }
     }

@@ -1,9 +1,9 @@
 //! What a call is lent and what it answers.
 
-pub use crate::rawplinth::RAWPLINTH_NOTE_ENTRIES as NOTE_ENTRIES;
 pub use crate::rawplinth::{BatchForeseen, BatchReported, BatchWorked, Counts, ForeseenReported, LimitRead};
 pub use crate::rawplinth::{Point, PointSeen, PositionRead, Replayed, Reported, RimRead, RingRead, Shown, Worked};
 pub use crate::rawplinth::{RAWPLINTH_HALF_AWAY as HALF_AWAY, RAWPLINTH_HALF_UP as HALF_UP};
+pub use crate::rawplinth::{RAWPLINTH_NOTE_ENTRIES as NOTE_ENTRIES, RAWPLINTH_REPORT_ENTRIES as REPORT_ENTRIES};
 
 /// The link of a boundary side.
 pub const BOUNDARY: u32 = u32::MAX;

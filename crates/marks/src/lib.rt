@@ -1,4 +1,6 @@
 // Marks on numbers in two tables of bits, so that the lowest marked number is found in a few steps.
+#![tactic(auto)]
+
 ghost use Rattle.std.specs.Prelude.{true, false, ◌≡◌, ℕ, ◌*◌, ◌<◌, ◌≤◌, eqb, length};
 ghost use Rattle.rules.specs.Below.{lowest};
 ghost use Rattle.marks.specs.Marks.{bit_at, marked, Levels, MarkPut};

@@ -1,4 +1,6 @@
 // The refine with a note of the old slots that it changes, and of what they hold.
+#![tactic(auto)]
+
 mod changed;
 mod rising;
 
@@ -211,13 +213,12 @@ pub fn refine_noted(
         counts,
         t,
         chain,
-        found.reported,
         &mut none,
         1,
     )
 }
 
-// Refines triangle t with a note of what it changes, and reports the slots that it writes.
+// Refines triangle t with a note as above, and reports the slots that it writes.
 pub fn refine_noted_reported(
     positions: &mut [i32],
     corners: &mut [u32],
@@ -243,7 +244,7 @@ pub fn refine_noted_reported(
         return Reported::refused(finding.refusal, counts);
     }
     let chain = finding.chain;
-    let report_fits = finding.reported <= report.len();
+    let report_fits = reporting::fits(links, generations, chain, report.len());
     let refusal = note_changes(
         corners,
         links,
@@ -267,7 +268,6 @@ pub fn refine_noted_reported(
         counts,
         t,
         chain,
-        finding.reported,
         report,
         0,
     ))

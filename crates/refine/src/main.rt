@@ -1,11 +1,18 @@
-// The program: loads cage.bin, refines the triangles that requests.bin names, and prints a line for each call.
+// The program: loads cage.bin, refines the triangles that requests.bin names, and prints a line for each call. Where a
+// read fails the file ends there, and a line whose write fails is left out; the program goes on, and ends with the first
+// such error.
+#![tactic(auto)]
+
 ghost use Rattle.std.specs.Prelude.{ℕ, ◌%◌, ◌≤◌, List, ◌≡◌, length, take};
 ghost use Rattle.rules.specs.Calls.{load_call};
 ghost use Rattle.tables.specs.Answers.{worked_outcome};
 ghost use Rattle.tables.specs.Lent.{mesh_now};
 ghost use Rattle.refine.specs.Requests.{fresh, after_bytes, AllAnswered};
 
-use libc::STDOUT_FILENO;
+use std::fs::File;
+use std::io;
+use std::io::Read;
+use std::rt::Files;
 use tables::{Counts, Worked};
 
 // The counts after the requests of a read, and how many bytes of the buffer it filled.
@@ -15,18 +22,42 @@ struct Answered {
     read: usize,
 }
 
-fn put(n: u32, after: &[u8]) {
-    io::print_decimal(STDOUT_FILENO, n as u64);
-    io::write_all(STDOUT_FILENO, after);
+// Keeps the first error.
+fn note(failure: &mut io::Result<()>, outcome: io::Result<()>) {
+    if failure.is_ok() {
+        *failure = outcome;
+    }
+}
+
+fn put(rt: &impl Print, n: u32, after: &str) -> io::Result<()> {
+    print!(rt; "{n}{after}")
 }
 
 // Prints refusal, splits, flips, vertices and triangles.
-fn print(answer: Worked) {
-    put(answer.refusal, b" ");
-    put(answer.splits, b" ");
-    put(answer.flips, b" ");
-    put(answer.counts.vertices, b" ");
-    put(answer.counts.triangles, b"\n");
+fn print(rt: &impl Print, answer: Worked) -> io::Result<()> {
+    put(rt, answer.refusal, " ")?;
+    put(rt, answer.splits, " ")?;
+    put(rt, answer.flips, " ")?;
+    put(rt, answer.counts.vertices, " ")?;
+    put(rt, answer.counts.triangles, "\n")
+}
+
+// Reads until the buffer is full, the file ends or a read fails, and answers how many bytes it then holds.
+fn read_full(file: &mut impl Read, buffer: &mut [u8], failure: &mut io::Result<()>) -> usize
+    ensures { result ≤ length buffer.new }
+{
+    let mut done: usize = 0;
+    while done < buffer.len() {
+        match file.read(&mut buffer[done..]) {
+            Ok(0) => return done,
+            Ok(n) => done += n,
+            Err(e) => {
+                note(failure, Err(e));
+                return done;
+            }
+        }
+    }
+    done
 }
 
 // Loads the cage in a file by rule 1, in a fresh store; one that is missing is empty. The buffer has a byte more than
@@ -37,7 +68,9 @@ fn load(
     links: &mut [u32],
     generations: &mut [u8],
     locks: &mut [u8],
-    path: &[u8],
+    rt: &impl Files,
+    path: &str,
+    failure: &mut io::Result<()>,
 ) -> Worked
     ensures { (bytes : List ℕ) × (
         worked_outcome result positions.new corners.new links.new generations.new
@@ -51,12 +84,10 @@ fn load(
         rule: 1,
     };
     let mut cage = [0u8; 36873];
-    let fd = os::open_read(path);
-    if fd < 0 {
+    let Ok(mut file) = File::open(rt, path) else {
         return mesh::load(positions, corners, links, generations, locks, fresh, 1, b"");
-    }
-    let n = io::read_full(fd, &mut cage);
-    libc::close(fd);
+    };
+    let n = read_full(&mut file, &mut cage, failure);
     mesh::load(
         positions,
         corners,
@@ -77,7 +108,9 @@ fn answer(
     generations: &mut [u8],
     locks: &mut [u8],
     counts: Counts,
+    rt: &impl Print,
     requests: &[u8],
+    failure: &mut io::Result<()>,
 ) -> Counts
     ensures { mesh_now result positions.new corners.new links.new generations.new
         locks.new
@@ -89,7 +122,7 @@ fn answer(
     while i < requests.len() / 4 {
         let t = points::number_at(requests, 4 * i);
         let done = mesh::refine(positions, corners, links, generations, locks, at, t);
-        print(done);
+        note(failure, print(rt, done));
         at = done.counts;
         i += 1;
     }
@@ -104,16 +137,18 @@ fn answer_some(
     generations: &mut [u8],
     locks: &mut [u8],
     counts: Counts,
-    fd: i32,
+    rt: &impl Print,
+    file: &mut impl Read,
     requests: &mut [u8],
+    failure: &mut io::Result<()>,
 ) -> Answered
     ensures read_in_bounds { result.read ≤ length requests.new }
-    ensures locks_after { mesh_now result.counts positions.new corners.new links.new generations.new
+    ensures answered { mesh_now result.counts positions.new corners.new links.new generations.new
         locks.new
         ≡ after_bytes (take result.read requests.new) (mesh_now counts positions.old
         corners.old links.old generations.old locks.old) }
 {
-    let n = io::read_full(fd, requests);
+    let n = read_full(file, requests, failure);
     let after = answer(
         positions,
         corners,
@@ -121,7 +156,9 @@ fn answer_some(
         generations,
         locks,
         counts,
+        rt,
         &requests[..n],
+        failure,
     );
     Answered {
         counts: after,
@@ -139,8 +176,10 @@ fn answer_all(
     generations: &mut [u8],
     locks: &mut [u8],
     counts: Counts,
-    fd: i32,
+    rt: &impl Print,
+    file: &mut impl Read,
     requests: &mut [u8],
+    failure: &mut io::Result<()>,
 ) -> Answered
     requires { length requests.old % 4 ≡ 0 }
     ensures { AllAnswered (length requests.new) (take result.read requests.new)
@@ -156,8 +195,10 @@ fn answer_all(
         generations,
         locks,
         counts,
-        fd,
+        rt,
+        file,
         requests,
+        failure,
     );
     let mut turns = u64::MAX;
     while turns > 0 && last.read == requests.len() {
@@ -168,15 +209,18 @@ fn answer_all(
             generations,
             locks,
             last.counts,
-            fd,
+            rt,
+            file,
             requests,
+            failure,
         );
         turns -= 1;
     }
     last
 }
 
-fn main() {
+fn main(rt: HostRuntime) -> io::Result<()> {
+    let mut failure: io::Result<()> = Ok(());
     let mut positions = [0i32; 3072];
     let mut corners = [0u32; 6144];
     let mut links = [0u32; 6144];
@@ -188,14 +232,15 @@ fn main() {
         &mut links,
         &mut generations,
         &mut locks,
-        b"cage.bin",
+        &rt,
+        "cage.bin",
+        &mut failure,
     );
-    print(loaded);
-    let fd = os::open_read(b"requests.bin");
-    if fd < 0 {
-        return;
-    }
-    let mut requests = io::large_buffer();
+    note(&mut failure, print(&rt, loaded));
+    let Ok(mut file) = File::open(&rt, "requests.bin") else {
+        return failure;
+    };
+    let mut requests = [0u8; 65536];
     answer_all(
         &mut positions,
         &mut corners,
@@ -203,8 +248,10 @@ fn main() {
         &mut generations,
         &mut locks,
         loaded.counts,
-        fd,
+        &rt,
+        &mut file,
         &mut requests,
+        &mut failure,
     );
-    libc::close(fd);
+    failure
 }

@@ -1,23 +1,22 @@
 -- A base chain followed in the tables, and whether a refine along it alters a locked triangle.
 use mathlib.Core.Bool.{Bool, ◌&&◌, ◌||◌}
 use mathlib.Core.List.{List}
-use mathlib.Core.Path.{◌≡◌, refl, sym, ap, ◌∙◌}
+use mathlib.Core.Path.{◌≡◌, sym, ap, ◌∙◌}
 use Prim.Native.Nat.{ℕ, zero, suc, ◌+◌, ◌*◌, ◌/◌, ◌%◌, ◌≤◌, ◌<◌}
 use native.Mathlib.Decide.{dec_lt}
 use native.Mathlib.Numerals.{add-one}
 use native.Mathlib.Omega.{arith}
 use lib.ListN.{length, get_or, get_or-eq_default}
-use Rattle.theory.proofs.Chains.Altering.{place_altered, end-altered}
+use Rattle.theory.proofs.Chains.Altering.{place_altered, end_altered}
 use Rattle.theory.proofs.Chains.Chain.{path_use}
-use Rattle.theory.proofs.Chains.Refine.{chain-path, chain_bound}
+use Rattle.theory.proofs.Chains.Refine.{chain_path, chain_bound}
 use Rattle.theory.proofs.Numbers.Decide.{any_none, any_more}
-use Rattle.theory.proofs.Splits.Flipped.{bases_at}
 use Rattle.theory.proofs.Soundness.Relaxed.{sound_manifold, sound_bases}
-use Rattle.rules.specs.Below.{any, bit}
+use Rattle.rules.specs.Below.{any}
 use Rattle.rules.specs.Calls.{alters_locked}
 use Rattle.rules.specs.Sound.{Sound}
 use Rattle.rules.specs.Split.{chain_end, chain_odd, chain_at}
-use Rattle.rules.specs.Tables.{Topology, Mesh, link, is_base, locked}
+use Rattle.rules.specs.Tables.{Mesh, link, is_base, locked}
 use Rattle.split.specs.Made.{BaseChain}
 use Rattle.split.specs.declared.Chain.{Chain}
 use Rattle.refining.specs.Locked.{Follows}
@@ -28,7 +27,7 @@ module _ {t : ℕ} {m : Mesh} (S : Sound m) (l : t < m.topology.triangles) where
   -- The end of a base chain is in use.
   end_used : 3 * chain_end m.topology t + 2 < length m.topology.links
   end_used =
-      let u = path_use (sound_manifold S) (sound_bases S) l (chain-path t m S l) in
+      let u = path_use (sound_manifold S) (sound_bases S) l (chain_path t m S l) in
       omega (arith, S.tables.links, S.triangle_room)
 
   -- A base chain has few odd triangles.
@@ -42,7 +41,7 @@ module _ {t : ℕ} {m : Mesh} (S : Sound m) (l : t < m.topology.triangles) where
         few = omega (arith, C.odd, few_odd);
         end = rw C.end end_used;
         places = λ i b. omega (arith, C.slots i b, (place_altered t m S l i (omega (arith, C.odd))).0, S.triangle_room, L);
-        end_lock = omega (arith, C.end, (end-altered t m S l).0, S.triangle_room, L);
+        end_lock = omega (arith, C.end, (end_altered t m S l).0, S.triangle_room, L);
         room = omega (arith, L);
       }
 
@@ -62,29 +61,12 @@ any_same zero p q e = any_none p ∙ sym (any_none q)
 any_same (suc n) p q e =
     rw (← add-one n, any_more n p, any_more n q, any_same n p q (λ i b. e i (omega arith)), e n (omega arith))
 
--- Three sides, one by one.
-pub three_bases : (m : Topology) (t : ℕ) {x y z : ℕ} → x ≡ bit (is_base m (link m (3 * t)))
-    → y ≡ bit (is_base m (link m (3 * t + 1))) → z ≡ bit (is_base m (link m (3 * t + 2))) → x + y + z ≡ bases_at m t
-three_bases m t a b c = rw (a, b, c) refl
-
-any_three : (p : ℕ → Bool) → any 3 p ≡ (p 0 || p 1 || p 2)
-any_three p = rw (any_more 2 p, any_more 1 p, any_more 0 p, any_none p) refl
-
-pub three_locked : (m : Mesh) (t : ℕ) {x y z : Bool} →
-    let met : ℕ → Bool = λ h. let k = link m.topology h in is_base m.topology k && locked m (k / 3) in
-    x ≡ met (3 * t) → y ≡ met (3 * t + 1) → z ≡ met (3 * t + 2)
-    → (x || y || z) ≡ any 3 (λ i. met (3 * t + i))
-three_locked m t a b c =
-    let met : ℕ → Bool = λ h. let k = link m.topology h in is_base m.topology k && locked m (k / 3) in
-    let e : 3 * t + 0 ≡ 3 * t = omega arith in
-    rw (a, b, c, any_three (λ i. met (3 * t + i)), e) refl
-
--- By the answers of the tests.
+-- By the answers of the tests. A test that was not made stands for itself.
 module _ (t : ℕ) (m : Mesh) {c : Chain} (C : BaseChain m.topology t c) where
-  slots-locked :
+  slots_locked :
       any c.odd (λ i. locked m (get_or c.slots i 0))
       ≡ any (chain_odd m.topology t) (λ i. locked m (chain_at i m.topology t))
-  slots-locked =
+  slots_locked =
       any_same _ _ _ (λ i b. ap (locked m) (C.slots i b))
       ∙ ap (λ (n : ℕ). any n (λ i. locked m (chain_at i m.topology t))) C.odd
 
@@ -93,4 +75,4 @@ module _ (t : ℕ) (m : Mesh) {c : Chain} (C : BaseChain m.topology t c) where
       → any 3 (λ i. let h = link m.topology (3 * c.end + i) in is_base m.topology h && locked m (h / 3)) ≡ d
       → (a || b || d) ≡ alters_locked t m
   unfolding alters_locked
-  alters_by_tests a b d = rw (← a, ← b, ← d, slots-locked, C.end, alters_locked)
+  alters_by_tests a b d = rw (← a, ← b, ← d, slots_locked, C.end, alters_locked)

@@ -127,9 +127,9 @@ pub old_nineteen : (m : Topology) (t g h : ℕ) → g ≡ generation m t → g �
 old_nineteen m t g h e n q l = rw (l, ne_eqb _ _ (λ z. n (e ∙ z)), eq-eqb _ _ (sym e ∙ q), too_old)
 
 -- The answers of the tests by a chain. A test that was not made stands for itself.
-pub chain_by_tests : (v f : ℕ) (m : Mesh) {a b locked : Bool} → locked ≡ a → room_for v f m ≡ b
-    → first_of (19 if a ∷ 11 if not b ∷ []) ≡ first_of (19 if locked ∷ 11 if not (room_for v f m) ∷ [])
-chain_by_tests v f m a b = ap₂ (λ (x y : Bool). first_of (19 if x ∷ 11 if not y ∷ [])) (sym a) (sym b)
+pub chain_by_tests : (t v f : ℕ) (m : Mesh) {a b : Bool} → alters_locked t m ≡ a → room_for v f m ≡ b
+    → first_of (19 if a ∷ 11 if not b ∷ []) ≡ first_of (19 if alters_locked t m ∷ 11 if not (room_for v f m) ∷ [])
+chain_by_tests t v f m a b = ap₂ (λ (x y : Bool). first_of (19 if x ∷ 11 if not y ∷ [])) (sym a) (sym b)
 
 -- ---- outcomes
 

@@ -74,7 +74,7 @@ only_read m o = outcome_of o.answer m o.room
 
 -- ---- with a report
 
--- The work p, refused with 23 where it is not refused and a buffer of so many entries is too short for its report.
+-- The work p, refused with 23 where it is not refused and a report of so many entries is too short.
 abbrev pub fitted_if : ℕ → Bool → Progress → Progress
 fitted_if (suc n) short p = p
 fitted_if zero true p = record { work = p.work; handled = p.handled; refusal = 23 }

@@ -1,8 +1,7 @@
 -- What a refine finds before its work.
-use Rattle.std.specs.Prelude.{ℕ, ◌≡◌, length}
+use Rattle.std.specs.Prelude.{ℕ, ◌≡◌}
 use Rattle.theory.proofs.Calls.Carried.{RefineFound}
 use Rattle.rules.specs.Calls.{refine_refusal}
-use Rattle.rules.specs.Split.{at_first, refine}
 use Rattle.rules.specs.Tables.{Mesh}
 use Rattle.split.specs.Made.{BaseChain}
 use Rattle.split.specs.declared.Chain.{Chain}
@@ -10,11 +9,10 @@ use Rattle.tables.specs.declared.Counts.{Counts}
 use Rattle.refining.specs.declared.Found.{Found}
 use Rattle.refining.specs.declared.Reported.{Reported}
 
--- The refusal of the refine of t, and where there is none the base chain of t and the length of its report.
+-- The refusal of the refine of t, and the base chain of t where there is none.
 pub record Finds (t : ℕ) (m : Mesh) (f : Found) : Type 0 where
   pub refusal : f.refusal ≡ refine_refusal t m
   pub chain : f.refusal ≡ 0 → BaseChain m.topology t f.chain
-  pub reported : f.refusal ≡ 0 → f.reported ≡ length (refine t (at_first m)).report
 
 -- The refine of t is carried out, along this base chain.
 pub record Goes (t : ℕ) (m : Mesh) (c : Chain) : Type 0 where

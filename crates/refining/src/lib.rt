@@ -1,9 +1,11 @@
 // Refines of one triangle of a mesh whose first refusal is known, and what work in spare tables shares.
+#![tactic(auto)]
+
 mod locked;
 pub mod spares;
 
-ghost use Rattle.std.specs.Prelude.{◌≡◌, List, [], ◌∷◌, not, ℕ, ◌+◌, ◌-◌, ◌*◌, ◌≤◌, max, leb, ℤ, length};
-ghost use Rattle.rules.specs.Calls.{first_of, ◌if◌, room_for, too_old, worked, refine_call, with_report};
+ghost use Rattle.std.specs.Prelude.{◌≡◌, List, [], ◌∷◌, not, ℕ, ◌+◌, ◌-◌, ◌*◌, ◌≤◌, max, leb, ℤ};
+ghost use Rattle.rules.specs.Calls.{first_of, ◌if◌, room_for, too_old, alters_locked, worked, refine_call, with_report};
 ghost use Rattle.rules.specs.Reports.{one, reported_call};
 ghost use Rattle.rules.specs.Sound.{is_sound};
 ghost use Rattle.rules.specs.Split.{at_first, refine};
@@ -11,20 +13,20 @@ ghost use Rattle.rules.specs.Tables.{tables_agree};
 ghost use Rattle.tables.specs.Answers.{worked_outcome};
 ghost use Rattle.tables.specs.Lent.{topology_now, mesh_now};
 ghost use Rattle.tables.specs.declared.Counts.{Counts};
+ghost use Rattle.split.specs.Made.{BaseChain};
 ghost use Rattle.tables.specs.Standing.{standing};
+ghost use Rattle.refining.specs.Locked.{Follows};
 ghost use Rattle.reporting.specs.Told.{Told, told_unless};
 ghost use Rattle.refining.specs.Finding.{Finds, Goes, refused_report};
 
 use split::Chain;
 use tables::{Counts, Worked};
 
-// What is found before a refine: its refusal, and where that is 0 the base chain of its triangle and the length of its
-// report.
+// What is found before a refine: its refusal, and where that is 0 the base chain of its triangle.
 #[derive(Clone, Copy)]
 pub struct Found {
     pub refusal: u32,
     pub chain: Chain,
-    pub reported: usize,
 }
 
 // The answer of a refine with a report: the length of the report too.
@@ -98,17 +100,21 @@ fn triangle_refusal(links: &[u32], generations: &[u8], counts: Counts, t: u32, b
 // The refusal of a refine by the base chain of its triangle, or 0.
 fn chain_refusal(
     positions: &[i32],
+    links: &[u32],
     generations: &[u8],
+    locks: &[u8],
     counts: Counts,
     chain: Chain,
-    locked: bool,
 ) -> u32
-    ensures { (corners links locks : List ℕ) →
-        let m = mesh_now counts positions.now corners links generations.now locks in
+    requires { Follows chain links.now generations.now locks.now }
+    ensures { (t : ℕ) (corners : List ℕ) →
+        let m = mesh_now counts positions.now corners links.now generations.now
+        locks.now in
         let s = max 1 (chain.odd - chain.rim) in
-        result ≡ first_of (19 if locked ∷ 11 if not (room_for (s + chain.rim) (2 * s) m) ∷ []) }
+        BaseChain m.topology t chain
+        → result ≡ first_of (19 if alters_locked t m ∷ 11 if not (room_for (s + chain.rim) (2 * s) m) ∷ []) }
 {
-    if locked {
+    if locked::alters_locked(links, generations, locks, chain) {
         return 19;
     }
     if !tables::has_room(positions, generations, counts, chain.splits(), chain.rim) {
@@ -144,17 +150,11 @@ pub fn find(
                 rim: 0,
                 slots: [0; 20],
             },
-            reported: 0,
         };
     }
     let chain = split::base_chain(links, generations, t);
-    let altered = locked::altered(links, generations, locks, chain);
-    let refusal = chain_refusal(positions, generations, counts, chain, altered.locked);
-    Found {
-        refusal,
-        chain,
-        reported: reporting::report_length(chain, altered.count),
-    }
+    let refusal = chain_refusal(positions, links, generations, locks, counts, chain);
+    Found { refusal, chain }
 }
 
 // The refine of t along its base chain, which nothing refuses, told from place `at` of the report on.
@@ -167,14 +167,11 @@ pub fn carry_out(
     counts: Counts,
     t: u32,
     chain: Chain,
-    reported: usize,
     report: &mut [u32],
     at: usize,
 ) -> Worked
     requires { Goes t (mesh_now counts positions.old corners.old links.old generations.old locks.old)
-        chain
-        × (reported ≡ length (refine t (at_first (mesh_now counts positions.old corners.old links.old
-        generations.old locks.old))).report) }
+        chain }
     ensures locks_after { worked_outcome result positions.new corners.new links.new generations.new
         locks.new
         ≡ worked (refine t (at_first (mesh_now counts positions.old corners.old
@@ -192,7 +189,6 @@ pub fn carry_out(
         counts,
         t,
         chain,
-        reported,
         report,
         at,
     );
@@ -249,7 +245,6 @@ pub fn refine(
         counts,
         t,
         found.chain,
-        found.reported,
         report,
         at,
     )
@@ -278,7 +273,8 @@ pub fn refine_reported(
     if found.refusal != 0 {
         return Reported::refused(found.refusal, counts);
     }
-    if report.len() < found.reported {
+    let chain = found.chain;
+    if !reporting::fits(links, generations, chain, report.len()) {
         return Reported::refused(23, counts);
     }
     Reported::carried(carry_out(
@@ -289,8 +285,7 @@ pub fn refine_reported(
         locks,
         counts,
         t,
-        found.chain,
-        found.reported,
+        chain,
         report,
         0,
     ))

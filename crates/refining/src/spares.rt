@@ -7,8 +7,8 @@ ghost use Rattle.refining.specs.Batches.{Made, batch_outcome, refused_batch, fit
 
 use tables::Counts;
 
-// Refines made one after the other: the number that the next one failed with, or 23, 0 for none, how many succeeded,
-// and the counts of the mesh in the spare tables.
+// Refines made one after the other: the number that the next one failed with, 0 for none, how many succeeded, and the
+// counts of the mesh in the spare tables.
 #[derive(Clone, Copy)]
 pub struct Batch {
     pub refusal: u32,
@@ -80,8 +80,7 @@ pub fn fit(work: Batch, entries: usize) -> Batch
     }
 }
 
-// The end of such a call: the mesh that was made is copied back, unless the work is refused: it failed half way, or its
-// report does not fit.
+// The end of such a call: the mesh that was made is copied back, unless the work failed half way.
 pub fn carry_back(
     positions: &mut [i32],
     corners: &mut [u32],

@@ -1,17 +1,19 @@
 -- Reports told entry by entry.
-use borrow.Author.Tests.{leb-true, leb-false}
+use borrow.Author.Tests.{le-leb, lt-leb, leb-true, leb-false}
 use mathlib.Core.Bool.{Bool, true, false}
 use mathlib.Core.Path.{◌≡◌, refl, sym, ap, ◌∙◌, subst}
 use mathlib.Core.List.{List, [], ◌∷◌, ◌++◌, append-nil, append_assoc}
 use Prim.Native.Nat.{ℕ, suc, ◌+◌, ◌-◌, ◌*◌, ◌%◌, ◌≤◌, ◌<◌, max}
+use native.Mathlib.Nat.{le_trans, lt_of_lt_of_le}
 use native.Mathlib.Omega.{arith}
 use lib.Dec.{leb}
 use lib.ListN.{length, get_or, set, length-append, length-set, get_or-append}
 use Rattle.theory.proofs.Calls.Carried.{RefineFound, found_refined}
-use Rattle.theory.proofs.Chains.Flipping.{refine-report-length}
+use Rattle.theory.proofs.Chains.Flipping.{refine_report_length, refine_flips}
+use Rattle.theory.proofs.Chains.RefineLoop.{few_splits}
 use Rattle.theory.proofs.Numbers.Fill.{fill_more, fill_same}
 use Rattle.theory.proofs.Splits.After.{is_flipped, is_second_flipped, flip_after, split_after}
-use Rattle.theory.proofs.Splits.Flipped.{bases_at}
+use Rattle.theory.proofs.Splits.Flipped.{pair_at}
 use Rattle.rules.specs.Calls.{splits_of}
 use Rattle.rules.specs.Below.{fill}
 use Rattle.rules.specs.Reports.{report_in}
@@ -109,21 +111,33 @@ tells_split l g t f T U W X = tells_on T (tells_on U (tells_on W X))
 
 -- ---- the length
 
-after_first : (l s n : ℕ) → 1 ≤ s → l + 2 ≡ 5 * s + 2 * n → 5 * s - 2 + 2 * n ≡ l
-after_first l s n i e = omega arith
+after_first : (l s a b c : ℕ) → 1 ≤ s → l + 2 ≡ 5 * s + a + b + c → 5 * s - 2 + a + b + c ≡ l
+after_first l s a b c i e = omega arith
 
 pub splits_are : {m : Topology} {t : ℕ} {chain : Chain} → BaseChain m t chain
     → max 1 (chain.odd - chain.rim) ≡ splits_of m t
 splits_are C = rw (C.odd, C.rim) refl
 
-pub length_is : {t : ℕ} {m : Mesh} {chain : Chain} {bases splits : ℕ} → RefineFound t m
-    → BaseChain m.topology t chain → bases ≡ bases_at m.topology chain.end
-    → splits ≡ max 1 (chain.odd - chain.rim) → 5 * splits - 2 + 2 * bases ≡ length (refine t (at_first m)).report
-length_is {t} {m} R C b s =
-    rw (s, splits_are C, b, C.end) (after_first _ _ _ (some_split m.topology t) (refine-report-length R))
+pub length_steps : {t : ℕ} {m : Mesh} {chain : Chain} {own second third splits : ℕ} → RefineFound t m
+    → BaseChain m.topology t chain
+    → let h = 3 * chain.end in
+    own ≡ length (pair_at m.topology 0 h) → second ≡ length (pair_at m.topology 0 (h + 1))
+    → third ≡ length (pair_at m.topology 0 (h + 2)) → splits ≡ max 1 (chain.odd - chain.rim)
+    → 5 * splits - 2 + own + second + third ≡ length (refine t (at_first m)).report
+length_steps {t} {m} {chain} R C p q r s =
+    rw (p, q, r, s, splits_are C, C.end) (after_first _ _ _ _ _ (some_split m.topology t) (refine_report_length R))
   where
     some_split : (m : Topology) (t : ℕ) → 1 ≤ splits_of m t
     some_split m t = omega arith
+
+-- A refine splits at most ten times, and flips at most twice more than it splits.
+pub few_reported : {t : ℕ} {m : Mesh} → RefineFound t m → length (refine t (at_first m)).report ≤ 54
+few_reported R =
+    let G = found_refined R in
+    omega (arith, ap length G.telling.report, G.telling.size, G.splits, refine_flips R, few_splits R)
+
+pub always_fits : {t n : ℕ} {m : Mesh} → RefineFound t m → 54 ≤ n → true ≡ leb (length (refine t (at_first m)).report) n
+always_fits R i = sym (le-leb _ _ (le_trans (few_reported R) i))
 
 -- Each split reports its own slot.
 some_reported : {t : ℕ} {m : Mesh} → RefineFound t m
@@ -131,6 +145,10 @@ some_reported : {t : ℕ} {m : Mesh} → RefineFound t m
 some_reported R =
     let G = found_refined R in
     omega (arith, ap length G.telling.report, G.telling.size, G.splits)
+
+pub never_fits : {t n : ℕ} {m : Mesh} → RefineFound t m → n < splits_of m.topology t
+    → false ≡ leb (length (refine t (at_first m)).report) n
+never_fits R i = sym (lt-leb _ _ (lt_of_lt_of_le i (some_reported R)))
 
 -- Where it fits from a place on, there is room for it, and else it is not told.
 pub fits_from : {t : ℕ} (at n : ℕ) {m : Mesh} → RefineFound t m

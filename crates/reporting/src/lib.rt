@@ -1,10 +1,12 @@
 // The refinement of one triangle along its base chain, with a report of the slots that it writes.
-ghost use Rattle.std.specs.Prelude.{true, [], ◌∷◌, ◌≡◌, ℕ, ◌+◌, ◌-◌, ◌*◌, ◌/◌, ◌≤◌, ◌<◌, length, get_or};
+#![tactic(auto)]
+
+ghost use Rattle.std.specs.Prelude.{true, List, [], ◌∷◌, ◌≡◌, ℕ, ◌+◌, ◌-◌, ◌*◌, ◌/◌, ◌≤◌, ◌<◌, leb, ℤ, length, get_or};
 ghost use Rattle.theory.proofs.Calls.Carried.{RefineFound};
 ghost use Rattle.theory.proofs.Splits.After.{is_flipped, is_second_flipped, flip_after, split_after};
-ghost use Rattle.theory.proofs.Splits.Flipped.{bases_at};
+ghost use Rattle.theory.proofs.Splits.Flipped.{pair_at};
 ghost use Rattle.rules.specs.Split.{at_first, refine};
-ghost use Rattle.rules.specs.Tables.{Mesh};
+ghost use Rattle.tables.specs.declared.Counts.{Counts};
 ghost use Rattle.tables.specs.Lent.{topology_now, mesh_now};
 ghost use Rattle.split.specs.Made.{work_now, BaseChain};
 ghost use Rattle.reporting.specs.Told.{Tells, Told};
@@ -92,13 +94,49 @@ fn tell_split(
     tell_flip(links, e, is_flipped(generations, e), report, second)
 }
 
-// The length of the report of a refine along this chain, whose end meets so many bases: three slots for each split, and
-// two for each flip. The first split flips with each of these bases, every later one once.
-pub fn report_length(chain: Chain, bases: u32) -> usize
-    ensures { (t : ℕ) (m : Mesh) → RefineFound t m → BaseChain m.topology t chain
-        → bases ≡ bases_at m.topology chain.end → result ≡ length (refine t (at_first m)).report }
+// How much of a report the flip at side h takes, if there is one.
+fn flip_length(links: &[u32], generations: &[u8], h: usize) -> usize
+    requires { h < length links.now }
+    ensures { ((n : Counts) (corners : List ℕ) →
+        let m = topology_now n corners links.now generations.now in
+        result ≡ length (pair_at m 0 h)) × (result ≤ 2) }
 {
-    5 * (chain.splits() as usize) - 2 + 2 * (bases as usize)
+    if split::is_base(generations, links[h]) {
+        return 2;
+    }
+    0
+}
+
+// The length of the report of a refine along this chain: after the first split each flips once.
+fn report_length(links: &[u32], generations: &[u8], chain: Chain) -> usize
+    requires { 3 * chain.end + 2 < length links.now }
+    ensures { (t : ℕ) (n : Counts) (p : List ℤ) (c k : List ℕ) →
+        let m = mesh_now n p c links.now generations.now k in
+        RefineFound t m → BaseChain m.topology t chain → result ≡ length (refine t (at_first m)).report }
+{
+    let first = 3 * (chain.end as usize);
+    let own = flip_length(links, generations, first);
+    let second = flip_length(links, generations, first + 1);
+    let third = flip_length(links, generations, first + 2);
+    5 * (chain.splits() as usize) - 2 + own + second + third
+}
+
+// Whether the report of a refine along this chain has at most so many entries. 54 do for every refine, and each split
+// takes some.
+pub fn fits(links: &[u32], generations: &[u8], chain: Chain, entries: usize) -> bool
+    requires { 3 * chain.end + 2 < length links.now }
+    ensures { (t : ℕ) (n : Counts) (p : List ℤ) (c k : List ℕ) →
+        let m = mesh_now n p c links.now generations.now k in
+        RefineFound t m → BaseChain m.topology t chain
+        → result ≡ leb (length (refine t (at_first m)).report) entries }
+{
+    if 54 <= entries {
+        return true;
+    }
+    if entries < chain.splits() as usize {
+        return false;
+    }
+    report_length(links, generations, chain) <= entries
 }
 
 // The entries of a report from this place on.
@@ -123,9 +161,9 @@ fn across_last(links: &[u32], slots: &[u32; 20], odd: u32) -> u32
 
 // The refinement of t, from the end of its base chain upwards. An odd triangle keeps its slot and its place in the
 // chain until it is flipped. What lies across its base is read anew for each split, as a flip may move it to another
-// slot. The splits are told from place `at` of the report on, if it has room for all that is reported. A plain call has
-// no room for any, which is tested once and not for each split. The last split has a call of its own: with one call for
-// all, split_at would be inlined, and each split would take 20 to 30 instructions more.
+// slot. The splits are told from place `at` of the report on, if it has room for all of them. A plain call has no room
+// for any, which is tested once and not for each split. The first split has a call of its own: with one call for all,
+// split_at would be inlined, and each split would take 20 to 30 instructions more.
 pub fn refine(
     positions: &mut [i32],
     corners: &mut [u32],
@@ -135,14 +173,11 @@ pub fn refine(
     counts: Counts,
     t: u32,
     chain: Chain,
-    reported: usize,
     report: &mut [u32],
     at: usize,
 ) -> Work
     requires { RefineFound t (mesh_now counts positions.old corners.old links.old generations.old locks.old)
-        × BaseChain (topology_now counts corners.old links.old generations.old) t chain
-        × (reported ≡ length (refine t (at_first (mesh_now counts positions.old corners.old links.old
-        generations.old locks.old))).report) }
+        × BaseChain (topology_now counts corners.old links.old generations.old) t chain }
     ensures { let w = refine t (at_first (mesh_now counts
         positions.old corners.old links.old generations.old
         locks.old)) in
@@ -151,25 +186,38 @@ pub fn refine(
         ≡ w) × Told w.report report.old report.new at }
 {
     let slots = chain.slots;
-    let mut work = Work {
+    let start = Work {
         vertices: counts.vertices,
         triangles: counts.triangles,
         splits: 0,
         flips: 0,
     };
     let mut left = chain.splits();
-    let mut end = chain.end;
-    let telling = reported <= room_from(report.len(), at);
-    let mut told = at;
+    let telling = fits(links, generations, chain, room_from(report.len(), at));
+    let mut work = split::split_at(
+        positions,
+        corners,
+        links,
+        generations,
+        locks,
+        start,
+        chain.end,
+    );
+    let mut told = tell_split(
+        links,
+        generations,
+        chain.end,
+        start.triangles,
+        telling,
+        report,
+        at,
+    );
     while 1 < left {
+        left -= 1;
+        let end = across_last(links, &slots, left);
         let f = work.triangles;
         work = split::split_at(positions, corners, links, generations, locks, work, end);
         told = tell_split(links, generations, end, f, telling, report, told);
-        left -= 1;
-        end = across_last(links, &slots, left);
     }
-    let f = work.triangles;
-    let done = split::split_at(positions, corners, links, generations, locks, work, end);
-    tell_split(links, generations, end, f, telling, report, told);
-    done
+    work
 }

@@ -15,7 +15,7 @@ use Rattle.theory.proofs.Numbers.Decide.{is_true, is_false, when_true, when_fals
 use Rattle.rules.specs.Below.{all}
 use Rattle.rules.specs.Notes.{old_f, note_slots, note_nine, put_back_all, restored, Accepted}
 use Rattle.rules.specs.Sound.{Sound}
-use Rattle.rules.specs.Tables.{Mesh, generation, lock}
+use Rattle.rules.specs.Tables.{Mesh}
 use Rattle.theory.proofs.Numbers.Answers.{refused, passed}
 use Rattle.restoring.specs.Fitting.{slot_rises, slot_fits, note_fits, NoteFits}
 use Rattle.restoring.proofs.SlotsBack.{first_of_nine}

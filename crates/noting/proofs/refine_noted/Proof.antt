@@ -101,8 +101,7 @@ carry-out-requires : tie.Need-carry-out-requires
 carry-out-requires c κs =
     let at-if2 = c.before.before.before.before.before.before in
     let at-if1 = at-if2.before.before.before.before.before.before.before.before.before.before in
-    let at = at-if1.before.before in
-    (finds_goes (finds at) at-if1.if1.false, (finds at).reported at-if1.if1.false)
+    finds_goes (finds at-if1.before.before) at-if1.if1.false
 
 same-length-11 : tie.Need-same-length-11
 same-length-11 c = search rules

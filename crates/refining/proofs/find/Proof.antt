@@ -1,8 +1,7 @@
 -- `refining::find` meets its contract.
 use Prim.Native.Nat.{ℕ}
 use mathlib.Core.List.{List}
-use mathlib.Core.Path.{◌≡◌, sym, ◌∙◌}
-use Rattle.theory.proofs.Calls.Carried.{refine_found}
+use mathlib.Core.Path.{◌≡◌}
 use Rattle.rules.specs.Tables.{Mesh}
 use Rattle.tables.specs.Lent.{mesh_now}
 use Rattle.refining.proofs.Locking.{follows}
@@ -37,7 +36,6 @@ returns c corners e =
       refusal =
           refine_triangle (start at corners).args.t (mesh at corners) _ (triangle_is at corners e) c.if1.true;
       chain = λ z. absurd (c.if1.true z);
-      reported = λ z. absurd (c.if1.true z);
     }
 
 base-chain-requires : tie.Need-base-chain-requires
@@ -46,35 +44,23 @@ base-chain-requires c κs =
     let (corners, e) = c.before.before.before.before.before.requires in
     refine_young (start at corners).args.t (mesh at corners) _ (triangle_is at corners e) c.if1.false
 
-altered-requires : tie.Need-altered-requires
-altered-requires c κs =
+chain-refusal-requires : tie.Need-chain-refusal-requires
+chain-refusal-requires c κs =
     let at = c.before.before in
     let (corners, e) = c.before.before.before.before.before.before.requires in
     let (S, l) =
     refine_stands (start at corners).args.t (mesh at corners) _ (triangle_is at corners e) c.before.if1.false in
     follows S l (c.base-chain.ensures (start at corners).args.counts corners)
 
-chain-refusal-requires : tie.Need-chain-refusal-requires
-chain-refusal-requires c κs = search rules
-
-report-length-requires : tie.Need-report-length-requires
-report-length-requires c κs = search rules
-
 returns-2 : tie.Need-returns-2
 returns-2 c corners e =
-    let at-chain = c.before.before.before in
-    let at = at-chain.before.before in
-    let t = (start at corners).args.t in
-    let m = mesh at corners in
-    let C = at-chain.base-chain.ensures (start at corners).args.counts corners in
-    let A = c.before.before.altered.ensures (start at corners).args.counts m.positions corners t C in
-    let r =
-    refine_chain t m _ (triangle_is at corners e) at-chain.before.if1.false c.before.chain-refusal.result
-    (rw (← C.odd, ← C.rim, ← A.1) (c.before.chain-refusal.ensures corners m.topology.links m.locks)) in
-    record {
-      refusal = r;
+    let at = c.before.before.before in
+    let C = c.before.base-chain.ensures (start at corners).args.counts corners in record {
+      refusal =
+          refine_chain (start at corners).args.t (mesh at corners) _ (triangle_is at corners e)
+          c.before.before.if1.false _
+          (rw (← C.odd, ← C.rim) (c.chain-refusal.ensures (start at corners).args.t corners C));
       chain = λ _. C;
-      reported = λ z. c.report-length.ensures t m (refine_found t m (sym r ∙ z)) C A.0;
     }
 
 pub find_spec : {M : Type 1} → statement M
@@ -84,7 +70,5 @@ find_spec =
     triangle-refusal-requires
     returns
     base-chain-requires
-    altered-requires
     chain-refusal-requires
-    report-length-requires
     returns-2)

@@ -49,8 +49,7 @@ returns c =
 carry-out-requires : tie.Need-carry-out-requires
 carry-out-requires c κs =
     let at-if1 = c.before.before.before.before.before.before in
-    let at = at-if1.before.before in
-    (finds_goes (finds at) at-if1.if1.false, (finds at).reported at-if1.if1.false)
+    finds_goes (finds at-if1.before.before) at-if1.if1.false
 
 same-length-5 : tie.Need-same-length-5
 same-length-5 c = search rules

@@ -7,7 +7,7 @@ use Prim.Native.Nat.{ℕ, zero, suc, ◌+◌, ◌*◌, ◌/◌, ◌%◌, ◌≤�
 use native.Mathlib.Omega.{arith}
 use lib.ListN.{length, length-append}
 use Rattle.theory.proofs.Calls.Carried.{RefineFound, found_refined}
-use Rattle.theory.proofs.Chains.Altered.{after_next, last-met, last_alone, left_not}
+use Rattle.theory.proofs.Chains.Altered.{after_next, last_met, last_alone, left_not}
 use Rattle.theory.proofs.Chains.Chain.{falls, path_odd}
 use Rattle.theory.proofs.Chains.Remembered.{path_from}
 use Rattle.theory.proofs.Chains.RefineLoop.{split_ends, Ahead, ahead_end, ahead_splitting, ahead_report, ahead_on}
@@ -18,8 +18,7 @@ use Rattle.theory.proofs.Links.Manifold.{Manifold, Base}
 use Rattle.theory.proofs.Numbers.Decide.{is_same, is_false, odd_test, even_test}
 use Rattle.theory.proofs.Splits.Bases.{reached, base_is, boundary_not_base}
 use Rattle.theory.proofs.Splits.Cut.{Spread, CutResult}
-use Rattle.theory.proofs.Splits.Flipped.{BaseAt, pair_if, pair_at, bases_at}
-use Rattle.rules.specs.Below.{bit}
+use Rattle.theory.proofs.Splits.Flipped.{BaseAt, pair_if, pair_at}
 use Rattle.rules.specs.Calls.{splits_of}
 use Rattle.rules.specs.Conditions.{Splittable, is_even, on_boundary}
 use Rattle.rules.specs.Promises.{Written}
@@ -50,7 +49,7 @@ module _ {k g t : ℕ} {w : Work} (A : Ahead (suc (suc k)) g t w) where
       in_use = (ahead_end (ahead_on A)).in_use
 
       written : Written m n u
-      written = subst (Written m n) (sym (ahead_across A).next) (last-met A).3
+      written = subst (Written m n) (sym (ahead_across A).next) (last_met A).3
 
       go : Spread v (top_of m v) m n u → generation n u ≡ suc (top_of m v)
       go (inl (l, _, e)) = absurd (left_not m n l e written refl)
@@ -88,7 +87,7 @@ module _ {k g t : ℕ} {w : Work} (A : Ahead (suc (suc k)) g t w) where
   -- The base of the last place of the chain that is left meets it, and no other.
   last_base : BaseAt u n (3 * chain_at k m t)
   last_base =
-      let (l, e, q, o) = last-met A in
+      let (l, e, q, o) = last_met A in
       let y : ℕ = chain_at k m t in
       let z : 3 * y / 3 ≡ y = omega arith in
       let c : y ≢ u = λ i. left_not m n l e o (i ∙ (ahead_across A).next) in
@@ -116,13 +115,15 @@ unfolding split_ends
 ends_flips zero w A = omega arith
 ends_flips (suc k) w A = omega (arith, ends_flips k _ (ahead_on A), next_flips A)
 
--- What a flip adds to a report, if there is one.
-pair_length : (b : Bool) (c h : ℕ) → length (pair_if b c h) ≡ 2 * bit b
+-- What the flip at side h adds to a report, whatever the child.
+pair_length : (b : Bool) (c h : ℕ) → length (pair_if b c h) ≡ length (pair_if b 0 h)
 pair_length true c h = refl
 pair_length false c h = refl
 
--- What a split reports: three slots, and two for each base that it meets.
-told_length : (v : ℕ) (m : Topology) → Splittable m v → Manifold m → length (split_told m v) ≡ 3 + 2 * bases_at m v
+-- What a split reports: three slots, and two for each side that meets a base.
+told_length : (v : ℕ) (m : Topology) → Splittable m v → Manifold m
+    → length (split_told m v)
+    ≡ 3 + length (pair_at m 0 (3 * v)) + length (pair_at m 0 (3 * v + 1)) + length (pair_at m 0 (3 * v + 2))
 told_length v m (is_even e) F =
     let f : ℕ = m.triangles in
     rw (even_test (generation m v) e)
@@ -142,17 +143,17 @@ told_length v m (on_boundary o q) F =
     (omega (
       arith,
       length-append (pair_at m v (3 * v + 2)) (pair_at m (f + 1) (3 * v + 1)),
-      ap bit x,
+      ap (λ (b : Bool). length (pair_if b 0 (link m (3 * v)))) x,
       pair_length (is_base m (link m (3 * v + 2))) v (link m (3 * v + 2)),
       pair_length (is_base m (link m (3 * v + 1))) (f + 1) (link m (3 * v + 1)),
     ))
 
 module _ {t : ℕ} {m : Mesh} (R : RefineFound t m) where
   -- A refine flips once for each split after the first, and what the first flips.
-  pub refine-flips-are :
+  pub refine_flips_are :
       (refine t (at_first m)).flips + 1
       ≡ (split_at (chain_end m.topology t) (at_first m)).flips + splits_of m.topology t
-  refine-flips-are = rw (refine_is_split_ends R) (go (splits_of m.topology t) (omega arith) (ahead R))
+  refine_flips_are = rw (refine_is_split_ends R) (go (splits_of m.topology t) (omega arith) (ahead R))
     where
       go : (k : ℕ) → 1 ≤ k → Ahead k (generation m.topology t) t (at_first m)
           → (split_ends k t (at_first m)).flips + 1 ≡ (split_at (chain_end m.topology t) (at_first m)).flips + k
@@ -161,7 +162,7 @@ module _ {t : ℕ} {m : Mesh} (R : RefineFound t m) where
 
   pub refine_flips : (refine t (at_first m)).flips ≤ splits_of m.topology t + 2
   refine_flips =
-      let i = refine-flips-are in
+      let i = refine_flips_are in
       go (splits_of m.topology t) (omega arith) (ahead R) (omega arith)
     where
       go : (k : ℕ) → 1 ≤ k → Ahead k (generation m.topology t) t (at_first m)
@@ -171,15 +172,19 @@ module _ {t : ℕ} {m : Mesh} (R : RefineFound t m) where
       go (suc k) i A j =
           omega (arith, split_counts (chain_end m.topology t) (at_first m) (ahead_end A).fit)
 
-  -- The report of a refine has five slots for each split, but of the first three, and two for each base that it meets.
-  pub refine-report-length :
+  -- The report of a refine has five slots for each split, of which the first may flip up to three times.
+  pub refine_report_length :
+      let v = chain_end m.topology t in
       length (refine t (at_first m)).report + 2
-      ≡ 5 * splits_of m.topology t + 2 * bases_at m.topology (chain_end m.topology t)
-  refine-report-length = go (splits_of m.topology t) refl (ahead R)
+      ≡ 5 * splits_of m.topology t + length (pair_at m.topology 0 (3 * v))
+      + length (pair_at m.topology 0 (3 * v + 1)) + length (pair_at m.topology 0 (3 * v + 2))
+  refine_report_length = go (splits_of m.topology t) refl (ahead R)
     where
       go : (k : ℕ) → splits_of m.topology t ≡ k → Ahead k (generation m.topology t) t (at_first m)
-          → length (refine t (at_first m)).report + 2
-          ≡ 5 * splits_of m.topology t + 2 * bases_at m.topology (chain_end m.topology t)
+          → let v = chain_end m.topology t in
+          length (refine t (at_first m)).report + 2
+          ≡ 5 * splits_of m.topology t + length (pair_at m.topology 0 (3 * v))
+          + length (pair_at m.topology 0 (3 * v + 1)) + length (pair_at m.topology 0 (3 * v + 2))
       go zero e A = absurd (omega arith)
       go (suc k) e A =
           let v : ℕ = chain_end m.topology t in
@@ -188,7 +193,7 @@ module _ {t : ℕ} {m : Mesh} (R : RefineFound t m) where
           let G = found_refined R in
           omega (
             arith,
-            refine-flips-are,
+            refine_flips_are,
             told_length v m.topology E.fit A.manifold,
             ap length (sym S.telling.report ∙ ahead_report A),
             S.telling.size,

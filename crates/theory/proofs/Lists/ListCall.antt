@@ -168,11 +168,11 @@ module _ (list : List ℕ) (spares : Spares) (m : Mesh) where
     sound : Sound m
     sound = (spares_sound spares m (both_zero z).0).1
 
-    pub list-makes :
+    pub list_makes :
         (list_call list spares m ≡ all_or_nothing 0 progress spares m) × (progress.handled ≡ length list)
         × ListMakes list m progress.work
     unfolding list_call
-    list-makes =
+    list_makes =
         let (a, q) = both_zero z in
         let M = makes sound q in
         (rw (list_call, a, q) refl, M.0, M.1)

@@ -10,7 +10,6 @@ use native.Mathlib.Omega.{arith}
 use lib.ListN.{length, length-append}
 use Rattle.theory.proofs.Links.Manifold.{Manifold, Base, Joined, Partnered, partnered, partnered_with, no_self}
 use Rattle.theory.proofs.Numbers.Decide.{Decides, is_iff, is_same, is_true, is_false, when_true}
-use Rattle.theory.proofs.Numbers.Sums.{row}
 use Rattle.theory.proofs.Splits.Bases.{reached, base_is, Child, Settling, kept, flipped, report_of}
 use Rattle.theory.proofs.Splits.Bases.{settling_manifold, settle_settles, not_child, partnered_base}
 use Rattle.theory.proofs.Splits.Bases.{boundary_not_base}
@@ -19,7 +18,6 @@ use Rattle.theory.proofs.Splits.FlipKeeps.{BasesMeet}
 use Rattle.theory.proofs.Splits.FlipRead.{Flips, by_flip_name}
 use Rattle.theory.proofs.Splits.Reported.{Telling}
 use Rattle.theory.proofs.Splits.Settled.{Among, Children, Distinct, Without, children_on}
-use Rattle.rules.specs.Below.{bit}
 use Rattle.rules.specs.Split.{Work, settle, settle_all}
 use Rattle.rules.specs.Tables.{Topology, sides, origin, link, generation, is_base}
 
@@ -31,10 +29,6 @@ pair_if false c h = []
 -- The child c whose base lies where side h of m lay.
 abbrev pub pair_at : Topology → ℕ → ℕ → List ℕ
 pair_at m c h = pair_if (is_base m (link m h)) c (link m h)
-
--- How many bases meet the sides of v.
-abbrev pub bases_at : Topology → ℕ → ℕ
-bases_at m v = row (λ h. bit (is_base m (link m h))) v
 
 abbrev pub pair_of : Topology → ℕ → List ℕ
 pair_of m c = pair_at m c (3 * c)

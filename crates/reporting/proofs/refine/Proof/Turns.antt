@@ -17,6 +17,16 @@ use Rattle.split.specs.Made.{MaySplit}
 use Rattle.reporting.specs.Told.{Tells}
 use Rattle.reporting.proofs.Telling.{tells_on, room_then}
 
+-- The end of the chain is within the tables.
+pub end_within : {t end : ℕ} {m : Mesh} → RefineFound t m → end ≡ chain_end m.topology t
+    → 3 * end + 2 < length m.topology.links
+end_within {t} {end} {m} R e = go (splits_of m.topology t) (omega arith) (ahead R)
+  where
+    go : (k : ℕ) → 0 < k → Ahead k (generation m.topology t) t (at_first m)
+        → 3 * end + 2 < length m.topology.links
+    go zero i A = absurd (omega arith)
+    go (suc k) i A = omega (arith, e, (ahead_end A).in_use, A.manifold.link_room)
+
 -- Refining t in m with some splits left, which is told from place `at` of b on if it is to be told: it has made w, and
 -- told b as far as place `next`.
 pub record Turned (t : ℕ) (m : Mesh) (slots : List ℕ) (telling : Bool) (b : List ℕ) (at left : ℕ) (w : Work)
@@ -24,13 +34,6 @@ pub record Turned (t : ℕ) (m : Mesh) (slots : List ℕ) (telling : Bool) (b : 
   pub refining : Refining t m slots left w
   pub tells : telling ≡ true → Tells w.report b s at next
   pub size : length s ≡ length b
-
--- With some splits left indeed, the next of them at `end`.
-pub record Turning (t : ℕ) (m : Mesh) (slots : List ℕ) (telling : Bool) (b : List ℕ) (at left : ℕ) (w : Work)
-    (s : List ℕ) (next end : ℕ) : Type 0 where
-  pub turned : Turned t m slots telling b at left w s next
-  pub some : 0 < left
-  pub at_end : end ≡ chain_end w.mesh.topology t
 
 -- The next split is across the base of the last triangle that is remembered.
 abbrev pub Next : ℕ → List ℕ → ℕ → Work → Type 0

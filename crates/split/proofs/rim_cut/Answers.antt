@@ -1,0 +1,45 @@
+-- `split::rim_cut` meets its contract.
+use native.Mathlib.Omega.{arith}
+use mathlib.Core.Path.{ap}
+use Rattle.rules.specs.Split.{Work}
+use Rattle.split.specs.Made.{counts_of, work_now}
+use Rattle.split.proofs.Bounds.{rim_hands}
+use Rattle.split.proofs.Steps.{rim_cut_steps}
+use Rattle.split.proofs.rim_cut.Goals as goal
+
+pub store_point-requires-2 : goal.store_point-requires-2
+store_point-requires-2 c =
+    omega (arith, c.requires, c.store_point.auto)
+
+pub triangle_at-x-requires : goal.triangle_at-x-requires
+triangle_at-x-requires c =
+    omega (arith, c.requires, c.store_point.auto, c.store_point-2.auto)
+
+pub rim_children-three-requires : goal.rim_children-three-requires
+rim_children-three-requires c =
+    let n = counts_of 0 c.args.work in
+    omega (arith, c.requires, ap (λ x. x.generation) (c.triangle_at-x.ensures n))
+
+pub replace-requires : goal.replace-requires
+replace-requires c =
+    omega (arith, c.requires, c.store_point.auto, c.store_point-2.auto)
+
+pub unlock_two-requires : goal.unlock_two-requires
+unlock_two-requires c =
+    omega (arith, c.requires)
+
+pub returns : goal.returns
+returns c rule report =
+    let n = counts_of rule c.args.work in
+    let w : Work =
+    work_now rule report c.args.work c.args.positions.now c.args.corners.now c.args.links.now
+    c.args.generations.now c.args.locks.now in (
+      _,
+      rim_hands _ w _ c.requires.0.2.young
+          (rim_cut_steps _ w _ _ _ _ _ _ _ _
+          (c.third_of-first.ensures n c.args.links.now c.args.generations.now c.args.locks.now)
+          (c.third_of-second.ensures n c.args.links.now c.args.generations.now c.args.locks.now)
+          c.store_point.ensures c.store_point-2.ensures
+          (c.triangle_at-x.ensures n) c.rim_children-three.ensures
+          (c.replace.ensures n) c.unlock_two.ensures) c.requires.1,
+    )

@@ -1,0 +1,25 @@
+-- `split::split_at` meets its contract.
+use native.Mathlib.Omega.{arith}
+use mathlib.Core.List.{[]}
+use mathlib.Core.Path.{◌∙◌}
+use Rattle.split.proofs.split_at.Goals as goal
+
+pub settle_three-requires : goal.settle_three-requires
+settle_three-requires c =
+    omega (arith, c.requires, (c.face_cut-cut.ensures 0 []).1, c.face_cut-cut.auto)
+
+pub settle_two-requires : goal.settle_two-requires
+settle_two-requires c =
+    omega (arith, c.requires, (c.rim_cut-cut.ensures 0 []).1, c.rim_cut-cut.auto)
+
+pub returns-then-generation_at-eq0 : goal.returns-then-generation_at-eq0
+returns-then-generation_at-eq0 c rule report =
+    let (k, H) = c.face_cut-cut.ensures rule report in
+    let (more, e) = c.settle_three.ensures rule _ _ k in
+    (more, e ∙ H.settled)
+
+pub returns-else-generation_at-eq0 : goal.returns-else-generation_at-eq0
+returns-else-generation_at-eq0 c rule report =
+    let (k, H) = c.rim_cut-cut.ensures rule report in
+    let (more, e) = c.settle_two.ensures rule _ _ k in
+    (more, e ∙ H.settled)
