@@ -9,7 +9,7 @@ import re
 import sys
 
 NAME = r"[A-Za-z_\u2080-\u2089][A-Za-z0-9_'\-\u2080-\u2089\u2115\u2124\u2113\u03a3]*"
-SIGNATURE = re.compile(r"^\s*(?:(?:pub|abbrev|unfoldable|ruleset)\s+)*((?:" + NAME + r"\s+)*" + NAME + r")\s+:\s+(.*)$")
+SIGNATURE = re.compile(r"^\s*(?:(?:pub|abbrev|unfoldable|ruleset)\s+)*((?:" + NAME + r"\s+)*" + NAME + r")\s+:(?:\s+(.*))?$")
 TOKEN = re.compile(r"(?<![A-Za-z0-9_'\-\u2080-\u2089\u25cc])" + NAME)
 WORDS = {"let", "in", "pub", "abbrev", "unfoldable", "record", "data", "module", "field", "where", "open", "use", "elim", "as", "ruleset", "syntax"}
 # Names that would fall together with another name, or would not say what they said.
@@ -76,7 +76,8 @@ def declared():
             for x in m[1].split():
                 if x in WORDS:
                     continue
-                if m[2].startswith(("tie.", "goal.")) or re.match(r"\{M : Type 1\} \u2192 statement M", m[2]):
+                typ = m[2] or ""
+                if typ.startswith(("tie.", "goal.")) or re.match(r"\{M : Type 1\} \u2192 statement M", typ):
                     needs[p].add(x)
                 else:
                     names[x].add(p)

@@ -1,5 +1,7 @@
 // The public calls that refine a box and that foresee a list, and report the slots that they write. None asks anything
 // of its caller, and a refusal leaves the mesh and the report.
+#![tactic(auto)]
+
 ghost use Rattle.std.specs.Prelude.{◌≡◌};
 ghost use Rattle.points.specs.Axes.{box_of};
 ghost use Rattle.rules.specs.Calls.{with_report};

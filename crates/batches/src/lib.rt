@@ -1,5 +1,7 @@
 // The public calls that refine a list of triangles and that foresee it, without reports. None asks anything of its
 // caller, but the one named `known` is to be told the first refusal of the mesh. A refusal leaves the mesh.
+#![tactic(auto)]
+
 ghost use Rattle.std.specs.Prelude.{◌≡◌};
 ghost use Rattle.rules.specs.Lists.{list_call, preview_call};
 ghost use Rattle.tables.specs.Lent.{mesh_now, spares_now};

@@ -1,5 +1,7 @@
 // The public call that refines what has a corner in a box, without a report. It asks nothing of its caller, but the one
 // named `known` is to be told the first refusal of the mesh. A refusal leaves the mesh.
+#![tactic(auto)]
+
 ghost use Rattle.std.specs.Prelude.{◌≡◌};
 ghost use Rattle.refining.specs.Batches.{batch_outcome};
 ghost use Rattle.tables.specs.Standing.{standing};

@@ -1,4 +1,6 @@
 // Triangles with a corner in a box, refined one after the other in spare tables.
+#![tactic(auto)]
+
 ghost use Rattle.std.specs.Prelude.{◌≡◌, ◌≤◌, length};
 ghost use Rattle.points.specs.Axes.{box_of};
 ghost use Rattle.rules.specs.Boxes.{refine_in_box};

@@ -1,4 +1,6 @@
 // Loads a cage into the lent tables, or refuses it and leaves them.
+#![tactic(auto)]
+
 ghost use Rattle.std.specs.Prelude.{◌≡◌};
 ghost use Rattle.rules.specs.Cage.{cage_of};
 ghost use Rattle.rules.specs.Calls.{load_refusal, load_call};

@@ -1,4 +1,6 @@
 // CRC-32, byte by byte by a table.
+#![tactic(auto)]
+
 ghost use Rattle.std.specs.Prelude.{◌≡◌};
 ghost use Rattle.crc.specs.Crc.{crc_from, crc32};
 ghost use Rattle.crc.specs.Table.{ByteTable};

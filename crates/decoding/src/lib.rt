@@ -1,4 +1,6 @@
 // The bytes of a cage: their corners decoded, and the tests that need no links.
+#![tactic(auto)]
+
 ghost use Rattle.std.specs.Prelude.{◌≡◌, List, ℕ, ◌+◌, ◌*◌, ◌<◌, ◌≤◌, length};
 ghost use Rattle.rules.specs.Below.{all, fill};
 ghost use Rattle.rules.specs.Cage.{sizes_fit, corners_fit};

@@ -1,5 +1,7 @@
 // The children that a whole step puts in the place of the old triangles, one for each old side, and the new vertices.
 // A child depends on its own old triangle alone, so that one pass writes them all in place.
+#![tactic(auto)]
+
 ghost use Rattle.std.specs.Prelude.{true, false, List, ◌≡◌, ℕ, ◌+◌, ◌*◌, ◌/◌, ◌≤◌, ◌<◌, ℤ, length, get_or};
 ghost use Rattle.points.specs.Axes.{each_axis};
 ghost use Rattle.theory.proofs.Calls.Carried.{StepFound};

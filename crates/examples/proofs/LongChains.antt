@@ -90,7 +90,7 @@ pub record ChainTable : Type 0 where
       ∷ []
   pub ten : last_refined (10, 10, 18) ≡ 0 ∷ 9 ∷ 9 ∷ 22 ∷ 28 ∷ []
   -- One slot less is too few.
-  pub tooFew :
+  pub too_few :
       map last_refined ((1, 1, 2) ∷ (1, 2, 1) ∷ (2, 1, 2) ∷ (2, 2, 1) ∷ (10, 9, 18) ∷ (10, 10, 17) ∷ [])
       ≡ (11 ∷ 0 ∷ 0 ∷ 3 ∷ 1 ∷ [])
       ∷ (11 ∷ 0 ∷ 0 ∷ 3 ∷ 1 ∷ [])
@@ -102,7 +102,7 @@ pub record ChainTable : Type 0 where
 
 pub chains : ChainTable
 unfolding computing chain_of last_refined
-chains = record { enough = refl; ten = refl; tooFew = refl }
+chains = record { enough = refl; ten = refl; too_few = refl }
 
 -- ---- runs that raise a triangle (request k)
 

@@ -340,7 +340,7 @@ pub record Table : Type 0 where
   pub least : refusal_after [] (changes (loads 1 (with_first (0 ∷ 0 ∷ 0 ∷ 255 ∷ [])))) store ≡ 0
   pub below_least : refusal_after [] (changes (loads 1 (with_first (255 ∷ 255 ∷ 255 ∷ 254 ∷ [])))) store ≡ 4
   -- The cage that demand 3 speaks of is that of the last accepted load.
-  pub lastAccepted :
+  pub last_accepted :
       last_load (map changes (loads 1 triangle ∷ loads 1 tetrahedron ∷ loads 1 [] ∷ steps ∷ [])) store nothing
       ≡ cage tetrahedron
   -- The nearest third, on both sides of zero.
@@ -355,7 +355,7 @@ pub record Table : Type 0 where
   pub two_lists : map line_of (made_each (listed (0 ∷ []) ++ (refines_each (0 ∷ []) (sevens 12 20) ∷ [])) store)
       ≡ (0 ∷ 0 ∷ 0 ∷ 4 ∷ 4 ∷ []) ∷ (0 ∷ 1 ∷ 0 ∷ 5 ∷ 6 ∷ []) ∷ (0 ∷ 1 ∷ 1 ∷ 6 ∷ 8 ∷ []) ∷ []
   -- A triangle that another entry has raised is passed over: the refine of slot 0, which is odd, splits slot 1.
-  pub raisedByOther :
+  pub raised_by_other :
       let calls = loads 1 tetrahedron ∷ refines 0 ∷ refines_each (0 ∷ 1 ∷ []) (sevens 12 20) ∷ [] in
       map line_of (drop 2 (made_each calls store)) ≡ (0 ∷ 1 ∷ 1 ∷ 6 ∷ 8 ∷ []) ∷ []
   -- A slot that an earlier entry made was not in use at the start: the mesh stands, the spare tables hold the mesh
@@ -402,7 +402,7 @@ pub record Table : Type 0 where
       ≡ 0 ∷ 0 ∷ 0 ∷ 0 ∷ replicate 16 7
   pub load_unlocks_locked : (made (loads 1 tetrahedron ∷ sets_lock true 3 ∷ loads 1 tetrahedron ∷ []) store).locks
       ≡ replicate 20 0
-  pub splitUnlocks :
+  pub split_unlocks :
       (made (loads 1 tetrahedron ∷ sets_lock true 3 ∷ refines 0 ∷ []) (with_locks (replicate 20 7) store)).locks
       ≡ 0 ∷ 0 ∷ 0 ∷ 1 ∷ 0 ∷ 0 ∷ replicate 14 7
   -- What is past the counts is no lock.
@@ -485,7 +485,7 @@ pub record Table : Type 0 where
       (outcome (changes (reports (each (0 ∷ 0 ∷ 1 ∷ []) (sevens 12 20)) (replicate 9 77))) solid
       ∷ outcome (asks (preview_reported (0 ∷ 0 ∷ 1 ∷ []) (sevens 12 20) (replicate 9 77))) solid ∷ []) ≡
       replicate 2 (8 ∷ 0 ∷ 4 ∷ 5 ∷ 1 ∷ 6 ∷ 7 ∷ 7 ∷ 0 ∷ 77 ∷ [])
-  pub boxReported :
+  pub box_reported :
       (outcome (changes (reports (in_box (everywhere 1) (sevens 12 20)) (replicate 24 77))) solid).room.report ≡
       0 ∷ 4 ∷ 5 ∷ 1 ∷ 6 ∷ 7 ∷ 7 ∷ 0 ∷ 2 ∷ 8 ∷ 9 ∷ 2 ∷ 6 ∷ 9 ∷ 4 ∷ 3 ∷ 10 ∷ 11 ∷ 3 ∷ 8 ∷ 10 ∷ 1 ∷ 11 ∷ 5 ∷ []
   -- The rim runs as the sides of its triangles do, and of the three points of a vertex the first is towards the vertex
@@ -554,13 +554,13 @@ readings = record {
   greatest = refl;
   least = refl;
   below_least = refl;
-  lastAccepted = refl;
+  last_accepted = refl;
   thirds = refl;
   halves = refl;
   halves_away = refl;
   listed_twice = refl;
   two_lists = refl;
-  raisedByOther = refl;
+  raised_by_other = refl;
   made_by_earlier = refl;
   held_in_spares = refl;
   empty_list = refl;
@@ -579,7 +579,7 @@ readings = record {
   load_leaves_past = refl;
   load_unlocks = refl;
   load_unlocks_locked = refl;
-  splitUnlocks = refl;
+  split_unlocks = refl;
   past_is_no_lock = refl;
   spares_locked = refl;
   link_follows = refl;
@@ -604,7 +604,7 @@ readings = record {
   run_reported = refl;
   rim_reported = refl;
   list_reported = refl;
-  boxReported = refl;
+  box_reported = refl;
   curve_alone = refl;
   curve_begun_at = refl;
   curve_mirrored = refl;

@@ -1,1 +1,2 @@
 // Examples computed from the rules are in proofs/: no code runs here.
+#![tactic(auto)]

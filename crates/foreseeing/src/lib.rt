@@ -1,4 +1,6 @@
 // What a list would make of a mesh, foreseen: the list is worked out in spare tables, and the mesh only read.
+#![tactic(auto)]
+
 ghost use Rattle.std.specs.Prelude.{◌≡◌};
 ghost use Rattle.rules.specs.Calls.{with_report};
 ghost use Rattle.rules.specs.Lists.{refine_each};

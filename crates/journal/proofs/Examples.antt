@@ -51,13 +51,13 @@ unfolding crc32 crc_from crc_byte crc_bit four_bytes record_of bytes_of
 list_written = refl
 
 -- A box from (-1, -2, 0) to (1, 2, 3), below generation 4.
-box-written :
+box_written :
     encode (refined_in_box (record { low = (negsuc 0, negsuc 1, pos 0); high = (pos 1, pos 2, pos 3); below = 4 }))
     ≡
     28 ∷ 0 ∷ 0 ∷ 0 ∷ 5 ∷ 0 ∷ 0 ∷ 0 ∷ 63 ∷ 11 ∷ 232 ∷ 121 ∷ 255 ∷ 255 ∷ 255 ∷ 255 ∷ 254 ∷ 255 ∷ 255 ∷ 255 ∷ 0 ∷
     0 ∷ 0 ∷ 0 ∷ 1 ∷ 0 ∷ 0 ∷ 0 ∷ 2 ∷ 0 ∷ 0 ∷ 0 ∷ 3 ∷ 0 ∷ 0 ∷ 0 ∷ 4 ∷ 0 ∷ 0 ∷ 0 ∷ 189 ∷ 48 ∷ 90 ∷ 97 ∷ []
 unfolding crc32 crc_from crc_byte crc_bit four_bytes record_of bytes_of
-box-written = refl
+box_written = refl
 
 -- A load by rule 2 of the bytes 1 2 3.
 load_written : encode (loaded 2 (1 ∷ 2 ∷ 3 ∷ []))

@@ -1,4 +1,6 @@
 // The refusal of a cage whose sizes fit, in working room that is lent; where there is none, its sides are written.
+#![tactic(auto)]
+
 ghost use Rattle.std.specs.Prelude.{◌≡◌};
 ghost use Rattle.rules.specs.Cage.{cage_of};
 ghost use Rattle.judging.specs.Answers.{Refuses, SideRoom, SidesLeft};

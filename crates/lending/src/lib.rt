@@ -1,4 +1,6 @@
 // What a call that works in spare tables is refused with before the work.
+#![tactic(auto)]
+
 ghost use Rattle.std.specs.Prelude.{◌≡◌};
 ghost use Rattle.tables.specs.Lent.{mesh_now, spares_now};
 ghost use Rattle.tables.specs.Standing.{standing};

@@ -1,4 +1,6 @@
 // Limit positions on sound tables: what is refused, and the work.
+#![tactic(auto)]
+
 ghost use Rattle.std.specs.Prelude.{List, ◌≡◌, ℕ, ◌*◌, ◌≤◌, ℤ, length};
 ghost use Rattle.rules.specs.Calls.{limit_refusal, limit_call};
 ghost use Rattle.rules.specs.Sound.{Sound};

@@ -1,4 +1,6 @@
 // A list of triangles refined one after the other, in spare tables.
+#![tactic(auto)]
+
 ghost use Rattle.std.specs.Prelude.{◌≡◌};
 ghost use Rattle.theory.proofs.Lists.InSpares.{entry_outcome};
 ghost use Rattle.rules.specs.Calls.{with_report};

@@ -1,4 +1,6 @@
 // The change of one record, made again on a mesh whose first refusal is known.
+#![tactic(auto)]
+
 ghost use Rattle.std.specs.Prelude.{true, List, ◌≢◌, ◌≡◌, ℕ, ◌+◌, ◌*◌, ◌/◌, ◌≤◌, length, take};
 ghost use Rattle.rules.specs.Boxes.{box_call};
 ghost use Rattle.rules.specs.History.{changed};

@@ -1,6 +1,8 @@
 // The public calls that change one mesh, without spare tables and reports. None asks anything of its caller, but those
 // named `known` are to be told the first refusal of the mesh. What cannot be done is refused, and then nothing lent is
 // written.
+#![tactic(auto)]
+
 ghost use Rattle.std.specs.Prelude.{true, false, ◌≡◌, ◌<◌, length, set};
 ghost use Rattle.rules.specs.Calls.{load_call, refine_call, whole_step_call, lock_call};
 ghost use Rattle.rules.specs.Notes.{noted_call, take_back_call};

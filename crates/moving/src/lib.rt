@@ -1,4 +1,6 @@
 // The test before vertices are moved by their rings, for a whole step and limit positions, and the moves of a step.
+#![tactic(auto)]
+
 ghost use Rattle.std.specs.Prelude.{not, List, ◌≡◌, ℕ, ◌*◌, ◌≤◌, eqb, length, get_or};
 ghost use Rattle.rules.specs.Below.{all};
 ghost use Rattle.rules.specs.Calls.{closed_even};

@@ -9,10 +9,10 @@ use native.Mathlib.Omega.{arith}
 use lib.ListN.{length, get_or, set, take, drop}
 use lib.Seq.{get_or-set_same, get_or-set_other, get_or-take, get_or-drop}
 use Rattle.theory.proofs.Calls.Carried.{found_young}
-use Rattle.theory.proofs.Chains.Altering.{place_altered, end-altered, met_altered, beside}
+use Rattle.theory.proofs.Chains.Altering.{place_altered, end_altered, met_altered, beside}
 use Rattle.theory.proofs.Chains.Chain.{path_odd, path_meets, path_next}
 use Rattle.theory.proofs.Chains.Listed.{Changes, on_chain, beside_chain, is_end, beside_end, beside_met, changes_exactly}
-use Rattle.theory.proofs.Chains.Refine.{chain-path, chain_bound}
+use Rattle.theory.proofs.Chains.Refine.{chain_path, chain_bound}
 use Rattle.theory.proofs.Chains.Remembered.{path_none, path_from, path_last}
 use Rattle.theory.proofs.Links.Manifold.{Manifold, Partnered, Base, partnered}
 use Rattle.theory.proofs.Numbers.Decide.{when_true, when_false}
@@ -213,9 +213,9 @@ module _ {t : ℕ} {m : Mesh} (S : Sound m) (u : t < m.topology.triangles) where
   changes_used (on_chain i l e) = omega (arith, (place_altered t m S u i l).0)
   changes_used (beside_chain i l q e) =
       across_used (3 * chain_at i m.topology t + 1) (omega (arith, (place_altered t m S u i l).0)) (q, e)
-  changes_used (is_end e) = omega (arith, (end-altered t m S u).0)
+  changes_used (is_end e) = omega (arith, (end_altered t m S u).0)
   changes_used (beside_end i l q o e) =
-      across_used (3 * chain_end m.topology t + i) (omega (arith, (end-altered t m S u).0)) (q, e)
+      across_used (3 * chain_end m.topology t + i) (omega (arith, (end_altered t m S u).0)) (q, e)
   changes_used (beside_met i l B q e) =
       across_used (3 * (link m.topology (3 * chain_end m.topology t + i) / 3) + 1)
       (omega (arith, (met_altered t m S u i l B).0)) (q, e)
@@ -274,7 +274,7 @@ module _ {t : ℕ} {m : Mesh} (S : Sound m) (u : t < m.topology.triangles) where
 
       go : Dec (i < chain_odd m.topology t - rim_splits_of m.topology t) → Listed y
       go (yes q) =
-          let p = path_from i 1 (omega arith) (chain-path t m S u) in
+          let p = path_from i 1 (omega arith) (chain_path t m S u) in
           let b = (place_altered t m S u i l).0 in
           let h = link m.topology (3 * chain_at i m.topology t) in
           let e = beside (chain_at i m.topology t) (partnered (F.linked (3 * chain_at i m.topology t) (omega arith))
@@ -287,7 +287,7 @@ module _ {t : ℕ} {m : Mesh} (S : Sound m) (u : t < m.topology.triangles) where
           )))
       go (no q) =
           let z : chain_odd m.topology t - rim_splits_of m.topology t ≡ i = omega arith in
-          let e = path_last (chain-path t m S u) ∙ ap (λ (j : ℕ). chain_at j m.topology t) z in
+          let e = path_last (chain_path t m S u) ∙ ap (λ (j : ℕ). chain_at j m.topology t) z in
           near_end (subst (λ (d : ℕ). Near m.topology.links d y) (sym e) N)
 
   on_chain_lem : {y : ℕ} (i : ℕ) → i < chain_odd m.topology t
@@ -395,10 +395,10 @@ module _ {t : ℕ} {m : Mesh} {c : Chain} (G : Goes t m c) where
 
   -- The sides of what is listed have entries.
   pub end_entries : 3 * c.end + 2 < length m.topology.links
-  end_entries = omega (arith, C.end, (end-altered t m S u).0, (sound_manifold S).link_room)
+  end_entries = omega (arith, C.end, (end_altered t m S u).0, (sound_manifold S).link_room)
 
   pub end_slot : c.end < boundary
-  end_slot = omega (arith, C.end, (end-altered t m S u).0, S.triangle_room, S.tables.few_triangles)
+  end_slot = omega (arith, C.end, (end_altered t m S u).0, S.triangle_room, S.tables.few_triangles)
 
   pub met_entries : (i : ℕ) → i < 3 → Met m.topology.links m.topology.generations (3 * c.end + i)
   met_entries i b = record {

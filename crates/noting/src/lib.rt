@@ -1,4 +1,6 @@
 // The refine with a note of the old slots that it changes, and of what they hold.
+#![tactic(auto)]
+
 mod changed;
 mod rising;
 

@@ -1,5 +1,7 @@
 // Links of decoded corners: each side is matched with the opposite one, in time linear in the triangles. The fans that
 // they make are tested in `fans`.
+#![tactic(auto)]
+
 ghost use Rattle.std.specs.Prelude.{◌≡◌, ◌*◌, ◌<◌, ◌≤◌, length, get_or};
 ghost use Rattle.decoding.specs.Decoded.{decoded, Readable};
 ghost use Rattle.rings.specs.Walks.{Zeroed};

@@ -1,4 +1,6 @@
 // Points with whole coordinates, the rules that make new coordinates, and numbers of four bytes.
+#![tactic(auto)]
+
 ghost use Rattle.std.specs.Prelude.{◌≡◌, ◌+◌, ◌*◌, ◌≤◌, ◌<◌, ◌&&◌, ◌||◌, eqb, ltb, pos, ◌+ℤ◌, ◌-ℤ◌, ◌*ℤ◌, length};
 ghost use Rattle.theory.proofs.Numbers.Rounding.{mean};
 ghost use Rattle.rules.specs.Boxes.{between, box_fits};

@@ -1,5 +1,7 @@
 // The calls under the names by which C and Rust link them (include/rawplinth.h). A slice is a pointer and a length.
 // Those that change one mesh are here.
+#![tactic(auto)]
+
 mod journals;
 mod lists;
 mod reads;

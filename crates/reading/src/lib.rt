@@ -1,4 +1,6 @@
 // The calls that read a mesh: limit positions, a ring, a position.
+#![tactic(auto)]
+
 ghost use Rattle.std.specs.Prelude.{◌≡◌};
 ghost use Rattle.rules.specs.Calls.{limit_call, ring_call, position_call};
 ghost use Rattle.tables.specs.Lent.{mesh_now};

@@ -7,9 +7,9 @@ use native.Mathlib.Decide.{dec_lt}
 use native.Mathlib.Numerals.{add-one}
 use native.Mathlib.Omega.{arith}
 use lib.ListN.{length, get_or, get_or-eq_default}
-use Rattle.theory.proofs.Chains.Altering.{place_altered, end-altered}
+use Rattle.theory.proofs.Chains.Altering.{place_altered, end_altered}
 use Rattle.theory.proofs.Chains.Chain.{path_use}
-use Rattle.theory.proofs.Chains.Refine.{chain-path, chain_bound}
+use Rattle.theory.proofs.Chains.Refine.{chain_path, chain_bound}
 use Rattle.theory.proofs.Numbers.Decide.{any_none, any_more}
 use Rattle.theory.proofs.Soundness.Relaxed.{sound_manifold, sound_bases}
 use Rattle.rules.specs.Below.{any}
@@ -27,7 +27,7 @@ module _ {t : ℕ} {m : Mesh} (S : Sound m) (l : t < m.topology.triangles) where
   -- The end of a base chain is in use.
   end_used : 3 * chain_end m.topology t + 2 < length m.topology.links
   end_used =
-      let u = path_use (sound_manifold S) (sound_bases S) l (chain-path t m S l) in
+      let u = path_use (sound_manifold S) (sound_bases S) l (chain_path t m S l) in
       omega (arith, S.tables.links, S.triangle_room)
 
   -- A base chain has few odd triangles.
@@ -41,7 +41,7 @@ module _ {t : ℕ} {m : Mesh} (S : Sound m) (l : t < m.topology.triangles) where
         few = omega (arith, C.odd, few_odd);
         end = rw C.end end_used;
         places = λ i b. omega (arith, C.slots i b, (place_altered t m S l i (omega (arith, C.odd))).0, S.triangle_room, L);
-        end_lock = omega (arith, C.end, (end-altered t m S l).0, S.triangle_room, L);
+        end_lock = omega (arith, C.end, (end_altered t m S l).0, S.triangle_room, L);
         room = omega (arith, L);
       }
 
@@ -63,10 +63,10 @@ any_same (suc n) p q e =
 
 -- By the answers of the tests. A test that was not made stands for itself.
 module _ (t : ℕ) (m : Mesh) {c : Chain} (C : BaseChain m.topology t c) where
-  slots-locked :
+  slots_locked :
       any c.odd (λ i. locked m (get_or c.slots i 0))
       ≡ any (chain_odd m.topology t) (λ i. locked m (chain_at i m.topology t))
-  slots-locked =
+  slots_locked =
       any_same _ _ _ (λ i b. ap (locked m) (C.slots i b))
       ∙ ap (λ (n : ℕ). any n (λ i. locked m (chain_at i m.topology t))) C.odd
 
@@ -75,4 +75,4 @@ module _ (t : ℕ) (m : Mesh) {c : Chain} (C : BaseChain m.topology t c) where
       → any 3 (λ i. let h = link m.topology (3 * c.end + i) in is_base m.topology h && locked m (h / 3)) ≡ d
       → (a || b || d) ≡ alters_locked t m
   unfolding alters_locked
-  alters_by_tests a b d = rw (← a, ← b, ← d, slots-locked, C.end, alters_locked)
+  alters_by_tests a b d = rw (← a, ← b, ← d, slots_locked, C.end, alters_locked)

@@ -1,4 +1,6 @@
 // Refines of one triangle of a mesh whose first refusal is known, and what work in spare tables shares.
+#![tactic(auto)]
+
 mod locked;
 pub mod spares;
 

@@ -1,4 +1,6 @@
 // The records of a journal, made again one after the other.
+#![tactic(auto)]
+
 ghost use Rattle.std.specs.Prelude.{◌≡◌, length};
 ghost use Rattle.tables.specs.Lent.{mesh_now, spares_now};
 ghost use Rattle.tables.specs.Standing.{standing};

@@ -9,7 +9,7 @@ use native.Mathlib.Omega.{arith}
 use lib.Dec.{leb}
 use lib.ListN.{length, get_or, set, length-append, length-set, get_or-append}
 use Rattle.theory.proofs.Calls.Carried.{RefineFound, found_refined}
-use Rattle.theory.proofs.Chains.Flipping.{refine-report-length, refine_flips}
+use Rattle.theory.proofs.Chains.Flipping.{refine_report_length, refine_flips}
 use Rattle.theory.proofs.Chains.RefineLoop.{few_splits}
 use Rattle.theory.proofs.Numbers.Fill.{fill_more, fill_same}
 use Rattle.theory.proofs.Splits.After.{is_flipped, is_second_flipped, flip_after, split_after}
@@ -125,7 +125,7 @@ pub length_steps : {t : ℕ} {m : Mesh} {chain : Chain} {own second third splits
     → third ≡ length (pair_at m.topology 0 (h + 2)) → splits ≡ max 1 (chain.odd - chain.rim)
     → 5 * splits - 2 + own + second + third ≡ length (refine t (at_first m)).report
 length_steps {t} {m} {chain} R C p q r s =
-    rw (p, q, r, s, splits_are C, C.end) (after_first _ _ _ _ _ (some_split m.topology t) (refine-report-length R))
+    rw (p, q, r, s, splits_are C, C.end) (after_first _ _ _ _ _ (some_split m.topology t) (refine_report_length R))
   where
     some_split : (m : Topology) (t : ℕ) → 1 ≤ splits_of m t
     some_split m t = omega arith

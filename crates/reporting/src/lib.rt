@@ -1,4 +1,6 @@
 // The refinement of one triangle along its base chain, with a report of the slots that it writes.
+#![tactic(auto)]
+
 ghost use Rattle.std.specs.Prelude.{true, List, [], ◌∷◌, ◌≡◌, ℕ, ◌+◌, ◌-◌, ◌*◌, ◌/◌, ◌≤◌, ◌<◌, leb, ℤ, length, get_or};
 ghost use Rattle.theory.proofs.Calls.Carried.{RefineFound};
 ghost use Rattle.theory.proofs.Splits.After.{is_flipped, is_second_flipped, flip_after, split_after};

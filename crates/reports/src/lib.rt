@@ -1,5 +1,7 @@
 // The public calls that refine a triangle or a list and report the slots that they write. None asks anything of its
 // caller, and a refusal leaves the mesh, the note and the report.
+#![tactic(auto)]
+
 ghost use Rattle.std.specs.Prelude.{◌≡◌};
 ghost use Rattle.rules.specs.Calls.{with_report};
 ghost use Rattle.rules.specs.Reports.{one, with_note, each, reported_call};

@@ -1,4 +1,6 @@
 // The rim from one of its vertices on, and its curve: three points for each vertex.
+#![tactic(auto)]
+
 ghost use Rattle.std.specs.Prelude.{List, ◌≡◌, ℕ, ◌+◌, ◌*◌, ◌≤◌, ◌<◌, length, get_or};
 ghost use Rattle.rules.specs.Below.{fill};
 ghost use Rattle.rules.specs.Rim.{rim, curve_at, curve_call};

@@ -1,4 +1,6 @@
 // Working room for a load, by the size of its cage: what is cleared grows with it.
+#![tactic(auto)]
+
 ghost use Rattle.std.specs.Prelude.{true, ◌≡◌};
 ghost use Rattle.rules.specs.Cage.{cage_of};
 ghost use Rattle.judging.specs.Answers.{Refuses, SideRoom, SidesLeft};

@@ -1,5 +1,7 @@
 // The one pass over the triangles: their generations, corners and links, and the starts of the fans.
 // A start is kept as one more than a side, and 0 is none.
+#![tactic(auto)]
+
 ghost use Rattle.std.specs.Prelude.{true, List, ◌≢◌, ◌≡◌, ℕ, ◌+◌, ◌*◌, ◌≤◌, ◌<◌, length, get_or};
 ghost use Rattle.rules.specs.Below.{all};
 ghost use Rattle.rules.specs.Sound.{role_of, five_kinds};

@@ -1,5 +1,7 @@
 // The test of soundness, equal to that of the rules on every content of the tables, in linear time, and the refusals
 // that calls begin with.
+#![tactic(auto)]
+
 ghost use Rattle.std.specs.Prelude.{◌≡◌, List, ℕ, ◌≤◌, leb, pos, length, get_or};
 ghost use Rattle.rules.specs.Below.{all};
 ghost use Rattle.rules.specs.Numbers.{in_range};

@@ -1,4 +1,6 @@
 // Face split, rim split, flip and the base chain, on the lent tables.
+#![tactic(auto)]
+
 mod shapes;
 
 ghost use Rattle.std.specs.Prelude.{List, [], ◌∷◌, ◌≡◌, ℕ, ◌+◌, ◌-◌, ◌*◌, ◌/◌, ◌%◌, ◌≤◌, ◌<◌, max, ℤ, length, get_or};

@@ -1,4 +1,6 @@
 // The whole step on sound tables: what it refuses, and its work.
+#![tactic(auto)]
+
 ghost use Rattle.std.specs.Prelude.{List, ◌≡◌, ℕ, ◌≤◌, ℤ, length};
 ghost use Rattle.theory.proofs.Calls.Carried.{StepFound};
 ghost use Rattle.theory.proofs.Steps.Closed.{closed_step};

@@ -1,4 +1,6 @@
 // The lent tables: triangles and points read from their slots and stored in them.
+#![tactic(auto)]
+
 ghost use Rattle.std.specs.Prelude.{List, ◌≡◌, ℕ, ◌+◌, ◌*◌, ◌/◌, ◌≤◌, ◌<◌, length, get_or};
 ghost use Rattle.rules.specs.Calls.{room_for};
 ghost use Rattle.rules.specs.Split.{new_unlocked};

@@ -1,1 +1,2 @@
 // The theory of the rules is in proofs/: no code runs here.
+#![tactic(auto)]

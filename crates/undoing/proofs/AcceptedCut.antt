@@ -25,7 +25,7 @@ use Rattle.restoring.specs.Fitting.{note_fits, NoteFits}
 use Rattle.undoing.specs.Trying.{cut, refines_to, accepted_cut}
 use Rattle.restoring.proofs.NoteTests.{note_fits_is, accepted_fits}
 use Rattle.undoing.proofs.Shorter.{Fits, FitsRefined, cut_sound, whole_sound, cut_refusal_same, cut_carried_out}
-use Rattle.undoing.proofs.Shorter.{cut-refine}
+use Rattle.undoing.proofs.Shorter.{cut_refine}
 
 -- ---- what restoring keeps
 
@@ -132,7 +132,7 @@ module _ (note : List ℕ) (m : Mesh) where
         → FitsRefined m.topology.vertices m.topology.triangles (noted_triangle note) (restored note m)
         → same_in_use m (refined (noted_triangle note) here) ≡ same_in_use m (refined (noted_triangle note) (restored note m))
     compared_here z F =
-        ap (λ (w : Work). same_in_use m w.mesh) (cut-refine W (refine_found _ _ z) F)
+        ap (λ (w : Work). same_in_use m w.mesh) (cut_refine W (refine_found _ _ z) F)
         ∙ same_in_use_cut m (refined (noted_triangle note) (restored note m))
 
     leads_here : Leads (restored note m) → Leads here

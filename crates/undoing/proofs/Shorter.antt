@@ -209,10 +209,10 @@ module _ {v f t : ℕ} {m : Mesh} (W : Fits v f m) (R : RefineFound t m) (F : Fi
         triangles = omega (arith, X.triangles, F.triangles);
       }
 
-  pub cut-refine :
+  pub cut_refine :
       let w = refine t (at_first m) in
       refine t (at_first (cut v f m)) ≡ with_mesh (cut v f w.mesh) w
-  cut-refine =
+  cut_refine =
       let w : Work = refine t (at_first m) in
       ap (λ (n : Mesh). refine t (at_first n)) (sym (cut_is W))
       ∙ held_refine (cut_holds W) R (cut_room W t F)

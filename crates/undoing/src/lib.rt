@@ -1,5 +1,7 @@
 // The refine taken back by its note, on a mesh whose first refusal is known. The note is tried on a copy of the mesh
 // before the mesh is written.
+#![tactic(auto)]
+
 ghost use Rattle.std.specs.Prelude.{◌≡◌};
 ghost use Rattle.tables.specs.Answers.{worked_outcome};
 ghost use Rattle.tables.specs.Lent.{mesh_now};

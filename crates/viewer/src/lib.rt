@@ -1,4 +1,6 @@
 // What a viewer is given: coordinates in millimetres, as f32, of one vertex or of all triangles. The mesh is only read.
+#![tactic(auto)]
+
 ghost use Rattle.std.specs.Prelude.{◌≡◌, ◌+◌, ◌*◌, ◌≤◌, ◌<◌, length};
 ghost use Rattle.rules.specs.Below.{fill};
 ghost use Rattle.rules.specs.Calls.{position_call, view_call, view_refusal};

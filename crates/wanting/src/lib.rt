@@ -1,5 +1,7 @@
 // Triangles with a corner in a box, refined one after the other. The wanted ones are marked, and after each refine the
 // marks are put right for the slots that it wrote.
+#![tactic(auto)]
+
 ghost use Rattle.std.specs.Prelude.{false, ◌||◌, List, ◌≡◌, ℕ, ◌+◌, ◌*◌, ◌/◌, ◌≤◌, ◌<◌, length, get_or};
 ghost use Rattle.marks.specs.Marks.{marked};
 ghost use Rattle.points.specs.Axes.{in_box, box_of};

@@ -186,11 +186,11 @@ module _ (b : Box) (spares : Spares) (m : Mesh) where
         )
 
     -- The spare tables hold what the turns made, which is sound.
-    pub box-in-spares :
+    pub box_in_spares :
         ((box_call b spares m).room ≡ spare_room (copied made.work.mesh spares))
         × Sound (mesh_in (copied made.work.mesh spares) made.work.mesh)
     unfolding box_call
-    box-in-spares =
+    box_in_spares =
         let G = (box_run b m S).going in (
           work_held _ made spares m (box_passes b spares m L F S),
           over_sound (going_sizes L G) G.sound,

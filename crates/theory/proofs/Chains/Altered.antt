@@ -1,7 +1,7 @@
 -- A refine writes anew exactly the slots that are known before the work.
 use mathlib.Core.Path.{◌≡◌, refl, sym, ap, ◌∙◌, subst}
 use mathlib.Core.Logic.{◌≢◌, ◌⊎◌, inl, inr}
-use Prim.Native.Nat.{ℕ, zero, suc, ◌+◌, ◌-◌, ◌*◌, ◌/◌, ◌≤◌, ◌<◌}
+use Prim.Native.Nat.{ℕ, zero, suc, ◌+◌, ◌*◌, ◌/◌, ◌≤◌, ◌<◌}
 use native.Mathlib.Omega.{arith}
 use native.Mathlib.Decide.{ℕ_discrete}
 use Rattle.theory.proofs.Calls.Carried.{RefineFound}
@@ -123,13 +123,13 @@ still_in_use A l = omega (arith, (ahead_splitting A).result.triangles)
 
 module _ {k g t : ℕ} {w : Work} (A : Ahead (suc (suc k)) g t w) where
   -- The last place of the chain that the next split leaves then meets a triangle that is written anew.
-  pub last-met :
+  pub last_met :
       let m = reached w in
       let n = after_next t w in
       let y = chain_at k m t in
       (y < m.triangles) × (generation n y ≡ generation m y) × (link n (3 * y) ≢ boundary)
       × Written m n (link n (3 * y) / 3)
-  last-met =
+  last_met =
       let E = ahead_end A in
       let l = path_within k 2 A.manifold A.bases_meet A.in_use (omega arith) (path_of_two A) in
       let (e, q, o) =
@@ -142,7 +142,7 @@ module _ {k g t : ℕ} {w : Work} (A : Ahead (suc (suc k)) g t w) where
       → link (after_next t w) h ≢ boundary → link (after_next t w) h / 3 ≡ chain_end (after_next t w) t
       → h ≡ 3 * chain_at k (reached w) t
   last_alone h l e q i =
-      let (u, f, r, o) = last-met in
+      let (u, f, r, o) = last_met in
       let z : 3 * chain_at k (reached w) t / 3 ≡ chain_at k (reached w) t = omega arith in
       only_one (ahead_splitting A).result A.manifold (ahead_end A).fit h (3 * chain_at k (reached w) t) l
       (omega arith) e (rw z f) q r (i ∙ (ahead_across A).next) o
@@ -160,7 +160,7 @@ module _ {k g t : ℕ} {w : Work} (A : Ahead (suc (suc k)) g t w) (x : ℕ) (l :
       n = after_next t w
 
       go : AltersFrom n (chain_end n t) (suc k) t x → Alters m t x
-      go (at_end e) = absurd (left_not m n l left (last-met A).3 (e ∙ (ahead_across A).next))
+      go (at_end e) = absurd (left_not m n l left (last_met A).3 (e ∙ (ahead_across A).next))
       go (meets_end o q e) =
           let z : 3 * x / 3 ≡ x = omega arith in
           let y : 3 * x ≡ 3 * chain_at k m t = last_alone A (3 * x) (omega arith) (rw z left) q e in

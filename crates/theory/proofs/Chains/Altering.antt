@@ -6,7 +6,7 @@ use Prim.Native.Nat.{ℕ, zero, suc, ◌+◌, ◌-◌, ◌*◌, ◌/◌, ◌%◌
 use native.Mathlib.Decide.{dec_lt}
 use native.Mathlib.Omega.{arith}
 use Rattle.theory.proofs.Chains.Chain.{Path, ends, across, path_fit, path_use}
-use Rattle.theory.proofs.Chains.Refine.{chain-path}
+use Rattle.theory.proofs.Chains.Refine.{chain_path}
 use Rattle.theory.proofs.Chains.Remembered.{path_last, path_within}
 use Rattle.theory.proofs.Chains.Runs.{not_splittable}
 use Rattle.theory.proofs.Links.Manifold.{Partnered, Base, partnered}
@@ -83,7 +83,7 @@ beside {m} {v} x M e =
 
 pub alters_known : {m : Mesh} {t x : ℕ} → Sound m → t < m.topology.triangles → x < m.topology.triangles
     → Alters m.topology t x → AlteredAt m.topology t x
-alters_known {m} {t} {x} S b l a = go (alters_from (chain-path t m S b) a)
+alters_known {m} {t} {x} S b l a = go (alters_from (chain_path t m S b) a)
   where
     go : AltersFrom m.topology (chain_end m.topology t)
         (chain_odd m.topology t - generation m.topology (chain_end m.topology t) % 2) t x
@@ -98,12 +98,12 @@ alters_known {m} {t} {x} S b l a = go (alters_from (chain-path t m S b) a)
 module _ (t : ℕ) (m : Mesh) (S : Sound m) (b : t < m.topology.triangles) where
   way : Path m.topology t (chain_end m.topology t)
       (chain_odd m.topology t - generation m.topology (chain_end m.topology t) % 2)
-  way = chain-path t m S b
+  way = chain_path t m S b
 
-  pub end-altered :
+  pub end_altered :
       let v = chain_end m.topology t in
       (v < m.topology.triangles) × Alters m.topology t v
-  end-altered =
+  end_altered =
       (path_use (sound_manifold S) (sound_bases S) b way, from_end way (split_first (path_fit way) refl))
 
   pub place_altered : (i : ℕ) → i < chain_odd m.topology t →
@@ -124,7 +124,7 @@ module _ (t : ℕ) (m : Mesh) (S : Sound m) (b : t < m.topology.triangles) where
           let z : i ≡ k = omega arith in
           let y : chain_end m.topology t ≡ chain_at i m.topology t =
           path_last way ∙ ap (λ (j : ℕ). chain_at j m.topology t) (sym z) in
-          subst (λ (x : ℕ). (x < m.topology.triangles) × Alters m.topology t x) y end-altered
+          subst (λ (x : ℕ). (x < m.topology.triangles) × Alters m.topology t x) y end_altered
 
   pub met_altered : (i : ℕ) → i < 3 → Base m.topology (link m.topology (3 * chain_end m.topology t + i)) →
       let x = link m.topology (3 * chain_end m.topology t + i) / 3 in
@@ -132,7 +132,7 @@ module _ (t : ℕ) (m : Mesh) (S : Sound m) (b : t < m.topology.triangles) where
   met_altered i l o =
       let F = sound_manifold S in
       let v : ℕ = chain_end m.topology t in
-      let u = end-altered.0 in
+      let u = end_altered.0 in
       let h : ℕ = link m.topology (3 * v + i) in
       let M : Partnered m.topology (3 * v + i) = partnered_base F (omega arith) o in
       let c : 3 * (h / 3) ≡ h = omega (arith, o.0) in
@@ -200,14 +200,14 @@ module _ (t : ℕ) (m : Mesh) (S : Sound m) (b : t < m.topology.triangles) where
   altered_there (inl (inl (i, l, d))) =
       let (u, a) = place_altered t m S b i l in
       (chain_at i tri t, (u, d), a)
-  altered_there (inl (inr d)) = let (u, a) = end-altered t m S b in (e, (u, d), a)
+  altered_there (inl (inr d)) = let (u, a) = end_altered t m S b in (e, (u, d), a)
   altered_there (inr (i, l, (o, d))) =
       let (u, a) = met_altered t m S b i l o in
       (link tri (3 * e + i) / 3, (u, d), a)
 
   looked_at : AltersLocked t m → Looked
   unfolding Looked tri e k
-  looked_at (x, (l, d), a) = go (alters_from (chain-path t m S b) a)
+  looked_at (x, (l, d), a) = go (alters_from (chain_path t m S b) a)
     where
       go : AltersFrom tri e k t x → Looked
       go (at_end q) = inl (inr (ap (lock m) (sym q) ∙ d))

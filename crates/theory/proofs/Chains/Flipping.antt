@@ -7,7 +7,7 @@ use Prim.Native.Nat.{ℕ, zero, suc, ◌+◌, ◌*◌, ◌/◌, ◌%◌, ◌≤�
 use native.Mathlib.Omega.{arith}
 use lib.ListN.{length, length-append}
 use Rattle.theory.proofs.Calls.Carried.{RefineFound, found_refined}
-use Rattle.theory.proofs.Chains.Altered.{after_next, last-met, last_alone, left_not}
+use Rattle.theory.proofs.Chains.Altered.{after_next, last_met, last_alone, left_not}
 use Rattle.theory.proofs.Chains.Chain.{falls, path_odd}
 use Rattle.theory.proofs.Chains.Remembered.{path_from}
 use Rattle.theory.proofs.Chains.RefineLoop.{split_ends, Ahead, ahead_end, ahead_splitting, ahead_report, ahead_on}
@@ -49,7 +49,7 @@ module _ {k g t : ℕ} {w : Work} (A : Ahead (suc (suc k)) g t w) where
       in_use = (ahead_end (ahead_on A)).in_use
 
       written : Written m n u
-      written = subst (Written m n) (sym (ahead_across A).next) (last-met A).3
+      written = subst (Written m n) (sym (ahead_across A).next) (last_met A).3
 
       go : Spread v (top_of m v) m n u → generation n u ≡ suc (top_of m v)
       go (inl (l, _, e)) = absurd (left_not m n l e written refl)
@@ -87,7 +87,7 @@ module _ {k g t : ℕ} {w : Work} (A : Ahead (suc (suc k)) g t w) where
   -- The base of the last place of the chain that is left meets it, and no other.
   last_base : BaseAt u n (3 * chain_at k m t)
   last_base =
-      let (l, e, q, o) = last-met A in
+      let (l, e, q, o) = last_met A in
       let y : ℕ = chain_at k m t in
       let z : 3 * y / 3 ≡ y = omega arith in
       let c : y ≢ u = λ i. left_not m n l e o (i ∙ (ahead_across A).next) in
@@ -150,10 +150,10 @@ told_length v m (on_boundary o q) F =
 
 module _ {t : ℕ} {m : Mesh} (R : RefineFound t m) where
   -- A refine flips once for each split after the first, and what the first flips.
-  pub refine-flips-are :
+  pub refine_flips_are :
       (refine t (at_first m)).flips + 1
       ≡ (split_at (chain_end m.topology t) (at_first m)).flips + splits_of m.topology t
-  refine-flips-are = rw (refine_is_split_ends R) (go (splits_of m.topology t) (omega arith) (ahead R))
+  refine_flips_are = rw (refine_is_split_ends R) (go (splits_of m.topology t) (omega arith) (ahead R))
     where
       go : (k : ℕ) → 1 ≤ k → Ahead k (generation m.topology t) t (at_first m)
           → (split_ends k t (at_first m)).flips + 1 ≡ (split_at (chain_end m.topology t) (at_first m)).flips + k
@@ -162,7 +162,7 @@ module _ {t : ℕ} {m : Mesh} (R : RefineFound t m) where
 
   pub refine_flips : (refine t (at_first m)).flips ≤ splits_of m.topology t + 2
   refine_flips =
-      let i = refine-flips-are in
+      let i = refine_flips_are in
       go (splits_of m.topology t) (omega arith) (ahead R) (omega arith)
     where
       go : (k : ℕ) → 1 ≤ k → Ahead k (generation m.topology t) t (at_first m)
@@ -173,12 +173,12 @@ module _ {t : ℕ} {m : Mesh} (R : RefineFound t m) where
           omega (arith, split_counts (chain_end m.topology t) (at_first m) (ahead_end A).fit)
 
   -- The report of a refine has five slots for each split, of which the first may flip up to three times.
-  pub refine-report-length :
+  pub refine_report_length :
       let v = chain_end m.topology t in
       length (refine t (at_first m)).report + 2
       ≡ 5 * splits_of m.topology t + length (pair_at m.topology 0 (3 * v))
       + length (pair_at m.topology 0 (3 * v + 1)) + length (pair_at m.topology 0 (3 * v + 2))
-  refine-report-length = go (splits_of m.topology t) refl (ahead R)
+  refine_report_length = go (splits_of m.topology t) refl (ahead R)
     where
       go : (k : ℕ) → splits_of m.topology t ≡ k → Ahead k (generation m.topology t) t (at_first m)
           → let v = chain_end m.topology t in
@@ -193,7 +193,7 @@ module _ {t : ℕ} {m : Mesh} (R : RefineFound t m) where
           let G = found_refined R in
           omega (
             arith,
-            refine-flips-are,
+            refine_flips_are,
             told_length v m.topology E.fit A.manifold,
             ap length (sym S.telling.report ∙ ahead_report A),
             S.telling.size,

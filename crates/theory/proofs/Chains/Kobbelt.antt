@@ -11,7 +11,7 @@ use Rattle.theory.proofs.Numbers.Decide.{odd_test, even_test}
 use Rattle.theory.proofs.Splits.Splitting.{Room, room_fewer}
 use Rattle.theory.proofs.Links.Manifold.{Manifold, BasesMeetIn}
 use Rattle.theory.proofs.Chains.Raise.{raise_stops, raise_splits, room_rest, raise_cuts}
-use Rattle.theory.proofs.Chains.Refine.{sound_room, chain-path, chain_bound}
+use Rattle.theory.proofs.Chains.Refine.{sound_room, chain_path, chain_bound}
 use Rattle.theory.proofs.Soundness.Relaxed.{sound_manifold, sound_bases}
 use Rattle.theory.proofs.Chains.Runs.{split_even, split_odd, split_splitting}
 use Rattle.theory.proofs.Splits.Settled.{nowhere}
@@ -178,5 +178,5 @@ refine_is_kobbelt t n m S l R i =
     let K = sound_bases S in
     let short = chain_bound t m S l in
     let s : ℕ = splits_of m.topology t in
-    raise_kobbelt s (at_first m) F K (sound_room s S.tables R) n (suc g) t l (chain-path t m S l)
+    raise_kobbelt s (at_first m) F K (sound_room s S.tables R) n (suc g) t l (chain_path t m S l)
     (omega arith) (omega arith) (omega arith)

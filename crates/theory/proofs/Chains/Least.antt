@@ -10,7 +10,7 @@ use Rattle.theory.proofs.Calls.Carried.{RefineFound, found_refined, found_young}
 use Rattle.theory.proofs.Chains.Chain.{Path, ends, across, falls, path_high, path_meets, further_on_lem}
 use Rattle.theory.proofs.Chains.Chain.{Shorter, shortens}
 use Rattle.theory.proofs.Chains.Raise.{raise_cuts}
-use Rattle.theory.proofs.Chains.Refine.{sound_room, chain-path}
+use Rattle.theory.proofs.Chains.Refine.{sound_room, chain_path}
 use Rattle.theory.proofs.Chains.RefineLoop.{Ahead, ahead_end, ahead_on, path_after, Refining, refining_begins}
 use Rattle.theory.proofs.Chains.RefineLoop.{refining_ends, refining_next, refining_on}
 use Rattle.theory.proofs.Chains.Runs.{top_of, not_splittable, split_splitting}
@@ -82,7 +82,7 @@ module _ (v g p r : ℕ) (m n : Topology) (F : Manifold m) (K : BasesMeetIn nowh
 split_found : {t : ℕ} {m : Mesh} → Sound m → MaySplit t m → RefineFound t m
 split_found {t} {m} S M =
     let tri : Topology = m.topology in
-    let e = fit_ends M.splittable (chain-path t m S M.in_use) in
+    let e = fit_ends M.splittable (chain_path t m S M.in_use) in
     let q : rim_splits_of tri t ≡ generation tri t % 2 = ap (λ (v : ℕ). generation tri v % 2) e.0 in
     let one : splits_of tri t ≡ 1 = omega (arith, e.1) in
     record {
@@ -129,7 +129,7 @@ run_takes (s ∷ run) w S l a M up =
 
 pub run_least : (t : ℕ) (m : Mesh) → Sound m → t < m.topology.triangles → (run : List ℕ) → MayRun run (at_first m)
     → Risen m t (ran run (at_first m)).mesh → splits_of m.topology t ≤ length run
-run_least t m S l run = run_takes run (at_first m) S l (chain-path t m S l)
+run_least t m S l run = run_takes run (at_first m) S l (chain_path t m S l)
 
 -- ---- refine is a run
 

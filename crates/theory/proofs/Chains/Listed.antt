@@ -8,11 +8,11 @@ use native.Mathlib.Omega.{arith}
 use lib.Dec.{T}
 use lib.ListN.{length}
 use Rattle.theory.proofs.Calls.Carried.{RefineFound, found_young}
-use Rattle.theory.proofs.Chains.Altering.{AltersFrom, at_end, meets_end, at_place, alters_from, beside, end-altered}
+use Rattle.theory.proofs.Chains.Altering.{AltersFrom, at_end, meets_end, at_place, alters_from, beside, end_altered}
 use Rattle.theory.proofs.Chains.Altering.{place_altered, met_altered}
 use Rattle.theory.proofs.Chains.Chain.{path_meets, path_next}
 use Rattle.theory.proofs.Chains.Noted.{AltersOrNames, altered, names₁, names₂, differs_exactly}
-use Rattle.theory.proofs.Chains.Refine.{chain-path, chain_bound}
+use Rattle.theory.proofs.Chains.Refine.{chain_path, chain_bound}
 use Rattle.theory.proofs.Chains.Remembered.{path_none, path_from}
 use Rattle.theory.proofs.Links.Manifold.{Partnered, Manifold, Base, partnered, few}
 use Rattle.theory.proofs.Numbers.Entries.{Some}
@@ -135,7 +135,7 @@ module _ {t : ℕ} {m : Mesh} (S : Sound m) (b : t < m.topology.triangles) where
       let (q, z) = owned h y 1 F (omega arith) u (omega arith) (omega arith) in
       near_one y u a (inr (q, sym e ∙ ap (λ (k : ℕ). k / 3) z))
   by_near {x} l (names₂ h e q) =
-      let (r, z) = owned h (chain_end m.topology t) 2 F (omega arith) (end-altered t m S b).0 (omega arith) q in
+      let (r, z) = owned h (chain_end m.topology t) 2 F (omega arith) (end_altered t m S b).0 (omega arith) q in
       across_end r (sym e ∙ ap (λ (k : ℕ). k / 3) z)
 
   -- Each of these is changed.
@@ -157,7 +157,7 @@ module _ {t : ℕ} {m : Mesh} (S : Sound m) (b : t < m.topology.triangles) where
 
   near_listed : {x y : ℕ} → y < m.topology.triangles → Alters m.topology t y → Near m.topology y x
       → Changes m.topology t x
-  near_listed {x} {y} u a N = go (alters_from (chain-path t m S b) a)
+  near_listed {x} {y} u a N = go (alters_from (chain_path t m S b) a)
     where
       n : Topology
       n = m.topology
@@ -196,9 +196,9 @@ module _ {t : ℕ} {m : Mesh} (S : Sound m) (b : t < m.topology.triangles) where
   across_end_lem : {x : ℕ} (i : ℕ) → i < 3 → 1 ≤ i → link m.topology (3 * chain_end m.topology t + i) ≢ boundary
       → x ≡ link m.topology (3 * chain_end m.topology t + i) / 3 → AltersOrNames m.topology t x
   across_end_lem zero l o q e = absurd (omega arith)
-  across_end_lem (suc zero) l o q e = let (u, a) = end-altered t m S b in near_all u a (inr (q, e))
+  across_end_lem (suc zero) l o q e = let (u, a) = end_altered t m S b in near_all u a (inr (q, e))
   across_end_lem (suc (suc zero)) l o q e =
-      let u = (end-altered t m S b).0 in
+      let u = (end_altered t m S b).0 in
       let h : ℕ = 3 * chain_end m.topology t + 2 in
       let M : Partnered m.topology h = partnered (F.linked h (omega arith)) q in
       names₂ (link m.topology h) (sym e) M.back
@@ -207,7 +207,7 @@ module _ {t : ℕ} {m : Mesh} (S : Sound m) (b : t < m.topology.triangles) where
   unlisted : {x : ℕ} → Changes m.topology t x → AltersOrNames m.topology t x
   unlisted (on_chain i l e) = let (u, a) = place_altered t m S b i l in near_all u a (inl e)
   unlisted (beside_chain i l q e) = let (u, a) = place_altered t m S b i l in near_all u a (inr (q, e))
-  unlisted (is_end e) = let (u, a) = end-altered t m S b in near_all u a (inl e)
+  unlisted (is_end e) = let (u, a) = end_altered t m S b in near_all u a (inl e)
   unlisted (beside_end i l q (inr B) e) = let (u, a) = met_altered t m S b i l B in near_all u a (inl e)
   unlisted (beside_end i l q (inl o) e) = across_end_lem i l o q e
   unlisted (beside_met i l B q e) = let (u, a) = met_altered t m S b i l B in near_all u a (inr (q, e))
@@ -239,7 +239,7 @@ module _ {t : ℕ} {m : Mesh} (S : Sound m) (b : t < m.topology.triangles) where
       place y i u j e N (yes d) =
           on_list n v (k - 1) t x i (omega arith) (subst (λ (d : ℕ). Near n d x) e N)
       place y i u j e N (no d) =
-          let p = path_from i 1 (omega arith) (chain-path t m S b) in
+          let p = path_from i 1 (omega arith) (chain_path t m S b) in
           meets y u (rw e (path_meets p)) (rw e (sym (path_none (path_next p)))) N
 
       near : (y : ℕ) → y < n.triangles → AltersFrom n v k t y → Near n y x
@@ -249,7 +249,7 @@ module _ {t : ℕ} {m : Mesh} (S : Sound m) (b : t < m.topology.triangles) where
       near y u (at_place i j e) N = place y i u j e N (dec_lt (suc i) k)
 
       go : NearAltered n t x → Some (λ c. x ≡ c) (slot_list n v (k - 1) t)
-      go (near_one y u c N) = near y u (alters_from (chain-path t m S b) c) N
+      go (near_one y u c N) = near y u (alters_from (chain_path t m S b) c) N
       go (across_end q e) = beside_list n v (k - 1) t x 2 (omega arith) (inl e)
 
 module _ {t : ℕ} {m : Mesh} (R : RefineFound t m) where

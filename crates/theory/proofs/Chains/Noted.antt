@@ -8,7 +8,7 @@ use native.Mathlib.Omega.{arith}
 use lib.Dec.{T, eqb}
 use lib.ListN.{get_or}
 use Rattle.theory.proofs.Calls.Carried.{RefineFound, found_refined}
-use Rattle.theory.proofs.Chains.Altered.{after_next, last-met, last_alone, still_in_use, ends_mono, ends_rise}
+use Rattle.theory.proofs.Chains.Altered.{after_next, last_met, last_alone, still_in_use, ends_mono, ends_rise}
 use Rattle.theory.proofs.Chains.Altered.{refine_splits, refine_alters, alters_rise}
 use Rattle.theory.proofs.Chains.Altering.{at_place_lem}
 use Rattle.theory.proofs.Chains.RefineLoop.{split_ends, Ahead, ahead_splitting, ahead_on, path_of_two}
@@ -58,7 +58,7 @@ ends_told {t = t} (suc k) w A h l e =
       late = λ x i. ends_mono (suc k) _ (ahead_on A) x (still_in_use A i);
     })
     l e
-    (ends_rise (suc k) w A (chain_at k (reached w) t) (last-met A).0 (at_place_lem k (omega arith) (path_of_two A) refl))
+    (ends_rise (suc k) w A (chain_at k (reached w) t) (last_met A).0 (at_place_lem k (omega arith) (path_of_two A) refl))
     (ends_told k _ (ahead_on A) h)
 
 -- A triangle that a refine leaves is told where the sides are that move: the side 1 of each triangle that is written

@@ -26,7 +26,7 @@ use Rattle.rules.specs.Numbers.{KnownRule}
 use Rattle.rules.specs.Promises.{RisesBy, Still, odds}
 use Rattle.rules.specs.Sound.{Sound}
 use Rattle.rules.specs.Split.{Work, at_first, chain_end, chain_odd, refine}
-use Rattle.rules.specs.Tables.{Mesh, TablesAgree, generation, odd, vertex_slots}
+use Rattle.rules.specs.Tables.{Mesh, TablesAgree, generation, vertex_slots}
 
 -- What a refine of t that makes s splits, q of them rim splits, makes of the mesh m.
 pub record Refined (t s q : ℕ) (m : Mesh) (w : Work) : Type 0 where
@@ -59,9 +59,9 @@ module _ (t : ℕ) (m : Mesh) (S : Sound m) (b : t < m.topology.triangles) where
   the_way : Way (generation m.topology t) m.topology t
   the_way = way (generation m.topology t) m.topology (sound_manifold S) (sound_bases S) t b (omega arith)
 
-  pub chain-path :
+  pub chain_path :
       Path m.topology t (chain_end m.topology t) (chain_odd m.topology t - rim_splits_of m.topology t)
-  chain-path =
+  chain_path =
       let W = the_way in
       let e : W.steps ≡ chain_odd m.topology t - rim_splits_of m.topology t = omega (arith, W.counts) in
       subst (Path m.topology t (chain_end m.topology t)) e W.path
@@ -70,18 +70,18 @@ module _ (t : ℕ) (m : Mesh) (S : Sound m) (b : t < m.topology.triangles) where
   chain_counts = let W = the_way in subst (OddInChain m.topology t) (sym W.counts) (path_counts W.path)
 
   pub chain_bound : 2 * (chain_odd m.topology t - rim_splits_of m.topology t) ≤ generation m.topology t + 1
-  chain_bound = path_short (sound_manifold S) (sound_bases S) b chain-path
+  chain_bound = path_short (sound_manifold S) (sound_bases S) b chain_path
 
   -- The splits that the calls compute are those that the conditions speak of.
   pub chain_takes : Takes m.topology t (splits_of m.topology t) (rim_splits_of m.topology t)
-  chain_takes = go (path_fit chain-path)
+  chain_takes = go (path_fit chain_path)
     where
       go : Splittable m.topology (chain_end m.topology t)
           → Takes m.topology t (splits_of m.topology t) (rim_splits_of m.topology t)
       go (is_even e) =
           let z : max 1 (chain_odd m.topology t) ≡ max 1 (chain_odd m.topology t - 0) = omega arith in
-          rw e (subst (λ (s : ℕ). Takes m.topology t s 0) z (even_end chain_counts (path_inside chain-path e)))
-      go (on_boundary o e) = rw o (boundary_end chain_counts (path_outside chain-path o))
+          rw e (subst (λ (s : ℕ). Takes m.topology t s 0) z (even_end chain_counts (path_inside chain_path e)))
+      go (on_boundary o e) = rw o (boundary_end chain_counts (path_outside chain_path o))
 
 module _ (t : ℕ) (m : Mesh) (S : Sound m) (b : t < m.topology.triangles) (young : ¬ TooOld m.topology t) where
   F : Manifold m.topology
@@ -168,4 +168,4 @@ module _ (t : ℕ) (m : Mesh) (S : Sound m) (b : t < m.topology.triangles) (youn
       → Refined t (splits_of m.topology t) (rim_splits_of m.topology t) m (refine t (at_first m))
   refine_refined =
       refine_path (chain_odd m.topology t - rim_splits_of m.topology t) (chain_end m.topology t)
-      (chain-path t m S b)
+      (chain_path t m S b)

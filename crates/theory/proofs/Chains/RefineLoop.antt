@@ -12,7 +12,7 @@ use Rattle.theory.proofs.Chains.Chain.{shortens}
 use Rattle.theory.proofs.Splits.Splitting.{Room, Splitting, room_fewer}
 use Rattle.theory.proofs.Links.Manifold.{Manifold, BasesMeetIn}
 use Rattle.theory.proofs.Chains.Raise.{raise_stops, raise_splits, room_rest}
-use Rattle.theory.proofs.Chains.Refine.{sound_room, chain-path, chain_bound}
+use Rattle.theory.proofs.Chains.Refine.{sound_room, chain_path, chain_bound}
 use Rattle.theory.proofs.Soundness.Relaxed.{SameSlots, sound_manifold, sound_bases, agree_on}
 use Rattle.theory.proofs.Chains.Remembered.{path_last, path_within, places_stay}
 use Rattle.theory.proofs.Chains.Runs.{top_of, rim_of, split_even, split_odd}
@@ -271,7 +271,7 @@ module _ {t : ℕ} {m : Mesh} (R : RefineFound t m) where
         refl,
         record {
           steps = chain_odd m.topology t - rim_splits_of m.topology t;
-          path = chain-path t m R.sound R.in_use;
+          path = chain_path t m R.sound R.in_use;
           splits = e;
         },
       )

@@ -152,11 +152,11 @@ module _ (t : ℕ) (xs ys zs : List ℕ) (spares : Spares) (m : Mesh) where
       go (no n) = rw (stopped m (t ∷ []) made n) (record { work = refl; refusal = refl })
 
   -- A triangle listed again changes nothing but how many entries succeed.
-  pub listed-twice :
+  pub listed_twice_lem :
       let a = list_call (first ++ (t ∷ zs)) spares m in
       let b = list_call (first ++ zs) spares m in
       SameWork a b × (a.room ≡ b.room)
-  listed-twice = go (ℕ_discrete (spares_refusal spares m) 0)
+  listed_twice_lem = go (ℕ_discrete (spares_refusal spares m) 0)
     where
       go : Dec (spares_refusal spares m ≡ 0) →
           let a = list_call (first ++ (t ∷ zs)) spares m in

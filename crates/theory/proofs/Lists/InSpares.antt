@@ -125,12 +125,12 @@ module _ {m : Mesh} {s : Spares} {list : List ℕ} {at k f : ℕ} {l : List ℕ}
     abbrev entry : ℕ
     entry = get_or list at 0
 
-    result-on :
+    result_on :
         handle_all m (drop (suc at) list)
         (goes_on (entry_refusal m entry so_made.mesh) (entry_work m entry so_made) so_far)
         ≡ refine_each list m
     unfolding handle_all handle
-    result-on = ap (λ (l : List ℕ). handle_all m l so_far) (sym (drop-cons list at 0 i)) ∙ D.result
+    result_on = ap (λ (l : List ℕ). handle_all m l so_far) (sym (drop-cons list at 0 i)) ∙ D.result
 
     outcome_is : {o : Outcome} → o ≡ entry_outcome m entry x → {n : ℕ} → entry_refusal m entry so_made.mesh ≡ n →
         let u = entry_work m entry (at_first so_made.mesh) in
@@ -166,7 +166,7 @@ module _ {m : Mesh} {s : Spares} {list : List ℕ} {at k f : ℕ} {l : List ℕ}
         go zero q = rw (report_is q) (record {
           work = entry_work m entry so_made;
           held = holding_on D.held _ (entry_adds m entry so_made) (going_next q) (outcome_is e q);
-          result = rw (add-one at) (rw q at result-on);
+          result = rw (add-one at) (rw q at result_on);
         })
         go (suc n) q =
             let r : o.answer.refusal ≡ suc n = ap (λ (o : Outcome). o.answer.refusal) (outcome_is e q) in
@@ -182,4 +182,4 @@ module _ {m : Mesh} {s : Spares} {list : List ℕ} {at k f : ℕ} {l : List ℕ}
         go (suc j) q =
             rw (outcome_is e q, ← D.held.tables)
             (holding_done D.held
-            (sym (rw q at result-on) ∙ stopped m (drop (suc at) list) _ (λ z. omega arith)))
+            (sym (rw q at result_on) ∙ stopped m (drop (suc at) list) _ (λ z. omega arith)))

@@ -60,13 +60,13 @@ module _ {t : ℕ} {m : Mesh} (s : Spares) (S : Sound m) (A : AgreeInUse s m) (F
       go (inl d) = risen d
       go (inr (i, b, d)) = turned i b d (ℕ_discrete (generation made x) (generation m.topology x))
 
-  pub altered-exactly :
+  pub altered_exactly :
       let n = reached (refine t (at_first (mesh_in s m))) in
       Alters m.topology t x
       ↔ ((generation n x ≢ generation m.topology x)
       ⊎ ((i : ℕ) × (i < 3) × (origin n (3 * x + i) ≢ origin m.topology (3 * x + i))))
   unfolding made
-  altered-exactly =
+  altered_exactly =
       (λ a. inl (λ e. omega (arith, alters_rise F x l (alters_in ways F.in_use l a), A.generations x l)), by_change)
 
 -- A refine that alters none of them leaves a locked triangle as it is, and locked.

@@ -17,7 +17,7 @@ use Rattle.theory.proofs.Calls.EveryCall.{refused_is, question_stands}
 use Rattle.theory.proofs.Calls.FirstThatHolds.{judged_carried, none_hold}
 use Rattle.theory.proofs.Calls.Outcomes.{lock_makes}
 use Rattle.theory.proofs.Chains.Going.{going_begins}
-use Rattle.theory.proofs.Lists.ListCall.{list_refusal, list-makes}
+use Rattle.theory.proofs.Lists.ListCall.{list_refusal, list_makes}
 use Rattle.theory.proofs.Locks.LeftAlone.{refine_leaves, handled_leaves, turns_leave}
 use Rattle.theory.proofs.Locks.Standing.{follow_none, follow_on, still_follows, stands_same, stands_on}
 use Rattle.theory.proofs.Locks.Standing.{stands_back, still_stands}
@@ -169,7 +169,7 @@ plain_left x c (with_note t note) m L z =
     let (r, e) = judged_carried (noted_judged t note m) z in
     left_refined t L (ap (λ (o : Outcome). o.mesh) e) (noted_found t note m r).refines
 plain_left x c (each list spares) m L z =
-    let (e, _, M) = list-makes list spares m z in
+    let (e, _, M) = list_makes list spares m z in
     let (_, (_, (s, _))) = none_hold (list_refusal list spares m) z tt in
     let S = stable (sound_is m) s in
     left_still L (ap (λ (o : Outcome). o.mesh) e) S M.sound M.still M.old_vertices M.locks

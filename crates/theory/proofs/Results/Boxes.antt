@@ -2,7 +2,7 @@
 use mathlib.Core.Path.{◌≡◌}
 use mathlib.Core.Logic.{◌≢◌}
 use Prim.Native.Nat.{ℕ, ◌+◌, ◌≤◌, ◌<◌}
-use Rattle.theory.proofs.Boxes.BoxCall.{box_makes, box_refused_first, box_stops, fails_same, box-in-spares}
+use Rattle.theory.proofs.Boxes.BoxCall.{box_makes, box_refused_first, box_stops, fails_same, box_in_spares}
 use Rattle.theory.proofs.Boxes.BoxCall.{nothing_wanted, box_twice, turn_takes}
 use Rattle.rules.specs.Boxes.{Box, refine_in_box, box_refusal, box_call}
 use Rattle.rules.specs.Calls.{spare_room, refused_with}
@@ -46,7 +46,7 @@ box_fails_once {b} {m} S = fails_same b m S
 pub box_held : (b : Box) (spares : Spares) (m : Mesh) → SameSizes spares m → BoxFits b → Sound m
     → let n = (refine_in_box b m).work.mesh in
     ((box_call b spares m).room ≡ spare_room (copied n spares)) × Sound (mesh_in (copied n spares) n)
-box_held = box-in-spares
+box_held = box_in_spares
 
 -- Where no triangle below the generation has a corner in the box, it is carried out, with zeros: the mesh stands, and
 -- the spare tables hold it. So it is with generation 0.

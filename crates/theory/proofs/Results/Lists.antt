@@ -5,9 +5,9 @@ use mathlib.Core.List.{List, [], ◌∷◌, ◌++◌}
 use Prim.Native.Nat.{ℕ}
 use lib.ListN.{length}
 use Rattle.theory.proofs.Lists.Entries.{handled_then}
-use Rattle.theory.proofs.Lists.ListCall.{list-makes, list_stops}
+use Rattle.theory.proofs.Lists.ListCall.{list_makes, list_stops}
 use Rattle.theory.proofs.Lists.OneEntry.{one_entry}
-use Rattle.theory.proofs.Lists.EveryList.{refused_first, empty_list_lem, held_in_spares_lem, one_failure, listed-twice}
+use Rattle.theory.proofs.Lists.EveryList.{refused_first, empty_list_lem, held_in_spares_lem, one_failure, listed_twice_lem}
 use Rattle.theory.proofs.Spares.Adds.{refine_adds}
 use Rattle.rules.specs.Calls.{refine_call, spare_room, refused_with}
 use Rattle.rules.specs.Conditions.{FailsAfter}
@@ -22,7 +22,7 @@ use Rattle.rules.specs.Tables.{Mesh}
 pub list_carried : (list : List ℕ) (spares : Spares) (m : Mesh) → (list_call list spares m).answer.refusal ≡ 0
     → let p = refine_each list m in
     (list_call list spares m ≡ all_or_nothing 0 p spares m) × (p.handled ≡ length list) × ListMakes list m p.work
-list_carried = list-makes
+list_carried = list_makes
 
 -- One that is refused with 1, 17 or 7, which `spares_refusal` computes, answers zeros and leaves the spare tables too.
 pub list_refused : (list : List ℕ) (spares : Spares) (m : Mesh) → spares_refusal spares m ≢ 0
@@ -72,7 +72,7 @@ pub list_twice : (t : ℕ) (xs ys zs : List ℕ) (spares : Spares) (m : Mesh) �
     let a = list_call (xs ++ (t ∷ ys) ++ (t ∷ zs)) spares m in
     let b = list_call (xs ++ (t ∷ ys) ++ zs) spares m in
     SameWork a b × (a.room ≡ b.room)
-list_twice = listed-twice
+list_twice = listed_twice_lem
 
 -- A list of one triangle answers and does to the mesh what a refine of it does.
 pub list_of_one : (t : ℕ) (spares : Spares) (m : Mesh) → SameSizes spares m

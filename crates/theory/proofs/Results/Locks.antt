@@ -6,7 +6,7 @@ use mathlib.Core.List.{List}
 use Prim.Native.Nat.{ℕ, ◌+◌, ◌*◌, ◌<◌}
 use Rattle.theory.proofs.Calls.Carried.{may_refine}
 use Rattle.theory.proofs.Calls.Outcomes.{lock_makes}
-use Rattle.theory.proofs.Locks.LeftAlone.{altered-exactly}
+use Rattle.theory.proofs.Locks.LeftAlone.{altered_exactly}
 use Rattle.theory.proofs.Locks.LockedFaces.{step_locked, call_stands, call_follows, history_stands}
 use Rattle.theory.proofs.Locks.LockedFaces.{history_follows, goes_back}
 use Rattle.rules.specs.Calls.{worked, whole_step_call, with_lock, lock_call}
@@ -35,7 +35,7 @@ pub altered_known : {t : ℕ} {m : Mesh} (s : Spares) → Sound m → AgreeInUse
     Alters m.topology t x
     ↔ ((generation n x ≢ generation m.topology x)
     ⊎ ((i : ℕ) × (i < 3) × (origin n (3 * x + i) ≢ origin m.topology (3 * x + i))))
-altered_known s S A R u y f = altered-exactly s S A (may_refine R u y f)
+altered_known s S A R u y f = altered_exactly s S A (may_refine R u y f)
 
 -- A whole step is refused while a lock is set, on any content.
 pub locked_no_step : (m : Mesh) → SomeLocked m → (whole_step_call m).answer.refusal ≢ 0

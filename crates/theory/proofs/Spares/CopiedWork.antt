@@ -196,10 +196,10 @@ module _ {r s : Mesh} (A : TablesAgree r) (B : TablesAgree s) where
     third_same h i j k a b c d = simp corner_same
 
     -- The new slots are the same.
-    split-reported :
+    split_reported :
         let new : Work → List ℕ = λ y. t ∷ (reached y).triangles ∷ ((reached y).triangles + 1) ∷ [] in
         x.report ++ new x ≡ w.report ++ new w
-    split-reported =
+    split_reported =
         ap₂ (λ (l : List ℕ) (f : ℕ). l ++ (t ∷ f ∷ (f + 1) ∷ [])) O.report (O.copy_counts.1 ∙ sym O.counts.1)
 
     face_placed_over : SlotsFor r s (suc v) (f + 2)
@@ -219,7 +219,7 @@ module _ {r s : Mesh} (A : TablesAgree r) (B : TablesAgree s) where
       rule = O.rule;
       splits = ap suc O.splits;
       flips = O.flips;
-      report = split-reported;
+      report = split_reported;
     }
 
     rim_placed_over : SlotsFor r s (v + 2) (f + 2)
@@ -242,7 +242,7 @@ module _ {r s : Mesh} (A : TablesAgree r) (B : TablesAgree s) where
       rule = O.rule;
       splits = ap suc O.splits;
       flips = O.flips;
-      report = split-reported;
+      report = split_reported;
     }
 
     -- What a split makes, settled, in slots that F gives.

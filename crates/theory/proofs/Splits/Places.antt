@@ -84,12 +84,12 @@ module _ (m n : Mesh) (p : ℤ × ℤ × ℤ) (one : n.topology.vertices ≡ suc
       (row_each InRange (put_three v p m.positions) (pos 0) v p.0 p.1 p.2
       (put_row m.positions v p.0 p.1 p.2 (pos 0) r) x y z i e)
 
-  pub places-new :
+  pub places_new :
       (((i : ℕ) → i < 3 * m.topology.vertices → InRange (get_or m.positions i (pos 0))) → InRange p.0
       × InRange p.1 × InRange p.2)
       → Places m n
   unfolding v
-  places-new fits = record {
+  places_new fits = record {
     size = size;
     grows = omega arith;
     old = λ i l. read i (omega arith);

@@ -18,7 +18,7 @@ use Rattle.theory.proofs.Links.Manifold.{Manifold}
 use Rattle.theory.proofs.Splits.Odds.{split_odds, rim_odds, settling_odds}
 use Rattle.theory.proofs.Splits.Parts.{Parts, Parted, face_parts, parted_is, split_is, rim_parts, rim_is}
 use Rattle.theory.proofs.Splits.PartsCut.{child, cut_of}
-use Rattle.theory.proofs.Splits.Places.{Places, places_stay, places_on, places-new}
+use Rattle.theory.proofs.Splits.Places.{Places, places_stay, places_on, places_new}
 use Rattle.theory.proofs.Splits.Reported.{Telling, telling_none, telling_on, settles_telling, cut_telling}
 use Rattle.theory.proofs.Splits.Unlocking.{unlocks_stay, unlocks_new}
 use Rattle.theory.proofs.Numbers.Rounding.{third_in_range}
@@ -291,10 +291,10 @@ module _ (v : ℕ) (w : Work) (F : Manifold (reached w)) (b : v < (reached w).tr
       rw (split_is v m) (parted_is v (face_parts v m) m F b (omega arith) (omega arith) (omega arith))
 
   module _ (even : generation (reached w) v % 2 ≡ 0) where
-    face-cut-made :
+    face_cut_made :
         let m : Topology = reached w in
         Cut v (suc (generation m v)) (v ∷ m.triangles ∷ (m.triangles + 1) ∷ []) 1 0 m (face_cut v m)
-    face-cut-made =
+    face_cut_made =
         let rc = R.corners in
         let rl = R.links in
         let rg = R.generations in
@@ -306,7 +306,7 @@ module _ (v : ℕ) (w : Work) (F : Manifold (reached w)) (b : v < (reached w).tr
         (face_cut v (reached w)) (reached (face_split v w))
     unfolding face_split face_placed
     face_settled =
-        let C = face-cut-made in
+        let C = face_cut_made in
         settled_of (settles_all (reached w).vertices _ _ (with_split v (face_placed v w.mesh) w) C.manifold
         C.children C.distinct)
 
@@ -315,7 +315,7 @@ module _ (v : ℕ) (w : Work) (F : Manifold (reached w)) (b : v < (reached w).tr
     face_splitting =
         let m : Topology = reached w in
         let S = face_parted in
-        splitting_of v _ 1 0 _ w (face_placed v w.mesh) F b face-cut-made
+        splitting_of v _ 1 0 _ w (face_placed v w.mesh) F b face_cut_made
         (λ h o. elim o [
           | inl e ↦ inl (omega arith)
           | inr (inl e) ↦ inr (inl (omega arith))
@@ -325,7 +325,7 @@ module _ (v : ℕ) (w : Work) (F : Manifold (reached w)) (b : v < (reached w).tr
         (λ n s. face_after v m.triangles (face_cut v m) n
         (settled_slides m.triangles s (omega (arith, S.triangles))) S.second.links.2)
         (split_odds v m (face_cut v m) b even S)
-        (places-new w.mesh (face_placed v w.mesh) _ S.vertices refl
+        (places_new w.mesh (face_placed v w.mesh) _ S.vertices refl
         (unlocks_new w.mesh (face_placed v w.mesh) S.triangles refl) refl
         (third_fits 0 1 2 w.mesh v F b (omega arith) (omega arith) (omega arith)))
 
@@ -348,10 +348,10 @@ module _ (v : ℕ) (w : Work) (F : Manifold (reached w)) (b : v < (reached w).tr
       w.mesh.positions)
       w.mesh.locks w.mesh.rule in
       let one : Places w.mesh k =
-      places-new w.mesh k _ (omega arith) refl (unlocks_stay w.mesh k refl refl) refl
+      places_new w.mesh k _ (omega arith) refl (unlocks_stay w.mesh k refl refl) refl
       (third_fits 0 0 1 w.mesh v F b (omega arith) (omega arith) (omega arith)) in
       let two : Places k (rim_placed v w.mesh) =
-      places-new k (rim_placed v w.mesh) _ (omega (arith, S.vertices)) refl
+      places_new k (rim_placed v w.mesh) _ (omega (arith, S.vertices)) refl
       (unlocks_new k (rim_placed v w.mesh) S.triangles refl) refl
       (λ a. third_fits 0 1 1 w.mesh v F b (omega arith) (omega arith) (omega arith)
       (λ i l. subst InRange (one.old i l) (a i (omega arith)))) in
@@ -387,7 +387,7 @@ module _ (v : ℕ) (w : Work) (F : Manifold (reached w)) (b : v < (reached w).tr
       let n : Topology = face_cut v m in
       let f : ℕ = m.triangles in
       let S = face_parted v w F b R in
-      let C = face-cut-made v w F b R even in
+      let C = face_cut_made v w F b R even in
       let N : Manifold n = C.manifold in
       let k : Mesh = face_placed v w.mesh in
       let x : pair_of n v ≡ pair_at m v (3 * v) =

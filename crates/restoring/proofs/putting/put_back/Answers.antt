@@ -23,6 +23,6 @@ bounds-locks-slot c =
 
 pub returns : goal.returns
 returns c n positions =
-    let mesh-of : Counts → List ℤ → Mesh = λ n positions. mesh_now n positions c.args.corners.now c.args.links.now c.args.generations.now c.args.locks.now in
-    one_put c.args.note.now c.args.i (mesh-of n positions)
+    let mesh_of_lem : Counts → List ℤ → Mesh = λ n positions. mesh_now n positions c.args.corners.now c.args.links.now c.args.generations.now c.args.locks.now in
+    one_put c.args.note.now c.args.i (mesh_of_lem n positions)
     c.triangle_of.ensures refl (c.store.ensures n)

@@ -39,40 +39,40 @@ pub returns-then-spare_positions-positions : goal.returns-then-spare_positions-p
 returns-then-spare_positions-positions c =
     let spares_of : Spares = spares_now c.args.spare_positions.now c.args.spare_corners.now c.args.spare_links.now
     c.args.spare_generations.now c.args.spare_locks.now in
-    let mesh-of : Mesh = mesh_now c.args.counts c.args.positions.now c.args.corners.now c.args.links.now c.args.generations.now
+    let mesh_of_lem : Mesh = mesh_now c.args.counts c.args.positions.now c.args.corners.now c.args.links.now c.args.generations.now
     c.args.locks.now in
-    positions_differ spares_of mesh-of c.if-spare_positions-positions.true
+    positions_differ spares_of mesh_of_lem c.if-spare_positions-positions.true
 
 pub returns-then-spare_corners-corners : goal.returns-then-spare_corners-corners
 returns-then-spare_corners-corners c =
     let spares_of : Spares = spares_now c.args.spare_positions.now c.args.spare_corners.now c.args.spare_links.now
     c.args.spare_generations.now c.args.spare_locks.now in
-    let mesh-of : Mesh = mesh_now c.args.counts c.args.positions.now c.args.corners.now c.args.links.now c.args.generations.now
+    let mesh_of_lem : Mesh = mesh_now c.args.counts c.args.positions.now c.args.corners.now c.args.links.now c.args.generations.now
     c.args.locks.now in
-    corners_differ spares_of mesh-of c.if-spare_positions-positions.false c.if-spare_corners-corners.true
+    corners_differ spares_of mesh_of_lem c.if-spare_positions-positions.false c.if-spare_corners-corners.true
 
 pub returns-then-spare_links-links : goal.returns-then-spare_links-links
 returns-then-spare_links-links c =
     let spares_of : Spares = spares_now c.args.spare_positions.now c.args.spare_corners.now c.args.spare_links.now
     c.args.spare_generations.now c.args.spare_locks.now in
-    let mesh-of : Mesh = mesh_now c.args.counts c.args.positions.now c.args.corners.now c.args.links.now c.args.generations.now
+    let mesh_of_lem : Mesh = mesh_now c.args.counts c.args.positions.now c.args.corners.now c.args.links.now c.args.generations.now
     c.args.locks.now in
-    links_differ spares_of mesh-of c.if-spare_positions-positions.false c.if-spare_corners-corners.false c.if-spare_links-links.true
+    links_differ spares_of mesh_of_lem c.if-spare_positions-positions.false c.if-spare_corners-corners.false c.if-spare_links-links.true
 
 pub returns-then-spare_generations-generations : goal.returns-then-spare_generations-generations
 returns-then-spare_generations-generations c =
     let spares_of : Spares = spares_now c.args.spare_positions.now c.args.spare_corners.now c.args.spare_links.now
     c.args.spare_generations.now c.args.spare_locks.now in
-    let mesh-of : Mesh = mesh_now c.args.counts c.args.positions.now c.args.corners.now c.args.links.now c.args.generations.now
+    let mesh_of_lem : Mesh = mesh_now c.args.counts c.args.positions.now c.args.corners.now c.args.links.now c.args.generations.now
     c.args.locks.now in
-    generations_differ spares_of mesh-of c.if-spare_positions-positions.false c.if-spare_corners-corners.false c.if-spare_links-links.false
+    generations_differ spares_of mesh_of_lem c.if-spare_positions-positions.false c.if-spare_corners-corners.false c.if-spare_links-links.false
     c.if-spare_generations-generations.true
 
 pub returns : goal.returns
 returns c =
     let spares_of : Spares = spares_now c.args.spare_positions.now c.args.spare_corners.now c.args.spare_links.now
     c.args.spare_generations.now c.args.spare_locks.now in
-    let mesh-of : Mesh = mesh_now c.args.counts c.args.positions.now c.args.corners.now c.args.links.now c.args.generations.now
+    let mesh_of_lem : Mesh = mesh_now c.args.counts c.args.positions.now c.args.corners.now c.args.links.now c.args.generations.now
     c.args.locks.now in
-    locks_decide spares_of mesh-of c.if-spare_positions-positions.false c.if-spare_corners-corners.false c.if-spare_links-links.false
+    locks_decide spares_of mesh_of_lem c.if-spare_positions-positions.false c.if-spare_corners-corners.false c.if-spare_links-links.false
     c.if-spare_generations-generations.false
