@@ -1,6 +1,6 @@
 // The program: loads cage.bin, refines the triangles that requests.bin names, and prints a line for each call. Where a
-// read fails the file ends there, and a line whose write fails is left out; the program goes on, and ends with the first
-// such error.
+// read fails the file ends there, and a line whose write fails may be cut or missing; the program goes on, and ends with
+// the first such error.
 #![tactic(auto)]
 
 ghost use Rattle.std.specs.Prelude.{ℕ, ◌%◌, ◌≤◌, List, ◌≡◌, length, take, is_ok, if◌then◌else◌};
