@@ -1,15 +1,30 @@
 -- Requests that come in several reads, each but the last of whole requests, are answered as if they came in one.
-use Prim.Native.Nat.{ℕ, zero, suc, ◌+◌, ◌-◌, ◌*◌, ◌/◌, ◌%◌, ◌^◌, ◌≤◌}
-use native.Mathlib.Nat.{mul-zero}
-use native.Mathlib.Omega.{arith}
-use mathlib.Core.List.{List, [], ◌++◌}
-use mathlib.Core.Path.{◌≡◌, refl, sym, ap, ◌∙◌}
-use lib.ListN.{length, get_or, length-append, get_or-append}
-use lib.Seq.{get_or-append-add}
+use Rattle.std.proofs.Common.{ℕ, zero, suc, ◌+◌, ◌-◌, ◌*◌, ◌/◌, ◌%◌, ◌^◌, ◌≤◌, arith, List, [], ◌++◌}
+use Rattle.std.proofs.Common.{◌≡◌, refl, sym, ap, ◌∙◌, length}
+use Rattle.std.proofs.Math.ListN.{get_or, length-append, get_or-append}
+use Rattle.std.proofs.lemmas.List.{get_or-append-add}
 use Rattle.rules.specs.Calls.{refine_call}
 use Rattle.rules.specs.Numbers.{number_at}
 use Rattle.rules.specs.Tables.{Mesh}
 use Rattle.refine.specs.Requests.{after_requests, after_bytes, AllAnswered}
+use Rattle.std.proofs.Math.Nat.{mul-zero}
+
+pub none_answered : (bytes : List ℕ) (m : Mesh) → m ≡ after_requests 0 bytes m
+unfolding after_requests
+none_answered bytes m = refl
+
+pub one_more : (i t : ℕ) (bytes : List ℕ) (m before after : Mesh) → t ≡ number_at bytes (4 * i)
+    → before ≡ after_requests i bytes m → after ≡ (refine_call t before).mesh → after ≡ after_requests (i + 1) bytes m
+unfolding after_requests
+one_more i t bytes m before after et eb ea = let q : i + 1 ≡ suc i = omega arith in rw (q, ea, et, eb) refl
+
+-- All requests are answered where no more are left.
+pub all_answered : (i : ℕ) (bytes : List ℕ) (m now : Mesh) → i ≤ length bytes / 4 → length bytes / 4 ≤ i
+    → now ≡ after_requests i bytes m → now ≡ after_bytes bytes m
+unfolding after_bytes
+all_answered i bytes m now a b e =
+    let q : i ≡ length bytes / 4 = omega arith in
+    e ∙ ap (λ (k : ℕ). after_requests k bytes m) q
 
 number_before : (xs ys : List ℕ) (i : ℕ) → i + 4 ≤ length xs → number_at (xs ++ ys) i ≡ number_at xs i
 unfolding number_at
