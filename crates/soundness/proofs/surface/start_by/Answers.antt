@@ -1,0 +1,120 @@
+-- `soundness::surface::start_by` meets its contract: triangles that fit are glued, the walks then tell of the fans, and
+-- the start kept for a vertex is where its ring starts.
+use Prim.Native.Nat.{ℕ, suc, ◌+◌, ◌-◌, ◌≤◌, ◌<◌}
+use native.Mathlib.Decide.{dec_lt}
+use native.Mathlib.Omega.{arith}
+use mathlib.Core.Bool.{true}
+use mathlib.Core.List.{List}
+use mathlib.Core.Path.{◌≡◌, refl, sym, ◌∙◌}
+use lib.ListN.{get_or}
+use Rattle.theory.proofs.Numbers.Decide.{is_all, when_true}
+use Rattle.theory.proofs.Rings.FanTest.{one_start, one_fan_is}
+use Rattle.theory.proofs.Rings.Fans.{Starts, first_side_lem, first_in_use, first_none}
+use Rattle.theory.proofs.Rings.Turning.{Glued}
+use Rattle.rules.specs.Below.{all}
+use Rattle.rules.specs.Ring.{first_side}
+use Rattle.rules.specs.Sound.{OneFan, has_one_fan}
+use Rattle.rules.specs.Tables.{Topology, topology_of, sides, boundary}
+use Rattle.rings.specs.Walks.{CornersInUse}
+use Rattle.sides.specs.Parts.{triangle_fits}
+use Rattle.sides.specs.Starts.{Kept, AllKept}
+use Rattle.sides.proofs.Starts.{all_begun}
+use Rattle.soundness.proofs.Triangles.{TriangleFits, triangles_are, sound_side_lem, sides_glued}
+use Rattle.soundness.proofs.surface.start_by.Goals as goal
+
+-- What is returned for v where it is no vertex in use.
+past : (m : Topology) (v : ℕ) → CornersInUse m.vertices (sides m) m.corners → m.vertices ≤ v
+    → sides m + 1 ≡ suc (first_side m v)
+past m v corner l = let e = first_none m v (λ h i o. let k = corner h i in omega arith) in omega arith
+
+-- The same where it is one, each vertex having one fan.
+module _ (m : Topology) (G : Glued m) (fans : all m.vertices (has_one_fan m) ≡ true) (v : ℕ) where
+  kept : (starts : List ℕ) → AllKept m.vertices m.corners m.links (sides m) starts → v < m.vertices
+      → get_or starts v 0 ≡ suc (first_side m v)
+  kept starts A l = go (dec_lt 0 x)
+    where
+      x : ℕ
+      x = get_or starts v 0
+
+      K : Kept m.corners m.links (sides m) v x
+      K = A.each v l
+
+      F : OneFan m v
+      F = when_true (is_all m.vertices (has_one_fan m) (OneFan m) (λ w _. one_fan_is m G w)) fans v l
+
+      starts_at : 0 < x → Starts m v (x - 1)
+      starts_at p =
+          let B = K.begun in
+          record {
+            begins = record { in_use = omega (arith, B.in_use); out = B.out p; best = B.best p };
+            lowest = λ n h i o. let r = K.lowest p (n _ (omega (arith, B.in_use)) (B.out p)) h i o in omega arith;
+          }
+
+      go : Dec (0 < x) → x ≡ suc (first_side m v)
+      go (yes p) =
+          let i = first_in_use m v F.first F.in_use F.out in
+          let e = one_start m G v F (x - 1) (first_side m v) (starts_at p) (first_side_lem m v i) in
+          omega arith
+      go (no n) = absurd (K.begun.none (omega arith) F.first F.in_use F.out)
+
+pub returns-then-not-triangles_fit : goal.returns-then-not-triangles_fit
+returns-then-not-triangles_fit c =
+    let none = sym c.triangles_fit.ensures.value ∙ c.if-not-triangles_fit.true in rw none refl
+
+pub fans-requires : goal.fans-requires
+fans-requires c =
+    let topology : Topology = topology_of c.args.vertices c.args.triangles c.args.corners.now c.args.links.now c.args.generations.now in
+    let starts_kept : let m = topology in
+    AllKept m.vertices m.corners m.links (sides m) c.triangles_fit.new.starts = c.triangles_fit.ensures.all_kept c.if-not-triangles_fit.false in
+    let A = starts_kept in
+    record {
+      few_vertices = c.requires.room.1;
+      few_triangles = omega (arith, c.requires.room.0.few_slots, c.requires.room.0.triangle_room);
+      link_room = omega (arith, c.requires.room.0.link_room, c.requires.room.0.triangle_room);
+      start_room = A.size;
+      in_use = λ v l. (A.each v l).begun.in_use;
+    }
+
+pub returns-then-not-fans : goal.returns-then-not-fans
+returns-then-not-fans c =
+    let topology : Topology = topology_of c.args.vertices c.args.triangles c.args.corners.now c.args.links.now c.args.generations.now in
+    let fitted : let m = topology in all m.triangles (triangle_fits m) ≡ true = sym c.triangles_fit.ensures.value ∙ c.if-not-triangles_fit.false in
+    let few : sides topology < boundary = omega (arith, c.requires.room.0.few_slots, c.requires.room.0.triangle_room) in
+    let triangles : let m = topology in (t : ℕ) → t < m.triangles → TriangleFits m t = when_true (triangles_are topology) fitted in
+    let corner : let m = topology in CornersInUse m.vertices (sides m) m.corners = λ h l. (sound_side_lem topology few triangles h l).corner in
+    let starts_kept : let m = topology in
+    AllKept m.vertices m.corners m.links (sides m) c.triangles_fit.new.starts = c.triangles_fit.ensures.all_kept c.if-not-triangles_fit.false in
+    let glued : Glued topology = sides_glued topology few triangles in
+    let told : let m = topology in
+    c.fans.result ≡ all m.vertices (has_one_fan m) = c.fans.ensures _ corner (all_begun starts_kept) _ glued in
+    rw (fitted, (sym told ∙ c.if-not-fans.true)) refl
+
+pub returns-then-vertices-v : goal.returns-then-vertices-v
+returns-then-vertices-v c =
+    let topology : Topology = topology_of c.args.vertices c.args.triangles c.args.corners.now c.args.links.now c.args.generations.now in
+    let few : sides topology < boundary = omega (arith, c.requires.room.0.few_slots, c.requires.room.0.triangle_room) in
+    let fitted : let m = topology in all m.triangles (triangle_fits m) ≡ true = sym c.triangles_fit.ensures.value ∙ c.if-not-triangles_fit.false in
+    let triangles : let m = topology in (t : ℕ) → t < m.triangles → TriangleFits m t = when_true (triangles_are topology) fitted in
+    let corner : let m = topology in CornersInUse m.vertices (sides m) m.corners = λ h l. (sound_side_lem topology few triangles h l).corner in
+    let starts_kept : let m = topology in
+    AllKept m.vertices m.corners m.links (sides m) c.triangles_fit.new.starts = c.triangles_fit.ensures.all_kept c.if-not-triangles_fit.false in
+    let glued : Glued topology = sides_glued topology few triangles in
+    let told : let m = topology in
+    c.fans.result ≡ all m.vertices (has_one_fan m) = c.fans.ensures _ corner (all_begun starts_kept) _ glued in
+    let yes-all = sym told ∙ c.if-not-fans.false in
+    rw (fitted, yes-all) (past _ _ corner c.if-vertices-v.true)
+
+pub returns : goal.returns
+returns c =
+    let topology : Topology = topology_of c.args.vertices c.args.triangles c.args.corners.now c.args.links.now c.args.generations.now in
+    let few : sides topology < boundary = omega (arith, c.requires.room.0.few_slots, c.requires.room.0.triangle_room) in
+    let fitted : let m = topology in all m.triangles (triangle_fits m) ≡ true = sym c.triangles_fit.ensures.value ∙ c.if-not-triangles_fit.false in
+    let triangles : let m = topology in (t : ℕ) → t < m.triangles → TriangleFits m t = when_true (triangles_are topology) fitted in
+    let corner : let m = topology in CornersInUse m.vertices (sides m) m.corners = λ h l. (sound_side_lem topology few triangles h l).corner in
+    let starts_kept : let m = topology in
+    AllKept m.vertices m.corners m.links (sides m) c.triangles_fit.new.starts = c.triangles_fit.ensures.all_kept c.if-not-triangles_fit.false in
+    let glued : Glued topology = sides_glued topology few triangles in
+    let told : let m = topology in
+    c.fans.result ≡ all m.vertices (has_one_fan m) = c.fans.ensures _ corner (all_begun starts_kept) _ glued in
+    let yes-all = sym told ∙ c.if-not-fans.false in
+    rw (fitted, yes-all) (kept _ glued yes-all _ _ starts_kept c.if-vertices-v.false)
