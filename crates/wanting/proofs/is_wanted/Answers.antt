@@ -1,6 +1,4 @@
 -- `wanting::is_wanted` meets its contract.
-use borrow.Author.Rules.{rules}
-use borrow.Author.Tests.{not-true, not-false}
 use mathlib.Core.Bool.{Bool, true, false, ◌&&◌, ◌||◌}
 use mathlib.Core.List.{List}
 use mathlib.Core.Path.{◌≡◌, refl, sym, ◌∙◌}
@@ -12,8 +10,7 @@ use Rattle.marks.specs.Marks.{marked}
 use Rattle.rules.specs.Boxes.{Box, in_box, wanted}
 use Rattle.rules.specs.Tables.{Mesh, origin}
 use Rattle.wanting.specs.Wanting.{Looks}
-use Rattle.wanting.proofs.is_wanted.Statement.{statement}
-use Rattle.wanting.proofs.is_wanted.Tie as tie
+use Rattle.wanting.proofs.is_wanted.Goals as goal
 
 and_false : (x : Bool) → false ≡ (x && false)
 and_false true = refl
@@ -61,25 +58,16 @@ module _ {b : Box} {m : Mesh} {c g inside : List ℕ} {k t : ℕ} (X : Looks b m
       || marked inside (get_or c (3 * t + 2) 0)) → ltb (get_or g t 0) k ≡ wanted b m t
   some_inside e = and_true (ltb (get_or g t 0) k) ∙ by_corners true e
 
-has-marked-corner-requires : tie.Need-has-marked-corner-requires
-has-marked-corner-requires c κs =
-    let (b, m, X, u) = c.before.before.before.requires in
+pub has_marked_corner-requires : goal.has_marked_corner-requires
+has_marked_corner-requires c =
+    let (b, m, X, u) = c.requires in
     (corner_there X u, corner_room_lem X u)
 
-returns : tie.Need-returns
-returns c b m X u = none_inside X u (sym (not-true _ c.if1.true) ∙ c.before.has-marked-corner.ensures)
+pub returns-then-not-has_marked_corner : goal.returns-then-not-has_marked_corner
+returns-then-not-has_marked_corner c b m X u =
+    none_inside X u (sym c.if-not-has_marked_corner.true ∙ c.has_marked_corner.ensures)
 
-generation-at-requires : tie.Need-generation-at-requires
-generation-at-requires c κs = search rules
-
-cast-result : tie.Need-overflow-cast-result
-cast-result c = search rules
-
-returns-2 : tie.Need-returns-2
-returns-2 c b m X u =
-    let at-if1 = c.before in
-    let e = sym (not-false _ at-if1.if1.false) ∙ at-if1.before.has-marked-corner.ensures in
-    rw c.generation-at.ensures (some_inside X u e)
-
-pub is-wanted-spec : {M : Type 1} → statement M
-is-wanted-spec = tie.close (tie.spec has-marked-corner-requires returns generation-at-requires cast-result returns-2)
+pub returns : goal.returns
+returns c b m X u =
+    let e = sym c.if-not-has_marked_corner.false ∙ c.has_marked_corner.ensures in
+    rw c.generation_at.ensures (some_inside X u e)
