@@ -4,9 +4,9 @@ use mathlib.Core.Logic.{◌≢◌}
 use mathlib.Core.Bool.{Bool, true}
 use mathlib.Core.Path.{◌≡◌, refl, sym, ap, ◌∙◌}
 use Prim.Native.Nat.{ℕ, zero, suc}
-use Rattle.rules.specs.Boxes.{Box, box_fits, box_refusal, box_call, refine_in_box}
-use Rattle.rules.specs.Calls.{Outcome, outcome_of, with_report, spare_room, refused_with, unless}
-use Rattle.rules.specs.Lists.{Progress, refine_each, spares_refusal, all_or_nothing, list_call}
+use Rattle.rules.specs.Boxes.{Box, box_fits, box_call, refine_in_box}
+use Rattle.rules.specs.Calls.{Outcome, with_report, spare_room, refused_with, unless}
+use Rattle.rules.specs.Lists.{Progress, refine_each, all_or_nothing, list_call}
 use Rattle.rules.specs.Reports.{each, in_box, reported_as, reported_call, report_foreseen}
 use Rattle.rules.specs.Spares.{Spares}
 use Rattle.rules.specs.Tables.{Mesh}

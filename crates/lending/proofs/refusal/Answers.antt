@@ -1,5 +1,4 @@
 -- `lending::refusal` meets its contract.
-use borrow.Author.Rules.{rules}
 use Rattle.lending.proofs.InSpares.{work_one, work_seventeen, work_eighteen, work_sound}
 use Rattle.lending.proofs.refusal.Goals as goal
 
