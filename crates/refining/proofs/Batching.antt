@@ -4,26 +4,25 @@ use mathlib.Core.Bool.{Bool, true, false}
 use mathlib.Core.List.{List, [], append-nil}
 use mathlib.Core.Logic.{◌≢◌}
 use mathlib.Core.Path.{◌≡◌, refl, sym, ap, ap₂, ◌∙◌, subst}
-use Prim.Native.Nat.{ℕ, zero, suc, ◌+◌, ◌*◌, ◌≤◌, ◌<◌}
+use Prim.Native.Nat.{ℕ, ◌+◌, ◌*◌, ◌≤◌, ◌<◌}
 use native.Mathlib.Omega.{arith}
 use lib.Dec.{leb}
 use lib.IntN.{ℤ}
 use lib.ListN.{length, get_or}
 use Rattle.theory.proofs.Chains.Going.{Going}
-use Rattle.theory.proofs.Lists.Holding.{Done, going_sizes, failed_is, copied_is, holding_length}
+use Rattle.theory.proofs.Lists.Holding.{Done, going_sizes, holding_length}
 use Rattle.theory.proofs.Lists.InSpares.{entry_outcome, Doing, doing_begins, doing_on, doing_stops, doing_ends}
 use Rattle.theory.proofs.Lists.ListCall.{folded}
 use Rattle.theory.proofs.Numbers.Fill.{length_fill}
 use Rattle.theory.proofs.Soundness.Relaxed.{SameSlots}
-use Rattle.theory.proofs.Spares.CopiedBack.{tables_of}
 use Rattle.theory.proofs.Spares.OverSpares.{over, over_sound}
-use Rattle.rules.specs.Calls.{Outcome, outcome_of, spare_room, no_room, refused_with, worked, unless}
+use Rattle.rules.specs.Calls.{Outcome, no_room, refused_with, worked, unless}
 use Rattle.rules.specs.Calls.{refine_refusal, refine_call}
-use Rattle.rules.specs.Lists.{Progress, risen, entry_refusal, entry_work, refine_each, spares_answer, all_or_nothing}
+use Rattle.rules.specs.Lists.{Progress, risen, entry_refusal, entry_work, refine_each}
 use Rattle.rules.specs.Sound.{Sound}
 use Rattle.rules.specs.Spares.{Spares, copied, mesh_in, SameSizes}
 use Rattle.rules.specs.Split.{Work, at_first, refine}
-use Rattle.rules.specs.Tables.{Mesh, mesh_of, with_topology, generation}
+use Rattle.rules.specs.Tables.{Mesh, generation}
 use Rattle.tables.specs.declared.Counts.{Counts}
 use Rattle.tables.specs.Lent.{mesh_now, HasSlots}
 use Rattle.reporting.specs.Told.{Tells, Told, told_unless}

@@ -1,2 +1,3 @@
 -- Laws that the proofs of reports use.
 pub mod Telling
+pub mod Turns

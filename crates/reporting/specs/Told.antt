@@ -1,5 +1,5 @@
 -- Reports in a lent buffer.
-use Rattle.std.specs.Prelude.{List, [], ◌∷◌, ◌++◌, ◌≡◌, ℕ, zero, suc, ◌+◌, ◌≤◌, length}
+use Rattle.std.specs.Prelude.{List, [], ◌++◌, ◌≡◌, ℕ, zero, suc, ◌+◌, ◌≤◌, length}
 use Rattle.rules.specs.Reports.{report_in}
 
 -- A buffer, before and after, is told these entries from place `at` to place `end`, where it has room for them: if it

@@ -1,10 +1,6 @@
 -- `crc::taken_in` meets its contract.
-use Prim.Native.Nat.{◌-◌, ◌≤◌}
 use native.Mathlib.Omega.{arith}
-use borrow.Author.Rules.{rules}
-use mathlib.Core.Path.{◌≡◌, refl}
-use lib.ListN.{length, drop}
-use Rattle.crc.specs.Crc.{crc_from}
+use mathlib.Core.Path.{refl}
 use Rattle.crc.proofs.Table.{one_taken, all_taken}
 use Rattle.crc.proofs.taken_in.Goals as goal
 

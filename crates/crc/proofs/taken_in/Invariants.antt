@@ -1,10 +1,7 @@
 use Prim.Native.Nat.{◌-◌, ◌≤◌}
-use native.Mathlib.Omega.{arith}
-use borrow.Author.Rules.{rules}
-use mathlib.Core.Path.{◌≡◌, refl}
+use mathlib.Core.Path.{◌≡◌}
 use lib.ListN.{length, drop}
 use Rattle.crc.specs.Crc.{crc_from}
-use Rattle.crc.proofs.Table.{one_taken, all_taken}
 use Rattle.crc.proofs.taken_in.Given as goal
 
 abbrev pub invariant-loop-i : goal.invariant-loop-i

@@ -1,9 +1,7 @@
 -- `points::box_fits` meets its contract.
-use borrow.Author.Rules.{rules}
 use borrow.Author.Tests.{lt-leb, le-leb}
 use mathlib.Core.Bool.{true}
 use mathlib.Core.Path.{◌≡◌, refl, ◌∙◌}
-use Prim.Native.Nat.{◌≤◌}
 use lib.IntN.{ℤ}
 use lib.Signed.{le_z, ≤ℤ_refl}
 use Rattle.theory.proofs.Numbers.Decide.{is_same, is_true}

@@ -1,5 +1,4 @@
 -- `points::lowered` meets its contract.
-use borrow.Author.Rules.{rules}
 use native.Mathlib.Omega.{arith}
 use mathlib.Core.Path.{◌≡◌}
 use lib.IntN.{pos, ◌-ℤ◌}

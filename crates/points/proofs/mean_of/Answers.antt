@@ -1,5 +1,4 @@
 -- `points::mean_of` meets its contract: counted from the least number, the mean is one of naturals.
-use borrow.Author.Rules.{rules}
 use Prim.Native.Nat.{ℕ, ◌+◌, ◌*◌, ◌≤◌}
 use native.Mathlib.Omega.{arith}
 use native.Mathlib.Nat.{mul-le-mul}

@@ -1,5 +1,4 @@
 -- `points::rounded` meets its contract: the quotient stands or goes up by where the remainder lies beside half of d.
-use borrow.Author.Rules.{rules}
 use Prim.Native.Nat.{ℕ, ◌+◌, ◌*◌, ◌/◌, ◌%◌, ◌≤◌, ◌<◌}
 use native.Mathlib.Omega.{arith}
 use native.Mathlib.Decide.{ℕ_discrete}

@@ -1,5 +1,4 @@
 -- `points::signed_at` meets its contract.
-use borrow.Author.Rules.{rules}
 use mathlib.Core.Path.{◌∙◌, ap}
 use mir.Syntax.{w32}
 use Rattle.rules.specs.Numbers.{signed}

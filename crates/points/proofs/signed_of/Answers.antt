@@ -1,5 +1,4 @@
 -- `points::signed_of` meets its contract.
-use borrow.Author.Rules.{rules}
 use borrow.Author.Tests.{lt-ltb, le-ltb}
 use Prim.Native.Nat.{◌-◌}
 use native.Mathlib.Omega.{arith}

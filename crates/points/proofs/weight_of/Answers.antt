@@ -1,5 +1,4 @@
 -- `points::weight_of` meets its contract: the table is that of the rules.
-use borrow.Author.Rules.{rules}
 use mathlib.Core.Path.{refl}
 use Rattle.rules.specs.Numbers.{weights, weight}
 use Rattle.points.proofs.weight_of.Goals as goal

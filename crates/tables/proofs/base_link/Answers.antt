@@ -1,5 +1,4 @@
 -- `tables::base_link` meets its contract.
-use borrow.Author.Rules.{rules}
 use mathlib.Core.Path.{sym}
 use lib.ListN.{get_or-eq_default}
 use Rattle.tables.proofs.base_link.Goals as goal

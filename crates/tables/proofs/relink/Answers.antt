@@ -1,5 +1,4 @@
 -- `tables::relink` meets its contract.
-use borrow.Author.Rules.{rules}
 use lib.Seq.{set_out}
 use Rattle.tables.proofs.relink.Goals as goal
 

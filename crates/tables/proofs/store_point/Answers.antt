@@ -1,5 +1,4 @@
 -- `tables::store_point` meets its contract.
-use borrow.Author.Rules.{rules}
 use lib.ListN.{length-set}
 use native.Mathlib.Omega.{arith}
 use Rattle.tables.proofs.store_point.Goals as goal

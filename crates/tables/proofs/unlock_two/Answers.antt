@@ -1,5 +1,4 @@
 -- `tables::unlock_two` meets its contract.
-use borrow.Author.Rules.{rules}
 use lib.ListN.{length-set}
 use native.Mathlib.Omega.{arith}
 use Rattle.tables.proofs.unlock_two.Goals as goal

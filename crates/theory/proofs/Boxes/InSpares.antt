@@ -23,7 +23,7 @@ use Rattle.rules.specs.Lists.{Progress}
 use Rattle.rules.specs.Sound.{Sound}
 use Rattle.rules.specs.Spares.{Spares, SameSizes}
 use Rattle.rules.specs.Split.{Work, at_first, with_mesh, refine}
-use Rattle.rules.specs.Tables.{Mesh, triangle_slots, generation}
+use Rattle.rules.specs.Tables.{Mesh, triangle_slots}
 
 -- ---- in the copy
 

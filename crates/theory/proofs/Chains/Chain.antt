@@ -14,7 +14,7 @@ use Rattle.theory.proofs.Splits.Settling.{Follow}
 use Rattle.rules.specs.Conditions.{EndsAtBoundary, stops, goes_on, OddInChain, at_even, at_boundary, onward}
 use Rattle.rules.specs.Conditions.{Splittable, is_even, on_boundary}
 use Rattle.rules.specs.Split.{chain_end_within, chain_odd_within}
-use Rattle.rules.specs.Tables.{Topology, boundary, link, generation, odd}
+use Rattle.rules.specs.Tables.{Topology, boundary, link, generation}
 
 module _ (m : Topology) (F : Manifold m) (K : BasesMeetIn nowhere m) where
   -- Across a base stands an even triangle one generation below, or an odd one two below.

@@ -26,7 +26,7 @@ use Rattle.rules.specs.Numbers.{KnownRule}
 use Rattle.rules.specs.Promises.{RisesBy, Still, odds}
 use Rattle.rules.specs.Sound.{Sound}
 use Rattle.rules.specs.Split.{Work, at_first, chain_end, chain_odd, refine}
-use Rattle.rules.specs.Tables.{Mesh, TablesAgree, generation, odd, vertex_slots}
+use Rattle.rules.specs.Tables.{Mesh, TablesAgree, generation, vertex_slots}
 
 -- What a refine of t that makes s splits, q of them rim splits, makes of the mesh m.
 pub record Refined (t s q : ℕ) (m : Mesh) (w : Work) : Type 0 where

@@ -14,11 +14,11 @@ use Rattle.theory.proofs.Lists.Entries.{handled_used}
 use Rattle.theory.proofs.Chains.Going.{Going, going_begins, same_past}
 use Rattle.theory.proofs.Numbers.Decide.{Decides, is_eq, is_iff, is_and, is_true, is_same, stable}
 use Rattle.theory.proofs.Soundness.SoundTest.{tables_agree_is, sound_is}
-use Rattle.rules.specs.Calls.{Outcome, ◌if◌}
+use Rattle.rules.specs.Calls.{Outcome}
 use Rattle.rules.specs.Conditions.{EntryFails, not_in_use, not_refined, old, guarded, crowded, FailsAfter}
 use Rattle.rules.specs.Conditions.{FailsWith, Condition, ◌when◌, First, this, later, none, entry_conditions}
 use Rattle.rules.specs.Conditions.{list_conditions}
-use Rattle.rules.specs.Lists.{Progress, begun, goes_on, risen}
+use Rattle.rules.specs.Lists.{Progress, begun, goes_on}
 use Rattle.rules.specs.Lists.{handle, refine_each, spares_refusal}
 use Rattle.rules.specs.Lists.{all_or_nothing, list_call}
 use Rattle.rules.specs.Promises.{refused_list, ListMakes}

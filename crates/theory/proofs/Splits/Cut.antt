@@ -6,7 +6,6 @@ use Prim.Native.Nat.{ℕ, suc, ◌+◌, ◌*◌, ◌/◌, ◌%◌, ◌≤◌, �
 use native.Mathlib.Omega.{arith}
 use native.Mathlib.Decide.{ℕ_discrete, dec_lt}
 use lib.ListN.{length}
-use lib.Dec.{T}
 use Rattle.theory.proofs.Splits.Bases.{partnered_base}
 use Rattle.theory.proofs.Splits.Edges.{boundary_sides}
 use Rattle.theory.proofs.Numbers.Entries.{Some, some_with, some_map}

@@ -2,16 +2,16 @@
 use mathlib.Core.Path.{◌≡◌, refl, sym, ap, ap₂, ◌∙◌, subst}
 use mathlib.Core.Logic.{◌≢◌, ◌⊎◌, inl, inr}
 use mathlib.Core.List.{List, [], ◌∷◌, ◌++◌, append-nil, append_assoc}
-use Prim.Native.Nat.{ℕ, suc, ◌+◌, ◌*◌, ◌/◌, ◌≤◌, ◌<◌}
+use Prim.Native.Nat.{ℕ, ◌+◌, ◌*◌, ◌/◌, ◌<◌}
 use native.Mathlib.Decide.{ℕ_discrete}
 use native.Mathlib.Omega.{arith}
 use lib.ListN.{length, length-append}
 use Rattle.theory.proofs.Splits.Bases.{reached, Settling, kept, flipped, Settles, flips_of, report_of}
 use Rattle.theory.proofs.Splits.Cut.{Cut, Onto}
-use Rattle.theory.proofs.Splits.FlipRead.{Flips, by_flip_name}
+use Rattle.theory.proofs.Splits.FlipRead.{by_flip_name}
 use Rattle.rules.specs.Promises.{Listed, Unreported, added}
 use Rattle.rules.specs.Split.{Work, at_first, with_split}
-use Rattle.rules.specs.Tables.{Topology, Mesh, sides, origin, link}
+use Rattle.rules.specs.Tables.{Topology, Mesh, sides, link}
 
 -- ---- reports joined
 

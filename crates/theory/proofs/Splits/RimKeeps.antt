@@ -12,7 +12,7 @@ use Rattle.theory.proofs.Splits.PartsKeep.{Moves, corners_proper, with_new, Nine
 use Rattle.theory.proofs.Splits.PartsKeep.{from₁}
 use Rattle.theory.proofs.Splits.PartsKeep.{from₂, Sewn, Fits, new_fan, parts_keep}
 use Rattle.rules.specs.Sound.{OneFan, Turns, here, turn}
-use Rattle.rules.specs.Tables.{Topology, origin, boundary, link, rotate, generation}
+use Rattle.rules.specs.Tables.{Topology, boundary, link, rotate, generation}
 
 module _ (t : ℕ) (m n : Topology) (F : Manifold m) (b : t < m.triangles) (odd : generation m t % 2 ≡ 1)
     (edge : link m (3 * t) ≡ boundary) (S : Parted t (rim_parts t m) m n) where

@@ -11,7 +11,7 @@ use Rattle.theory.proofs.Splits.PartsKeep.{Moves, corners_proper, with_new, Nine
 use Rattle.theory.proofs.Splits.PartsKeep.{from₁}
 use Rattle.theory.proofs.Splits.PartsKeep.{from₂, Sewn, Fits, new_fan, parts_keep}
 use Rattle.rules.specs.Sound.{OneFan, Turns, here, turn}
-use Rattle.rules.specs.Tables.{Topology, origin, target, link, rotate, generation}
+use Rattle.rules.specs.Tables.{Topology, origin, rotate, generation}
 
 module _ (t : ℕ) (m n : Topology) (F : Manifold m) (b : t < m.triangles) (even : generation m t % 2 ≡ 0)
     (S : Parted t (face_parts t m) m n) where

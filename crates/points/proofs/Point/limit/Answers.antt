@@ -1,5 +1,4 @@
 -- `points::Point::limit` meets its contract.
-use borrow.Author.Rules.{rules}
 use native.Mathlib.Omega.{arith}
 use Rattle.points.proofs.Means.{light, limit_parts, limit_by}
 use Rattle.points.proofs.Point.limit.Goals as goal

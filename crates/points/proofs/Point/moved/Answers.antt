@@ -1,5 +1,4 @@
 -- `points::Point::moved` meets its contract.
-use borrow.Author.Rules.{rules}
 use native.Mathlib.Omega.{arith}
 use Rattle.points.proofs.Means.{light, own_most_lem, move_parts, move_by}
 use Rattle.points.proofs.Point.moved.Goals as goal

@@ -1,5 +1,4 @@
 -- `points::Point::thirds` meets its contract: one law, `axis`, on each axis.
-use borrow.Author.Rules.{rules}
 use Prim.Native.Nat.{◌<◌}
 use mathlib.Core.Path.{◌≡◌, ◌∙◌}
 use lib.IntN.{ℤ, ◌+ℤ◌}

@@ -1,9 +1,8 @@
 -- `tables::copies::copy_bytes` meets its contract: the first i entries are copied.
 use borrow.Author.Rules.{rules}
-use Prim.Native.Nat.{◌-◌, ◌≤◌}
 use native.Mathlib.Omega.{arith}
 use mathlib.Core.Path.{◌≡◌, refl}
-use lib.ListN.{length, get_or, length-set}
+use lib.ListN.{length-set}
 use Rattle.theory.proofs.Numbers.Fill.{fill_more}
 use Rattle.rules.specs.Below.{fill}
 use Rattle.tables.proofs.copies.copy_bytes.Goals as goal

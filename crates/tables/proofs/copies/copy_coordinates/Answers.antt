@@ -1,10 +1,8 @@
 -- `tables::copies::copy_coordinates` meets its contract: the first i entries are copied.
 use borrow.Author.Rules.{rules, sfits_of}
-use Prim.Native.Nat.{◌-◌, ◌≤◌}
 use native.Mathlib.Omega.{arith}
 use mathlib.Core.Path.{◌≡◌}
-use lib.IntN.{pos}
-use lib.ListN.{length, get_or, length-set}
+use lib.ListN.{length-set}
 use mir.Syntax.{w32}
 use mir.Facts.{to_z-of_z}
 use Rattle.theory.proofs.Numbers.Fill.{fill_more}

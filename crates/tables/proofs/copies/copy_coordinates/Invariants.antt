@@ -1,11 +1,7 @@
-use borrow.Author.Rules.{rules, sfits_of}
 use Prim.Native.Nat.{◌-◌, ◌≤◌}
-use native.Mathlib.Omega.{arith}
 use mathlib.Core.Path.{◌≡◌}
 use lib.IntN.{pos}
-use lib.ListN.{length, get_or, length-set}
-use mir.Facts.{to_z-of_z}
-use Rattle.theory.proofs.Numbers.Fill.{fill_more}
+use lib.ListN.{length, get_or}
 use Rattle.rules.specs.Below.{fill}
 use Rattle.tables.proofs.copies.copy_coordinates.Given as goal
 
