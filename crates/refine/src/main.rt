@@ -1,9 +1,9 @@
 // The program: loads cage.bin, refines the triangles that requests.bin names, and prints a line for each call. Where a
-// read fails the file ends there, and a line whose write fails is left out; the program goes on, and ends with the first
-// such error.
+// read fails the file ends there, and a line whose write fails may be cut or missing; the program goes on, and ends with
+// the first such error.
 #![tactic(auto)]
 
-ghost use Rattle.std.specs.Prelude.{ℕ, ◌%◌, ◌≤◌, List, ◌≡◌, length, take};
+ghost use Rattle.std.specs.Prelude.{ℕ, ◌%◌, ◌≤◌, List, ◌≡◌, length, take, is_ok, if◌then◌else◌};
 ghost use Rattle.rules.specs.Calls.{load_call};
 ghost use Rattle.tables.specs.Answers.{worked_outcome};
 ghost use Rattle.tables.specs.Lent.{mesh_now};
@@ -23,7 +23,9 @@ struct Answered {
 }
 
 // Keeps the first error.
-fn note(failure: &mut io::Result<()>, outcome: io::Result<()>) {
+fn note(failure: &mut io::Result<()>, outcome: io::Result<()>)
+    ensures { failure.new ≡ (if is_ok failure.old then outcome else failure.old) }
+{
     if failure.is_ok() {
         *failure = outcome;
     }

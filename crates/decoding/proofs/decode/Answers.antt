@@ -1,0 +1,22 @@
+-- `decoding::decode` meets its contract: the first i numbers are written.
+use borrow.Author.Rules.{rules}
+use native.Mathlib.Omega.{arith}
+use mathlib.Core.Path.{◌≡◌}
+use lib.ListN.{length-set}
+use Rattle.theory.proofs.Numbers.Fill.{fill_more}
+use Rattle.rules.specs.Below.{fill}
+use Rattle.decoding.proofs.decode.Goals as goal
+
+pub loop-i-init : goal.loop-i-init
+unfolding fill
+loop-i-init c =
+    search rules
+
+pub loop-i-preserved : goal.loop-i-preserved
+loop-i-preserved c =
+    (omega arith, simp length-set c.loop-i.invariant.1, fill_more _ _ _ c.loop-i.invariant.2 c.number_at.ensures)
+
+pub returns : goal.returns
+returns c =
+    let e : c.loop-i.i ≡ c.args.count = omega arith in
+    rw e at c.loop-i.invariant.2

@@ -1,0 +1,22 @@
+-- `decoding::writing::clear` meets its contract: the first i are 0.
+use borrow.Author.Rules.{rules}
+use native.Mathlib.Omega.{arith}
+use mathlib.Core.Path.{◌≡◌, refl}
+use lib.ListN.{length-set}
+use Rattle.theory.proofs.Numbers.Fill.{fill_more}
+use Rattle.rules.specs.Below.{fill}
+use Rattle.decoding.proofs.writing.clear.Goals as goal
+
+pub loop-i-init : goal.loop-i-init
+unfolding fill
+loop-i-init c =
+    search rules
+
+pub loop-i-preserved : goal.loop-i-preserved
+loop-i-preserved c =
+    (omega arith, simp length-set c.loop-i.invariant.1, fill_more _ _ _ c.loop-i.invariant.2 refl)
+
+pub returns : goal.returns
+returns c =
+    let e : c.loop-i.i ≡ c.args.count = omega arith in
+    rw e at c.loop-i.invariant.2

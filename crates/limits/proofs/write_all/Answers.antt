@@ -1,0 +1,92 @@
+-- `limits::write_all` meets its contract.
+use Prim.Native.Nat.{ℕ, ◌+◌, ◌*◌, ◌/◌, ◌%◌, ◌<◌}
+use native.Mathlib.Omega.{arith}
+use mathlib.Core.List.{List}
+use mathlib.Core.Path.{◌≡◌, refl}
+use lib.IntN.{ℤ, pos}
+use lib.ListN.{get_or}
+use Rattle.points.specs.Axes.{limit_point}
+use Rattle.points.specs.declared.Point.{Point}
+use Rattle.theory.proofs.Numbers.Fill.{fill_three}
+use Rattle.rules.specs.Below.{fill}
+use Rattle.rules.specs.Numbers.{limit}
+use Rattle.rules.specs.Step.{limit_coordinate, limit_positions}
+use Rattle.rules.specs.Tables.{Mesh}
+use Rattle.tables.specs.Lent.{point_in, put_point}
+use Rattle.moving.specs.Moves.{Movable}
+use Rattle.limits.proofs.write_all.Goals as goal
+
+-- The limits as the table has them.
+abbrev limit_at : Mesh → ℕ → ℤ
+limit_at m i = limit_coordinate m (i / 3) (i % 3)
+
+-- The next vertex, v.
+module _ {n rule v : ℕ} {m : Mesh} {positions : List ℤ} {lengths : List ℕ} {sums : List ℤ}
+    (M : Movable n rule m positions lengths sums) (b : v < n) where
+  limit_of : (k : ℕ) → k < 3
+      → limit rule (get_or lengths v 0) (get_or positions (3 * v + k) (pos 0)) (get_or sums (3 * v + k) (pos 0))
+      ≡ limit_at m (3 * v + k)
+  unfolding limit_coordinate
+  limit_of k i =
+      let R = M.rings in
+      let u : v < m.topology.vertices = omega (arith, M.all) in
+      let d : (3 * v + k) / 3 ≡ v = omega arith in
+      let r : (3 * v + k) % 3 ≡ k = omega arith in
+      rw (d, r, M.rule, M.old (3 * v + k) (omega arith), R.long v u, R.sum v k u i, limit_coordinate)
+
+  one_written : (p s q : Point) (before : List ℤ) {l l' : List ℤ} → l ≡ fill (3 * v) (limit_at m) before
+      → p ≡ point_in positions v → s ≡ point_in sums v → q ≡ limit_point rule (get_or lengths v 0) p s → l' ≡ put_point v q l
+      → l' ≡ fill (3 * (v + 1)) (limit_at m) before
+  one_written p s q before el ep es eq put =
+      let x = limit_of 0 (omega arith) in
+      let y = limit_of 1 (omega arith) in
+      let z = limit_of 2 (omega arith) in
+      rw (fill_three v (limit_at m) before, put, eq, ep, es, el, x, y, z)
+
+pub loop-v-init : goal.loop-v-init
+unfolding fill
+loop-v-init c =
+    (omega arith, refl, λ m M. refl)
+
+pub bounds-lengths-v : goal.bounds-lengths-v
+bounds-lengths-v c =
+    let in_use_lem : c.loop-v.v < c.requires.0.0.topology.vertices = omega (arith, c.requires.0.1.all, c.loop-v-test.true) in
+    omega (arith, in_use_lem, c.requires.0.1.rings.length_room)
+
+pub overflow_cast-n-in-loop-v : goal.overflow_cast-n-in-loop-v
+overflow_cast-n-in-loop-v c =
+    let in_use_lem : c.loop-v.v < c.requires.0.0.topology.vertices = omega (arith, c.requires.0.1.all, c.loop-v-test.true) in
+    omega (arith, c.requires.0.1.rings.few c.loop-v.v in_use_lem)
+
+pub point_in-p-requires : goal.point_in-p-requires
+point_in-p-requires c =
+    omega (arith, c.requires.0.1.room, c.loop-v-test.true)
+
+pub point_in-sum-requires : goal.point_in-sum-requires
+point_in-sum-requires c =
+    let in_use_lem : c.loop-v.v < c.requires.0.0.topology.vertices = omega (arith, c.requires.0.1.all, c.loop-v-test.true) in
+    omega (arith, in_use_lem, c.requires.0.1.rings.sum_room)
+
+pub limit-requires : goal.limit-requires
+limit-requires c =
+    let in_use_lem : c.loop-v.v < c.requires.0.0.topology.vertices = omega (arith, c.requires.0.1.all, c.loop-v-test.true) in
+    (c.requires.0.1.rings.some c.loop-v.v in_use_lem, c.requires.0.1.rings.few c.loop-v.v in_use_lem)
+
+pub store_point-requires : goal.store_point-requires
+store_point-requires c =
+    omega (arith, c.requires.1, c.loop-v.invariant.1, c.loop-v-test.true)
+
+pub loop-v-preserved : goal.loop-v-preserved
+loop-v-preserved c = (
+  omega arith,
+  omega (arith, c.store_point.auto, c.loop-v.invariant.1),
+  λ m M.
+      one_written M c.loop-v-test.true _ _ _ _ (c.loop-v.invariant.2 m M) c.point_in-p.ensures
+      c.point_in-sum.ensures c.limit.ensures c.store_point.ensures,
+)
+
+pub returns : goal.returns
+unfolding limit_positions
+returns c m M =
+    let e : c.loop-v.v ≡ m.topology.vertices = omega (arith, M.all) in
+    rw e at (c.loop-v.invariant.2 m M)

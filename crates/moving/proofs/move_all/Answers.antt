@@ -1,0 +1,91 @@
+-- `moving::move_all` meets its contract: when a vertex is moved, it stands where it stood.
+use Prim.Native.Nat.{ℕ, ◌+◌, ◌*◌, ◌<◌}
+use native.Mathlib.Numerals.{add-one}
+use native.Mathlib.Omega.{arith}
+use mathlib.Core.List.{List}
+use mathlib.Core.Path.{◌≡◌, refl}
+use lib.IntN.{ℤ, pos}
+use lib.ListN.{get_or}
+use Rattle.points.specs.Axes.{moved_point}
+use Rattle.points.specs.declared.Point.{Point}
+use Rattle.theory.proofs.Steps.StepPositions.{move_else, move_next}
+use Rattle.rules.specs.Numbers.{moved}
+use Rattle.rules.specs.Step.{moved_coordinate, move_vertices}
+use Rattle.rules.specs.Tables.{Mesh}
+use Rattle.tables.specs.Lent.{point_in, put_point}
+use Rattle.moving.specs.Moves.{Movable}
+use Rattle.moving.proofs.move_all.Goals as goal
+
+-- The next vertex moved, v.
+module _ {n rule v : ℕ} {m : Mesh} {positions : List ℤ} {lengths : List ℕ} {sums : List ℤ}
+    (M : Movable n rule m positions lengths sums) (b : v < n) where
+  goes_to : (k : ℕ) → k < 3
+      → moved rule (get_or lengths v 0) (get_or (move_vertices v m positions) (3 * v + k) (pos 0))
+      (get_or sums (3 * v + k) (pos 0))
+      ≡ moved_coordinate m v k
+  unfolding moved_coordinate
+  goes_to k i =
+      let R = M.rings in
+      let u : v < m.topology.vertices = omega (arith, M.all) in
+      let e = move_else v m positions (3 * v + k) (omega arith) in
+      rw (e, M.rule, M.old (3 * v + k) (omega arith), R.long v u, R.sum v k u i, moved_coordinate)
+
+  one_moved : (p s q : Point) {l l' : List ℤ} → l ≡ move_vertices v m positions
+      → p ≡ point_in l v → s ≡ point_in sums v → q ≡ moved_point rule (get_or lengths v 0) p s → l' ≡ put_point v q l
+      → l' ≡ move_vertices (v + 1) m positions
+  one_moved p s q el ep es eq put =
+      let x = goes_to 0 (omega arith) in
+      let y = goes_to 1 (omega arith) in
+      let z = goes_to 2 (omega arith) in
+      rw (add-one v, move_next, put, eq, ep, es, el, x, y, z)
+
+pub loop-v-init : goal.loop-v-init
+unfolding move_vertices
+loop-v-init c =
+    (omega arith, refl, λ m M. refl)
+
+pub bounds-lengths-v : goal.bounds-lengths-v
+bounds-lengths-v c =
+    let in_use_lem : c.loop-v.v < c.requires.0.topology.vertices = omega (arith, c.requires.1.all, c.loop-v-test.true) in
+    omega (arith, in_use_lem, c.requires.1.rings.length_room)
+
+pub overflow_cast-n-in-loop-v : goal.overflow_cast-n-in-loop-v
+overflow_cast-n-in-loop-v c =
+    let in_use_lem : c.loop-v.v < c.requires.0.topology.vertices = omega (arith, c.requires.1.all, c.loop-v-test.true) in
+    omega (arith, c.requires.1.rings.few c.loop-v.v in_use_lem)
+
+pub point_in-p-requires : goal.point_in-p-requires
+point_in-p-requires c =
+    omega (arith, c.requires.1.room, c.loop-v.invariant.1, c.loop-v-test.true)
+
+pub point_in-sum-requires : goal.point_in-sum-requires
+point_in-sum-requires c =
+    let in_use_lem : c.loop-v.v < c.requires.0.topology.vertices = omega (arith, c.requires.1.all, c.loop-v-test.true) in
+    omega (arith, in_use_lem, c.requires.1.rings.sum_room)
+
+pub moved-requires : goal.moved-requires
+moved-requires c =
+    let in_use_lem : c.loop-v.v < c.requires.0.topology.vertices = omega (arith, c.requires.1.all, c.loop-v-test.true) in
+    (c.requires.1.rings.some c.loop-v.v in_use_lem, c.requires.1.rings.few c.loop-v.v in_use_lem)
+
+pub store_point-requires : goal.store_point-requires
+store_point-requires c =
+    omega (arith, c.requires.1.room, c.loop-v.invariant.1, c.loop-v-test.true)
+
+pub loop-v-preserved : goal.loop-v-preserved
+loop-v-preserved c = (
+  omega arith,
+  omega (arith, c.store_point.auto, c.loop-v.invariant.1),
+  λ m M.
+      one_moved M c.loop-v-test.true _ _ _ (c.loop-v.invariant.2 m M) c.point_in-p.ensures
+      c.point_in-sum.ensures c.moved.ensures c.store_point.ensures,
+)
+
+pub shape_of-positions : goal.shape_of-positions
+shape_of-positions c =
+    c.loop-v.invariant.1
+
+pub returns : goal.returns
+returns c m M =
+    let e : c.loop-v.v ≡ c.args.vertices = omega arith in
+    rw e at (c.loop-v.invariant.2 m M)

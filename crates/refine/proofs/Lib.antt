@@ -1,0 +1,2 @@
+-- Laws of requests that the proofs cite.
+pub mod Parts
