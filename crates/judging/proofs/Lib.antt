@@ -1,2 +1,3 @@
 -- Laws that several proofs of the code cite.
 pub mod Sides
+pub mod Refusals

@@ -1,2 +1,5 @@
 -- Laws that several proofs of the code cite.
 pub mod Stamps
+pub mod Pairs
+pub mod Threading
+pub mod Links

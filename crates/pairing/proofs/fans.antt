@@ -1,0 +1,4 @@
+-- Laws that the proofs of the test of fans cite.
+pub mod Fits
+pub mod Counted
+pub mod Begun
