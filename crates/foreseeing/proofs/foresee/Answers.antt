@@ -6,8 +6,7 @@ use Rattle.tables.specs.declared.Counts.{Counts}
 use Rattle.foreseeing.specs.Foreseen.{foreseen_if}
 use Rattle.foreseeing.specs.declared.BatchForeseen.{BatchForeseen}
 use Rattle.refining.specs.declared.spares.Batch.{Batch}
-use Rattle.foreseeing.proofs.foresee.Statement.{statement}
-use Rattle.foreseeing.proofs.foresee.Tie as tie
+use Rattle.foreseeing.proofs.foresee.Goals as goal
 
 failed : (i : ℕ) (counts : Counts) (r : Batch) → i ≢ 0
     → ◌≡◌ {A = BatchForeseen} (record {
@@ -22,13 +21,10 @@ failed : (i : ℕ) (counts : Counts) (r : Batch) → i ≢ 0
 failed zero counts r z = absurd (z refl)
 failed (suc i) counts r z = refl
 
-returns : tie.Need-returns
-returns c = failed _ _ _ c.if1.true
+pub returns-then-made-ne0 : goal.returns-then-made-ne0
+returns-then-made-ne0 c =
+    failed _ _ _ c.if-made-ne0.true
 
-returns-2 : tie.Need-returns-2
-returns-2 c =
-    let args = c.before.before.before.args in
-    ap (λ (i : ℕ). foreseen_if i args.counts args.made) (sym c.if1.false)
-
-pub foresee-spec : {M : Type 1} → statement M
-foresee-spec = tie.close (tie.spec returns returns-2)
+pub returns : goal.returns
+returns c =
+    ap (λ (i : ℕ). foreseen_if i c.args.counts c.args.made) (sym c.if-made-ne0.false)
