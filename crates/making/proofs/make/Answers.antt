@@ -2,7 +2,6 @@
 use mathlib.Core.Logic.{inl, inr}
 use mathlib.Core.Path.{refl}
 use Rattle.making.proofs.Calling.{list_is, box_is, back_is, room_for_numbers, sizes, made, made_as}
-use borrow.Author.Rules.{rules}
 use Rattle.making.proofs.make.Goals as goal
 
 pub make_list-requires : goal.make_list-requires

@@ -1,6 +1,5 @@
 -- `making::make_back` meets its contract.
 use Rattle.making.proofs.Calling.{count_read}
-use borrow.Author.Rules.{rules}
 use Rattle.making.proofs.make_back.Goals as goal
 
 pub slice_bounds-take_back-end-2 : goal.slice_bounds-take_back-end-2

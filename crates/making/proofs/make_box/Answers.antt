@@ -1,7 +1,6 @@
 -- `making::make_box` meets its contract.
 use mathlib.Core.Path.{refl}
 use Rattle.making.proofs.Calling.{made_box}
-use borrow.Author.Rules.{rules}
 use Rattle.making.proofs.make_box.Goals as goal
 
 pub returns : goal.returns

@@ -1,7 +1,6 @@
 -- `making::make_list` meets its contract.
 use mathlib.Core.Path.{refl}
 use Rattle.making.proofs.Calling.{count_read, made_list}
-use borrow.Author.Rules.{rules}
 use Rattle.making.proofs.make_list.Goals as goal
 
 pub slice_bounds-refine_list_known-end-2 : goal.slice_bounds-refine_list_known-end-2

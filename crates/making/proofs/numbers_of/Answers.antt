@@ -1,5 +1,5 @@
 -- `making::numbers_of` meets its contract.
-use borrow.Author.Tests.{eqb-true, eqb-false}
+use borrow.Author.Tests.{eqb-false}
 use mathlib.Core.Logic.{inl, inr}
 use Rattle.making.proofs.Calling.{many_numbers, no_numbers}
 use Rattle.making.proofs.numbers_of.Goals as goal

@@ -1,5 +1,4 @@
 -- `making::point_at` meets its contract.
-use borrow.Author.Rules.{rules}
 use mathlib.Core.Path.{refl}
 use mir.Syntax.{w32}
 use Rattle.points.proofs.Signed.{returned}

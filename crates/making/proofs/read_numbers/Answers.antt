@@ -1,8 +1,7 @@
 -- `making::read_numbers` meets its contract: the first i numbers are read.
-use Prim.Native.Nat.{◌-◌, ◌≤◌}
 use native.Mathlib.Omega.{arith}
 use mathlib.Core.Path.{◌≡◌}
-use lib.ListN.{length, take, length-set}
+use lib.ListN.{length-set}
 use Rattle.journal.specs.Journal.{numbers_in}
 use Rattle.making.proofs.Calling.{number_put}
 use borrow.Author.Rules.{rules}

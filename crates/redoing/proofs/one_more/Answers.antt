@@ -7,7 +7,6 @@ use Rattle.rules.specs.Tables.{Mesh}
 use Rattle.tables.specs.Lent.{mesh_now, spares_now}
 use Rattle.journal.specs.Replay.{Lent}
 use Rattle.redoing.proofs.Going.{room, is_kind_lem, lent_kind, lent_room, too_many_lem, refused_next, carried_next}
-use borrow.Author.Rules.{rules}
 use Rattle.redoing.proofs.one_more.Goals as goal
 
 pub number_at-size-requires : goal.number_at-size-requires
@@ -26,7 +25,7 @@ numbers_of-requires c =
 pub returns-then-numbers-numbers_of : goal.returns-then-numbers-numbers_of
 returns-then-numbers-numbers_of c =
     too_many_lem _ _ c.requires.ready _ _ _ c.number_at-size.ensures c.number_at-kind.ensures
-    c.Numbers-of.ensures _ _ c.if-numbers-numbers_of.true refl refl refl refl refl
+    c.numbers_of.ensures _ _ c.if-numbers-numbers_of.true refl refl refl refl refl
 
 pub overflow_add-first : goal.overflow_add-first
 overflow_add-first c =
@@ -42,12 +41,12 @@ overflow_add-last c =
     let b = bytes_fit in
     omega arith
 
--- LEFT part-make-end
--- LEFT let at_size = sized (tested_first c) in
--- LEFT     let start = entry at_size in
--- LEFT     let l = room start.pre.1 in
--- LEFT     let e = at_size.number_at.ensures in
--- LEFT     omega arith
+pub slice_bounds-make-end : goal.slice_bounds-make-end
+slice_bounds-make-end c =
+    let l = room c.requires.ready in
+    let e = c.number_at-size.ensures in
+    omega arith
+
 pub make-done-requires : goal.make-done-requires
 make-done-requires c =
     let lent_of : Lent = record {
@@ -63,44 +62,41 @@ make-done-requires c =
       bad_value = c.requires.bad_value;
       body_value = (
         lent_kind lent m c.requires.ready _ _ _ c.number_at-size.ensures c.number_at-kind.ensures
-            c.Numbers-of.ensures,
+            c.numbers_of.ensures,
         lent_room lent m c.requires.ready _ _ _ c.number_at-size.ensures c.number_at-kind.ensures
-            c.Numbers-of.ensures c.if-numbers-numbers_of.false,
+            c.numbers_of.ensures c.if-numbers-numbers_of.false,
       );
     }
 
 pub returns-then-done-ne0 : goal.returns-then-done-ne0
 returns-then-done-ne0 c =
     refused_next _ _ c.requires.ready _ _ _ c.number_at-size.ensures c.number_at-kind.ensures
-    c.Numbers-of.ensures _ _ _ c.if-numbers-numbers_of.false c.make-done.ensures c.if-done-ne0.true refl refl
+    c.numbers_of.ensures _ _ _ c.if-numbers-numbers_of.false c.make-done.ensures c.if-done-ne0.true refl refl
     refl refl
 
 pub overflow_add-end : goal.overflow_add-end
 overflow_add-end c =
     let bytes_fit : length c.args.bytes.now < 2 ^ 64 = omega arith in
-    let at_size = sized c in
     let l = room c.requires.ready in
     let b = bytes_fit in
-    let e = at_size.number_at.ensures in
+    let e = c.number_at-size.ensures in
     omega arith
 
 pub slice_bounds-stop_at-count : goal.slice_bounds-stop_at-count
 slice_bounds-stop_at-count c =
-    let at_size = sized c in
     let l = room c.requires.ready in
-    let e = at_size.number_at.ensures in
+    let e = c.number_at-size.ensures in
     omega arith
 
--- LEFT part-stop-at-start
--- LEFT let at_size = sized (tested (made c.before)) in
--- LEFT     let start = entry at_size in
--- LEFT     let l = room start.pre.1 in
--- LEFT     let e = at_size.number_at.ensures in
--- LEFT     omega arith
+pub slice_bounds-stop_at-start : goal.slice_bounds-stop_at-start
+slice_bounds-stop_at-start c =
+    let l = room c.requires.ready in
+    let e = c.number_at-size.ensures in
+    omega arith
+
 pub overflow_add-result : goal.overflow_add-result
 overflow_add-result c =
     let bytes_fit : length c.args.bytes.now < 2 ^ 64 = omega arith in
-    let at_size = sized c in
     let l = room c.requires.ready in
     let b = bytes_fit in
     omega arith
@@ -108,5 +104,5 @@ overflow_add-result c =
 pub returns : goal.returns
 returns c =
     carried_next _ _ c.requires.ready _ _ _ c.number_at-size.ensures c.number_at-kind.ensures
-    c.Numbers-of.ensures _ _ _ c.if-numbers-numbers_of.false c.make-done.ensures
+    c.numbers_of.ensures _ _ _ c.if-numbers-numbers_of.false c.make-done.ensures
     c.if-done-ne0.false refl refl c.stop_at-stop.ensures refl
