@@ -1,29 +1,14 @@
 //! Takes back by notes that were altered.
 
-use crate::bench::{Bench, Outcome, difference};
+use crate::bench::{Bench, Outcome};
 use crate::cages;
 use crate::calls;
 use crate::damage::refined;
 use crate::note::{Nine, Note};
-use crate::notes::{after, noted, read, refined_with_notes, roomy_stores, standing, with_note};
+use crate::notes::{compare_altered, noted, read, refined_with_notes, roomy_stores, standing};
 use crate::picks;
 use crate::rng::Rng;
-use crate::tables::{Call, Store};
-
-/// Takes back by an altered note. If it is accepted and has the old counts, what it restores is the same.
-pub fn compare_altered(bench: &mut Bench, store: &Store, note: Vec<u32>) -> Outcome {
-    let altered = with_note(store.clone(), note);
-    let mut made = altered.clone();
-    let same_counts = altered.room.note.get(1..3) == store.room.note.get(1..3);
-    if bench.compare(&mut made, &Call::TakeBack)?.refusal == 0 && same_counts {
-        let expected = after(store.clone(), &Call::TakeBack);
-        if (&made.tables, made.counts) != (&expected.tables, expected.counts) {
-            let what = "an altered note restores another mesh".to_string();
-            return Err(difference(what, altered, &Call::TakeBack));
-        }
-    }
-    Ok(())
-}
+use crate::tables::Store;
 
 /// Each entry of notes with each of some other numbers, one at a time; one of the notes has a locked slot.
 pub fn altered(bench: &mut Bench, rng: &mut Rng) -> Outcome {

@@ -8,9 +8,6 @@ use crate::rng::Rng;
 use crate::tables::{BOUNDARY, Bounds, Call, Counts, FARTHEST, LAST_GENERATION, NOTE_ENTRIES, Service, Store, Tables};
 use crate::twin::Twin;
 
-/// Three times this number is 2 in 32 bits.
-pub const WRAPPING: u32 = 0x5555_5556;
-
 /// One call of any kind but load, for which the store gets room.
 pub fn random_call(store: &mut Store, rng: &mut Rng) -> Call {
     let call = without_report(store, rng);

@@ -116,7 +116,7 @@ pub fn counts(bench: &mut Bench, rng: &mut Rng) -> Outcome {
     for store in small_stores(rng) {
         let near = |count: u32, slots: usize| {
             let slots = slots as u32;
-            let far = [1 << 16, 1 << 31, count | 1 << 30, calls::WRAPPING, u32::MAX];
+            let far = [1 << 16, 1 << 31, count | 1 << 30, picks::WRAPPING, u32::MAX];
             [0, 1, count - 1, count, count + 1, slots - 1, slots, slots + 1].into_iter().chain(far)
         };
         for vertices in near(store.counts.vertices, store.vertex_slots()) {

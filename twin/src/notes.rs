@@ -1,7 +1,6 @@
 //! Notes of every length, altered in every entry, rearranged, used after changes of the mesh and on other meshes, late
 //! and twice, and whole histories taken back.
 
-use crate::altered_notes::compare_altered;
 use crate::bench::{Bench, Outcome, difference};
 use crate::cages;
 use crate::calls::{self, some_entries};
@@ -67,6 +66,21 @@ pub fn refined_with_notes(store: &Store, most: usize, rng: &mut Rng) -> Vec<Stor
         Twin::UNBROKEN.answer(&mut store.clone(), &refine).is_ok_and(|answer| answer.refusal == 0)
     };
     triangles.into_iter().filter(fits).take(most).map(|triangle| noted(store.clone(), triangle, rng)).collect()
+}
+
+/// Takes back by an altered note. If it is accepted and has the old counts, what it restores is the same.
+pub fn compare_altered(bench: &mut Bench, store: &Store, note: Vec<u32>) -> Outcome {
+    let altered = with_note(store.clone(), note);
+    let mut made = altered.clone();
+    let same_counts = altered.room.note.get(1..3) == store.room.note.get(1..3);
+    if bench.compare(&mut made, &Call::TakeBack)?.refusal == 0 && same_counts {
+        let expected = after(store.clone(), &Call::TakeBack);
+        if (&made.tables, made.counts) != (&expected.tables, expected.counts) {
+            let what = "an altered note restores another mesh".to_string();
+            return Err(difference(what, altered, &Call::TakeBack));
+        }
+    }
+    Ok(())
 }
 
 /// Every refine of small meshes, with notes of every length about that needed, and of no entries and few.

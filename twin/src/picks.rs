@@ -1,9 +1,11 @@
 //! Triangles, numbers and rules, chosen at random or where they matter.
 
-use crate::calls::WRAPPING;
 use crate::claims::read_chain;
 use crate::rng::Rng;
 use crate::tables::{BOUNDARY, HALF_AWAY, HALF_UP, LAST_GENERATION, NO_RULES, Store};
+
+/// Three times this number is 2 in 32 bits.
+pub const WRAPPING: u32 = 0x5555_5556;
 
 /// Rule 1 or 2.
 pub fn either_rule(rng: &mut Rng) -> u32 {
