@@ -6,7 +6,7 @@
 -- n; `(a, b, c)` is a triple, of type `A × B × C`; `r.field` is a field of a record, and `p.0` the first of a pair;
 -- `λ x. y` is the function that gives y for x; `zero` and `suc n` are 0 and n + 1; `elim n [ zero ↦ x | suc k ↦ y ]` is
 -- x where n is 0, and else y, in which k is n - 1; `/` rounds down, and `%` is the remainder; `pos n` is n and `negsuc
--- n` is -1 - n. Tests: `eqb`, `ltb`, `leb` test =, <, ≤, and `leZ` tests ≤ of whole numbers with a sign, which `≤ℤ`
+-- n` is -1 - n. Tests: `eqb`, `ltb`, `leb` test =, <, ≤, and `le_z` tests ≤ of whole numbers with a sign, which `≤ℤ`
 -- states; `&&`, `||`, `not` are "and", "or", "not"; `elim b [ true ↦ x | false ↦ y ]` is x or y by the test b.
 -- Statements: `T b` says that b is true; `≡` is "equal" and `≢` "different"; `A × B` is "and", `A ⊎ B` "or", `¬ A`
 -- "not", `A → B` "if A then B", `(x : A) → B` "for every x", `(x : A) × B` "some x with B"; `Unit {0}` always holds; a

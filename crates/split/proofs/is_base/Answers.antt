@@ -1,4 +1,4 @@
--- `split::of_base` meets its contract.
+-- `split::is_base` meets its contract.
 use borrow.Author.Tests.{ne_eqb}
 use Rattle.split.proofs.is_base.Goals as goal
 

@@ -1,4 +1,4 @@
--- `tables::point_at_lem` meets its contract.
+-- `tables::point_at` meets its contract.
 use borrow.Author.Rules.{sfits_of}
 use Prim.Native.Nat.{ℕ, ◌+◌, ◌*◌}
 use native.Mathlib.Nat.{add-zero}
