@@ -71,19 +71,11 @@ module _ {m : Mesh} (C : Closed m) where
 
 pub loop-t-init : goal.loop-t-init
 loop-t-init c =
-    (omega arith, refl, refl, none_summed c.requires.cleared)
+    none_summed c.requires.cleared
 
 pub add_triangle-requires : goal.add_triangle-requires
 add_triangle-requires c =
-    (summable c.requires.by_index.3, c.loop-t-test.true, c.loop-t.invariant.3)
-
-pub shape_of-lengths-then-not-add_triangle : goal.shape_of-lengths-then-not-add_triangle
-shape_of-lengths-then-not-add_triangle c =
-    omega (arith, c.add_triangle.auto, c.loop-t.invariant.1)
-
-pub shape_of-sums-then-not-add_triangle : goal.shape_of-sums-then-not-add_triangle
-shape_of-sums-then-not-add_triangle c =
-    omega (arith, c.add_triangle.auto, c.loop-t.invariant.2)
+    (summable c.requires.by_index.3, c.loop-t-test.true, c.loop-t.invariant)
 
 pub returns-then-not-add_triangle : goal.returns-then-not-add_triangle
 returns-then-not-add_triangle c l g k C =
@@ -93,22 +85,10 @@ returns-then-not-add_triangle c l g k C =
     }
 
 pub loop-t-preserved : goal.loop-t-preserved
-loop-t-preserved c = (
-  omega arith,
-  omega (arith, c.add_triangle.auto, c.loop-t.invariant.1),
-  omega (arith, c.add_triangle.auto, c.loop-t.invariant.2),
-  c.add_triangle.ensures.whole c.if-not-add_triangle.false,
-)
-
-pub shape_of-lengths : goal.shape_of-lengths
-shape_of-lengths c =
-    c.loop-t.invariant.1
-
-pub shape_of-sums : goal.shape_of-sums
-shape_of-sums c =
-    c.loop-t.invariant.2
+loop-t-preserved c =
+    c.add_triangle.ensures.whole c.if-not-add_triangle.false
 
 pub returns : goal.returns
 returns c l g k C =
     let e : c.loop-t.t ≡ c.args.counts.triangles = omega arith in
-    record { whole = λ _. ring_sums C (rw e at c.loop-t.invariant.3); crowded = λ q. absurd (subst T q tt) }
+    record { whole = λ _. ring_sums C (rw e at c.loop-t.invariant); crowded = λ q. absurd (subst T q tt) }
