@@ -59,6 +59,7 @@ fn kinds_fit(g: u8, i: usize, h: u8, j: usize) -> bool
 }
 
 // Whether three corners are vertices in use, no two the same.
+#[tactic(auto, unfolding(crate::specs::Parts::corners_fit))]
 fn corners_fit(vertices: u32, a: u32, b: u32, c: u32) -> bool
     ensures { result ≡ corners_fit vertices a b c }
 {
@@ -82,6 +83,7 @@ fn corners_fit(vertices: u32, a: u32, b: u32, c: u32) -> bool
 
 // Whether side k links back to side h and starts where h ends, and the two are of a fitting kind. Each side of a pair
 // judges the other so: to leave one out would save less than the branch costs.
+#[tactic(auto, unfolding(crate::specs::Parts::partner_fits))]
 fn partner_fits(
     corners: &[u32],
     links: &[u32],
@@ -92,9 +94,9 @@ fn partner_fits(
     to: u32,
     k: usize,
 ) -> bool
-    requires generations_len_bound { (length generations.now ≤ 65536) × (3 * length generations.now ≤ length corners.now)
+    requires room { (length generations.now ≤ 65536) × (3 * length generations.now ≤ length corners.now)
         × (3 * length generations.now ≤ length links.now) }
-    requires h_bound { (h < 3 * length generations.now) × (k < 3 * length generations.now) }
+    requires in_use { (h < 3 * length generations.now) × (k < 3 * length generations.now) }
     ensures { (v f from : ℕ) → SideRead corners.now generations.now h i g from to
         → result ≡ partner_fits
         (topology_of v f corners.now links.now generations.now) h k }
@@ -119,6 +121,7 @@ fn first_kept(start: u32, h: u32) -> u32
 
 // Whether side h, in place i of a triangle of generation g and between these vertices, is on the boundary or has a
 // fitting partner. The start of the vertex that it goes out of is kept.
+#[tactic(auto, unfolding(crate::specs::Parts::link_fits))]
 fn side_fits(
     corners: &[u32],
     links: &[u32],
@@ -138,7 +141,7 @@ fn side_fits(
     ensures value { result ≡ link_fits
         (topology_of vertices triangles corners.now links.now generations.now)
         h }
-    ensures all_kept_2 { result ≡ true
+    ensures kept_after { result ≡ true
         → AllKept vertices corners.now links.now (h + 1) starts.new }
 {
     let v = from as usize;
@@ -158,6 +161,7 @@ fn side_fits(
 
 // Whether triangle t is of generation 20 at most, with three vertices in use for corners and links that fit. The starts
 // of its corners are kept.
+#[tactic(auto, unfolding(crate::specs::Parts::triangle_fits))]
 fn triangle_fits(
     corners: &[u32],
     links: &[u32],
@@ -172,7 +176,7 @@ fn triangle_fits(
     ensures value { result ≡ triangle_fits
         (topology_of vertices triangles corners.now links.now generations.now)
         t }
-    ensures all_kept_2 { result ≡ true
+    ensures kept_after { result ≡ true
         → AllKept vertices corners.now links.now (3 * t + 3) starts.new }
 {
     let g = generations[t];
