@@ -16,6 +16,7 @@ use tables::Counts;
 mod surface;
 
 // Whether the tables agree in their slots and keep to the maxima. The counts do not matter.
+#[tactic(auto, unfolding(rules::specs::Tables::tables_agree))]
 pub fn tables_agree(
     positions: &[i32],
     corners: &[u32],
@@ -101,6 +102,7 @@ fn locks_fit(locks: &[u8], n: usize) -> bool
 
 // One more than the side where the ring of v starts, or than the number of sides, where v has no ring; 0 where the
 // tables are not sound.
+#[tactic(auto, using(crate::proofs::Parts::parts))]
 pub fn sound_start(
     positions: &[i32],
     corners: &[u32],

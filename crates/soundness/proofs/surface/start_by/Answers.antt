@@ -57,64 +57,41 @@ module _ (m : Topology) (G : Glued m) (fans : all m.vertices (has_one_fan m) ≡
           omega arith
       go (no n) = absurd (K.begun.none (omega arith) F.first F.in_use F.out)
 
-pub returns-then-not-triangles_fit : goal.returns-then-not-triangles_fit
-returns-then-not-triangles_fit c =
-    let none = sym c.triangles_fit.ensures.value ∙ c.if-not-triangles_fit.true in rw none refl
+-- What is known once the triangles fit.
+module _ (m : Topology) (few : sides m < boundary) (fitted : all m.triangles (triangle_fits m) ≡ true) where
+  triangles : (t : ℕ) → t < m.triangles → TriangleFits m t
+  triangles = when_true (triangles_are m) fitted
 
-pub fans-requires : goal.fans-requires
-fans-requires c =
-    let topology : Topology = topology_of c.args.vertices c.args.triangles c.args.corners.now c.args.links.now c.args.generations.now in
-    let starts_kept : let m = topology in
-    AllKept m.vertices m.corners m.links (sides m) c.triangles_fit.new.starts = c.triangles_fit.ensures.all_kept c.if-not-triangles_fit.false in
-    let A = starts_kept in
-    record {
-      few_vertices = c.requires.room.1;
-      few_triangles = omega (arith, c.requires.room.0.few_slots, c.requires.room.0.triangle_room);
-      link_room = omega (arith, c.requires.room.0.link_room, c.requires.room.0.triangle_room);
-      start_room = A.size;
-      in_use = λ v l. (A.each v l).begun.in_use;
-    }
+  corner : CornersInUse m.vertices (sides m) m.corners
+  corner h l = (sound_side_lem m few triangles h l).corner
+
+  glued : Glued m
+  glued = sides_glued m few triangles
 
 pub returns-then-not-fans : goal.returns-then-not-fans
 returns-then-not-fans c =
-    let topology : Topology = topology_of c.args.vertices c.args.triangles c.args.corners.now c.args.links.now c.args.generations.now in
-    let fitted : let m = topology in all m.triangles (triangle_fits m) ≡ true = sym c.triangles_fit.ensures.value ∙ c.if-not-triangles_fit.false in
-    let few : sides topology < boundary = omega (arith, c.requires.room.0.few_slots, c.requires.room.0.triangle_room) in
-    let triangles : let m = topology in (t : ℕ) → t < m.triangles → TriangleFits m t = when_true (triangles_are topology) fitted in
-    let corner : let m = topology in CornersInUse m.vertices (sides m) m.corners = λ h l. (sound_side_lem topology few triangles h l).corner in
-    let starts_kept : let m = topology in
-    AllKept m.vertices m.corners m.links (sides m) c.triangles_fit.new.starts = c.triangles_fit.ensures.all_kept c.if-not-triangles_fit.false in
-    let glued : Glued topology = sides_glued topology few triangles in
-    let told : let m = topology in
-    c.fans.result ≡ all m.vertices (has_one_fan m) = c.fans.ensures _ corner (all_begun starts_kept) _ glued in
-    rw (fitted, (sym told ∙ c.if-not-fans.true)) refl
+    let m : Topology = topology_of c.args.vertices c.args.triangles c.args.corners.now c.args.links.now c.args.generations.now in
+    let few : sides m < boundary = omega (arith, c.requires.room.0.few_slots, c.requires.room.0.triangle_room) in
+    let fitted : all m.triangles (triangle_fits m) ≡ true = sym c.triangles_fit.ensures.value ∙ c.if-not-triangles_fit.false in
+    let starts = c.triangles_fit.ensures.all_kept c.if-not-triangles_fit.false in
+    let told = c.fans.ensures _ (corner m few fitted) (all_begun starts) _ (glued m few fitted) in
+    rw (fitted, sym told ∙ c.if-not-fans.true) refl
 
 pub returns-then-vertices-v : goal.returns-then-vertices-v
 returns-then-vertices-v c =
-    let topology : Topology = topology_of c.args.vertices c.args.triangles c.args.corners.now c.args.links.now c.args.generations.now in
-    let few : sides topology < boundary = omega (arith, c.requires.room.0.few_slots, c.requires.room.0.triangle_room) in
-    let fitted : let m = topology in all m.triangles (triangle_fits m) ≡ true = sym c.triangles_fit.ensures.value ∙ c.if-not-triangles_fit.false in
-    let triangles : let m = topology in (t : ℕ) → t < m.triangles → TriangleFits m t = when_true (triangles_are topology) fitted in
-    let corner : let m = topology in CornersInUse m.vertices (sides m) m.corners = λ h l. (sound_side_lem topology few triangles h l).corner in
-    let starts_kept : let m = topology in
-    AllKept m.vertices m.corners m.links (sides m) c.triangles_fit.new.starts = c.triangles_fit.ensures.all_kept c.if-not-triangles_fit.false in
-    let glued : Glued topology = sides_glued topology few triangles in
-    let told : let m = topology in
-    c.fans.result ≡ all m.vertices (has_one_fan m) = c.fans.ensures _ corner (all_begun starts_kept) _ glued in
-    let yes-all = sym told ∙ c.if-not-fans.false in
-    rw (fitted, yes-all) (past _ _ corner c.if-vertices-v.true)
+    let m : Topology = topology_of c.args.vertices c.args.triangles c.args.corners.now c.args.links.now c.args.generations.now in
+    let few : sides m < boundary = omega (arith, c.requires.room.0.few_slots, c.requires.room.0.triangle_room) in
+    let fitted : all m.triangles (triangle_fits m) ≡ true = sym c.triangles_fit.ensures.value ∙ c.if-not-triangles_fit.false in
+    let starts = c.triangles_fit.ensures.all_kept c.if-not-triangles_fit.false in
+    let told = c.fans.ensures _ (corner m few fitted) (all_begun starts) _ (glued m few fitted) in
+    rw (fitted, sym told ∙ c.if-not-fans.false) (past _ _ (corner m few fitted) c.if-vertices-v.true)
 
 pub returns : goal.returns
 returns c =
-    let topology : Topology = topology_of c.args.vertices c.args.triangles c.args.corners.now c.args.links.now c.args.generations.now in
-    let few : sides topology < boundary = omega (arith, c.requires.room.0.few_slots, c.requires.room.0.triangle_room) in
-    let fitted : let m = topology in all m.triangles (triangle_fits m) ≡ true = sym c.triangles_fit.ensures.value ∙ c.if-not-triangles_fit.false in
-    let triangles : let m = topology in (t : ℕ) → t < m.triangles → TriangleFits m t = when_true (triangles_are topology) fitted in
-    let corner : let m = topology in CornersInUse m.vertices (sides m) m.corners = λ h l. (sound_side_lem topology few triangles h l).corner in
-    let starts_kept : let m = topology in
-    AllKept m.vertices m.corners m.links (sides m) c.triangles_fit.new.starts = c.triangles_fit.ensures.all_kept c.if-not-triangles_fit.false in
-    let glued : Glued topology = sides_glued topology few triangles in
-    let told : let m = topology in
-    c.fans.result ≡ all m.vertices (has_one_fan m) = c.fans.ensures _ corner (all_begun starts_kept) _ glued in
-    let yes-all = sym told ∙ c.if-not-fans.false in
-    rw (fitted, yes-all) (kept _ glued yes-all _ _ starts_kept c.if-vertices-v.false)
+    let m : Topology = topology_of c.args.vertices c.args.triangles c.args.corners.now c.args.links.now c.args.generations.now in
+    let few : sides m < boundary = omega (arith, c.requires.room.0.few_slots, c.requires.room.0.triangle_room) in
+    let fitted : all m.triangles (triangle_fits m) ≡ true = sym c.triangles_fit.ensures.value ∙ c.if-not-triangles_fit.false in
+    let starts = c.triangles_fit.ensures.all_kept c.if-not-triangles_fit.false in
+    let told = c.fans.ensures _ (corner m few fitted) (all_begun starts) _ (glued m few fitted) in
+    let one_fan = sym told ∙ c.if-not-fans.false in
+    rw (fitted, one_fan) (kept _ (glued m few fitted) one_fan _ _ starts c.if-vertices-v.false)
