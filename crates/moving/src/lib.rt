@@ -37,6 +37,7 @@ fn all_of(generations: &[u8], n: usize, g: u8) -> bool
 }
 
 // Whether no side is on the boundary and all triangles are of one even generation.
+#[tactic(auto, unfolding(rules::specs::Calls::closed_even))]
 pub fn closed_even(links: &[u32], generations: &[u8], triangles: u32) -> bool
     requires { (triangles ≤ 65536) × (3 * triangles ≤ length links.now) × (triangles ≤ length generations.now) }
     ensures { (v : ℕ) (c : List ℕ) →
