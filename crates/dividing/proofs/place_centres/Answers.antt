@@ -1,10 +1,10 @@
 -- `dividing::place_centres` meets its contract: the corners of a triangle still stand where they stood.
 use Prim.Native.Nat.{ℕ, ◌+◌, ◌*◌, ◌/◌, ◌<◌}
 use native.Mathlib.Omega.{arith}
-use mathlib.Core.List.{List, []}
+use mathlib.Core.List.{List}
 use mathlib.Core.Path.{◌≡◌, refl, ap, ◌∙◌}
 use lib.IntN.{ℤ, pos}
-use lib.ListN.{length, get_or}
+use lib.ListN.{get_or}
 use Rattle.points.specs.Axes.{each_axis}
 use Rattle.points.specs.declared.Point.{Point}
 use Rattle.theory.proofs.Links.Rows.{put_rows, rows_more}
@@ -13,7 +13,7 @@ use Rattle.rules.specs.Split.{centre}
 use Rattle.rules.specs.Tables.{Mesh, with_positions, origin, coordinate}
 use Rattle.tables.specs.declared.Counts.{Counts}
 use Rattle.tables.specs.Lent.{mesh_now, put_point}
-use Rattle.dividing.proofs.ChildRows.{few_vertices, corner_room, length_placed}
+use Rattle.dividing.proofs.ChildRows.{corner_room}
 use Rattle.dividing.proofs.place_centres.Goals as goal
 
 none_placed : (m : Mesh) → m.positions ≡ with_centres 0 m
@@ -56,16 +56,6 @@ centre_in-p-requires c =
       omega (arith, R.sound.corner (3 * c.loop-t.t + 1) (omega arith)),
       omega (arith, R.sound.corner (3 * c.loop-t.t + 2) (omega arith)),
     )
-
-pub overflow_add-v : goal.overflow_add-v
-overflow_add-v c =
-    let (_, _, _, R) = c.requires in
-    omega (arith, few_vertices _ R, c.loop-t-test.true)
-
-pub store_point-requires : goal.store_point-requires
-store_point-requires c =
-    let (_, _, _, R) = c.requires in
-    omega (arith, R.room.vertices, c.loop-t-test.true)
 
 pub loop-t-preserved : goal.loop-t-preserved
 loop-t-preserved c = λ l g k rule.

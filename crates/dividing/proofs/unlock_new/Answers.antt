@@ -1,10 +1,8 @@
 -- `dividing::unlock_new` meets its contract.
-use Prim.Native.Nat.{ℕ, zero, suc, ◌+◌, ◌*◌}
+use Prim.Native.Nat.{ℕ, ◌+◌, ◌*◌}
 use native.Mathlib.Numerals.{add-one}
-use native.Mathlib.Omega.{arith}
 use mathlib.Core.List.{List}
-use mathlib.Core.Path.{◌≡◌, refl, ap, ◌∙◌}
-use lib.ListN.{length, length-set}
+use mathlib.Core.Path.{◌≡◌, refl}
 use Rattle.theory.proofs.Steps.Closed.{unlocked_new}
 use Rattle.rules.specs.Split.{new_unlocked}
 use Rattle.dividing.proofs.unlock_new.Goals as goal
@@ -22,8 +20,3 @@ loop-t-init c =
 pub loop-t-preserved : goal.loop-t-preserved
 loop-t-preserved c =
     one_more _ _ _ c.loop-t.invariant c.unlock_two.ensures
-
-pub returns : goal.returns
-returns c =
-    let e : c.loop-t.t ≡ c.args.f = omega arith in
-    rw e at c.loop-t.invariant

@@ -1,10 +1,8 @@
 -- `dividing::write_all` meets its contract.
-use Prim.Native.Nat.{◌*◌}
 use native.Mathlib.Omega.{arith}
 use mathlib.Core.List.{[]}
-use mathlib.Core.Path.{◌≡◌, refl, ap, ◌∙◌}
-use lib.ListN.{length}
-use Rattle.theory.proofs.Links.Rows.{put_rows, length_rows}
+use mathlib.Core.Path.{◌≡◌, refl}
+use Rattle.theory.proofs.Links.Rows.{put_rows}
 use Rattle.theory.proofs.Steps.Children.{child_of}
 use Rattle.theory.proofs.Steps.Closed.{child_corners, child_links}
 use Rattle.tables.specs.Lent.{mesh_now, topology_now}
