@@ -60,13 +60,11 @@ fn write_all(
         Movable vertices rule m positions.now lengths.now sums.now
         → table.new ≡ limit_positions m table.old }
 {
-    let mut v: u32 = 0;
-    while v < vertices {
+    for v in 0..vertices {
         let n = lengths[v as usize] as usize;
         let p = tables::point_in(positions, v);
         let sum = tables::point_in(sums, v);
         tables::store_point(table, v, p.limit(rule, n, sum));
-        v += 1;
     }
 }
 
@@ -112,8 +110,8 @@ fn limits_by(
     0
 }
 
-// The same for up to 128 vertices.
-fn limits_within_128(
+// The same for up to N vertices, of which there are no more than 32,768, with room for the S sums on their axes.
+fn limits_within<const N: usize, const S: usize>(
     positions: &[i32],
     corners: &[u32],
     links: &[u32],
@@ -121,75 +119,16 @@ fn limits_within_128(
     counts: Counts,
     table: &mut [i32],
 ) -> u32
-    requires { ((k : List ℕ) × Sound (mesh_now counts positions.now corners.now links.now generations.now k))
-        × (counts.vertices ≤ 128) }
+    requires sound { (k : List ℕ)
+        × Sound (mesh_now counts positions.now corners.now links.now generations.now k) }
+    requires slots { (counts.vertices ≤ N) × (N ≤ 32768) × (S ≡ 3 * N) }
     ensures { (k : List ℕ) →
         let m = mesh_now counts positions.now corners.now links.now
         generations.now k in
         Sound m → table_outcome result m table.new ≡ limit_call table.old m }
 {
-    let mut lengths = [0u8; 128];
-    let mut sums = [0i32; 384];
-    limits_by(
-        positions,
-        corners,
-        links,
-        generations,
-        counts,
-        table,
-        &mut lengths,
-        &mut sums,
-    )
-}
-
-// The same for up to 2048 vertices.
-fn limits_within_2048(
-    positions: &[i32],
-    corners: &[u32],
-    links: &[u32],
-    generations: &[u8],
-    counts: Counts,
-    table: &mut [i32],
-) -> u32
-    requires { ((k : List ℕ) × Sound (mesh_now counts positions.now corners.now links.now generations.now k))
-        × (counts.vertices ≤ 2048) }
-    ensures { (k : List ℕ) →
-        let m = mesh_now counts positions.now corners.now links.now
-        generations.now k in
-        Sound m → table_outcome result m table.new ≡ limit_call table.old m }
-{
-    let mut lengths = [0u8; 2048];
-    let mut sums = [0i32; 6144];
-    limits_by(
-        positions,
-        corners,
-        links,
-        generations,
-        counts,
-        table,
-        &mut lengths,
-        &mut sums,
-    )
-}
-
-// The same for up to 32768 vertices.
-fn limits_within_32768(
-    positions: &[i32],
-    corners: &[u32],
-    links: &[u32],
-    generations: &[u8],
-    counts: Counts,
-    table: &mut [i32],
-) -> u32
-    requires { ((k : List ℕ) × Sound (mesh_now counts positions.now corners.now links.now generations.now k))
-        × (counts.vertices ≤ 32768) }
-    ensures { (k : List ℕ) →
-        let m = mesh_now counts positions.now corners.now links.now
-        generations.now k in
-        Sound m → table_outcome result m table.new ≡ limit_call table.old m }
-{
-    let mut lengths = [0u8; 32768];
-    let mut sums = [0i32; 98304];
+    let mut lengths = [0u8; N];
+    let mut sums = [0i32; S];
     limits_by(
         positions,
         corners,
@@ -219,10 +158,10 @@ pub fn limit_positions(
         Sound m → table_outcome result m table.new ≡ limit_call table.old m }
 {
     if counts.vertices <= 128 {
-        return limits_within_128(positions, corners, links, generations, counts, table);
+        return limits_within::<128, 384>(positions, corners, links, generations, counts, table);
     }
     if counts.vertices <= 2048 {
-        return limits_within_2048(positions, corners, links, generations, counts, table);
+        return limits_within::<2048, 6144>(positions, corners, links, generations, counts, table);
     }
-    limits_within_32768(positions, corners, links, generations, counts, table)
+    limits_within::<32768, 98304>(positions, corners, links, generations, counts, table)
 }
