@@ -11,8 +11,7 @@ fn with_bit(word: u64, b: u32, on: bool) -> u64
     ensures { (j : ℕ) → bit_at result j ≡ elim (eqb j b) [ true ↦ on | false ↦ bit_at word j ] }
 {
     let bit = 1u64 << b;
-    let set = word | bit;
-    if on { set } else { set ^ bit }
+    if on { word | bit } else { word & !bit }
 }
 
 // Whether i is marked in a table.
