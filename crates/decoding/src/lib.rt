@@ -53,10 +53,8 @@ pub fn decode(cage: &[u8], from: usize, count: usize, corners: &mut [u32])
     requires count_in_bounds_2 { count ≤ length corners.old }
     ensures { corners.new ≡ fill count (λ i. number_at cage.now (from + 4 * i)) corners.old }
 {
-    let mut i: usize = 0;
-    while i < count {
+    for i in 0..count {
         corners[i] = points::number_at(cage, from + 4 * i);
-        i += 1;
     }
 }
 
@@ -77,10 +75,8 @@ pub fn corners_fit(corners: &[u32], triangles: usize, vertices: u32) -> bool
     ensures { result ≡ corners_fit (decoded vertices triangles corners.now) }
 {
     let mut fit = true;
-    let mut t: usize = 0;
-    while t < triangles {
-        fit = fit & triangle_fits(corners, triangles, vertices, t);
-        t += 1;
+    for t in 0..triangles {
+        fit &= triangle_fits(corners, triangles, vertices, t);
     }
     fit
 }
@@ -91,10 +87,8 @@ pub fn coordinates_fit(cage: &[u8], count: usize) -> bool
     ensures { result ≡ all count (λ i. in_range (signed (number_at cage.now (8 + 4 * i)))) }
 {
     let mut fit = true;
-    let mut i: usize = 0;
-    while i < count {
-        fit = fit & points::in_range(points::signed_at(cage, 8 + 4 * i));
-        i += 1;
+    for i in 0..count {
+        fit &= points::in_range(points::signed_at(cage, 8 + 4 * i));
     }
     fit
 }

@@ -6,8 +6,4 @@ use Rattle.decoding.proofs.corners_fit.Given as goal
 
 abbrev pub invariant-loop-t : goal.invariant-loop-t
 invariant-loop-t l =
-    (l.t ≤ l.triangles) × (l.fit ≡ all (3 * l.t) (corner_fits l.vertices l.corners))
-
-abbrev pub decreases-loop-t : goal.decreases-loop-t
-decreases-loop-t l =
-    l.triangles - l.t
+    l.fit ≡ all (3 * l.t) (corner_fits l.vertices l.corners)

@@ -14,9 +14,9 @@ loop-i-init c =
 
 pub loop-i-preserved : goal.loop-i-preserved
 loop-i-preserved c =
-    (omega arith, simp length-set c.loop-i.invariant.1, fill_more _ _ _ c.loop-i.invariant.2 c.number_at.ensures)
+    fill_more _ _ _ c.loop-i.invariant c.number_at.ensures
 
 pub returns : goal.returns
 returns c =
     let e : c.loop-i.i ≡ c.args.count = omega arith in
-    rw e at c.loop-i.invariant.2
+    rw e at c.loop-i.invariant

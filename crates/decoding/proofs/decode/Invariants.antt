@@ -7,8 +7,4 @@ use Rattle.decoding.proofs.decode.Given as goal
 
 abbrev pub invariant-loop-i : goal.invariant-loop-i
 invariant-loop-i l =
-    (l.i ≤ l.count) × (length l.corners ≡ length l.initial.corners) × (l.corners ≡ fill l.i (λ k. number_at l.cage (l.from + 4 * k)) l.initial.corners)
-
-abbrev pub decreases-loop-i : goal.decreases-loop-i
-decreases-loop-i l =
-    l.count - l.i
+    l.corners ≡ fill l.i (λ k. number_at l.cage (l.from + 4 * k)) l.initial.corners
