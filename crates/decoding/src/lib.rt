@@ -11,13 +11,6 @@ ghost use Rattle.decoding.specs.Decoded.{decoded, triangle_fits};
 
 pub mod writing;
 
-// The same number, as wide as an index.
-pub fn wide(x: u32) -> usize
-    ensures { result ≡ x }
-{
-    x as usize
-}
-
 // Whether the cage is as long as its sizes say, and these are at least 1 and within the slots.
 // In 64 bits nothing wraps.
 pub fn sizes_fit(cage: &[u8], positions: &[i32], generations: &[u8]) -> bool
@@ -27,8 +20,8 @@ pub fn sizes_fit(cage: &[u8], positions: &[i32], generations: &[u8]) -> bool
     if cage.len() < 8 {
         return false;
     }
-    let v = wide(points::number_at(cage, 0));
-    let f = wide(points::number_at(cage, 4));
+    let v = points::number_at(cage, 0) as usize;
+    let f = points::number_at(cage, 4) as usize;
     if v < 1 {
         return false;
     }
@@ -49,8 +42,8 @@ pub fn sizes_fit(cage: &[u8], positions: &[i32], generations: &[u8]) -> bool
 
 // Writes the numbers of the bytes, from place `from` on, into the first entries.
 pub fn decode(cage: &[u8], from: usize, count: usize, corners: &mut [u32])
-    requires count_in_bounds { from + 4 * count ≤ length cage.now }
-    requires count_in_bounds_2 { count ≤ length corners.old }
+    requires numbers_in_cage { from + 4 * count ≤ length cage.now }
+    requires corner_room { count ≤ length corners.old }
     ensures { corners.new ≡ fill count (λ i. number_at cage.now (from + 4 * i)) corners.old }
 {
     for i in 0..count {

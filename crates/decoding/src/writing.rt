@@ -5,8 +5,8 @@ ghost use Rattle.rules.specs.Numbers.{number_at, signed};
 
 // The first coordinates of the cage into the positions.
 pub fn place(cage: &[u8], count: usize, positions: &mut [i32])
-    requires count_in_bounds { 8 + 4 * count ≤ length cage.now }
-    requires count_in_bounds_2 { count ≤ length positions.old }
+    requires coordinates_in_cage { 8 + 4 * count ≤ length cage.now }
+    requires position_room { count ≤ length positions.old }
     ensures { positions.new
         ≡ fill count (λ i. signed (number_at cage.now (8 + 4 * i))) positions.old }
 {

@@ -2,7 +2,6 @@
 use borrow.Author.Rules.{rules}
 use native.Mathlib.Omega.{arith}
 use mathlib.Core.Path.{◌≡◌}
-use lib.ListN.{length-set}
 use Rattle.theory.proofs.Numbers.Fill.{fill_more}
 use Rattle.rules.specs.Below.{fill}
 use Rattle.decoding.proofs.decode.Goals as goal

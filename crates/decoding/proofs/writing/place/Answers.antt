@@ -2,7 +2,6 @@
 use borrow.Author.Rules.{rules}
 use native.Mathlib.Omega.{arith}
 use mathlib.Core.Path.{◌≡◌}
-use lib.ListN.{length-set}
 use mir.Syntax.{w32}
 use Rattle.points.proofs.Signed.{returned}
 use Rattle.theory.proofs.Numbers.Fill.{fill_more}
