@@ -33,10 +33,10 @@ pair-requires c =
     } in
     record {
       readable = readable fit;
-      zeroed = c.requires.working_room.head_room;
-      triangles_in_bounds = c.requires.working_room.next_room;
-      zeroed_2 = c.requires.working_room.slot_room;
-      triangles_in_bounds_2 = c.requires.working_room.partner_room;
+      heads_zeroed = c.requires.working_room.head_room;
+      next_room = c.requires.working_room.next_room;
+      slots_zeroed = c.requires.working_room.slot_room;
+      link_room = c.requires.working_room.partner_room;
     }
 
 pub returns-then-not-pair : goal.returns-then-not-pair
