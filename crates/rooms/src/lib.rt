@@ -3,26 +3,26 @@
 
 ghost use Rattle.std.specs.Prelude.{true, ◌≡◌, ◌*◌, ◌≤◌};
 ghost use Rattle.rules.specs.Cage.{cage_of};
-ghost use Rattle.judging.specs.Answers.{Refuses, SideRoom, SidesLeft};
+ghost use Rattle.judging.specs.Answers.{refused_with, Refuses, SideRoom, SidesLeft};
 ghost use Rattle.judging.specs.Loading.{Sized};
 ghost use Rattle.rooms.specs.Within.{Within};
 
-use judging::load_by;
+use judging::{Refusal, load_by};
 
-// The refusal of a cage of up to V vertices and S sides. Where it is 0 the corners and links are written.
+// Judges a cage of up to V vertices and S sides. Where it is not refused, its corners and links are written.
 fn load_within<const V: usize, const S: usize>(
     corners: &mut [u32],
     links: &mut [u32],
     cage: &[u8],
     vertices: u32,
     triangles: u32,
-) -> u32
+) -> Result<(), Refusal>
     requires sized { Sized cage.now vertices triangles × SideRoom triangles corners.old links.old }
     requires vertices_within { vertices ≤ V }
     requires sides_within { 3 * triangles ≤ S }
     requires few { (V ≤ 32768) × (S ≤ 196608) }
-    ensures refuses { Refuses cage.now result }
-    ensures sides_left { SidesLeft (cage_of cage.now) result corners.old links.old
+    ensures refuses { Refuses cage.now (refused_with result) }
+    ensures sides_left { SidesLeft (cage_of cage.now) (refused_with result) corners.old links.old
         corners.new links.new }
 {
     let mut origins = [0u32; S];
@@ -60,10 +60,10 @@ fn load_beyond_2048(
     cage: &[u8],
     vertices: u32,
     triangles: u32,
-) -> u32
+) -> Result<(), Refusal>
     requires { Sized cage.now vertices triangles × SideRoom triangles corners.old links.old }
-    ensures refuses { Refuses cage.now result }
-    ensures sides_left { SidesLeft (cage_of cage.now) result corners.old links.old
+    ensures refuses { Refuses cage.now (refused_with result) }
+    ensures sides_left { SidesLeft (cage_of cage.now) (refused_with result) corners.old links.old
         corners.new links.new }
 {
     if within(16384, vertices, triangles) {
@@ -79,10 +79,10 @@ pub fn load_in_room(
     cage: &[u8],
     vertices: u32,
     triangles: u32,
-) -> u32
+) -> Result<(), Refusal>
     requires { Sized cage.now vertices triangles × SideRoom triangles corners.old links.old }
-    ensures refuses { Refuses cage.now result }
-    ensures sides_left { SidesLeft (cage_of cage.now) result corners.old links.old
+    ensures refuses { Refuses cage.now (refused_with result) }
+    ensures sides_left { SidesLeft (cage_of cage.now) (refused_with result) corners.old links.old
         corners.new links.new }
 {
     if within(32, vertices, triangles) {
