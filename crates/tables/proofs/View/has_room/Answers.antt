@@ -1,4 +1,4 @@
--- `tables::has_room` meets its contract.
+-- `tables::View::has_room` meets its contract.
 use borrow.Author.Tests.{le-leb, lt-leb}
 use Prim.Native.Nat.{ℕ, ◌+◌, ◌*◌, ◌≤◌, ◌<◌}
 use mathlib.Core.Bool.{true, false}
@@ -6,8 +6,8 @@ use mathlib.Core.Path.{◌≡◌, refl}
 use lib.Dec.{leb}
 use Rattle.rules.specs.Calls.{room_for}
 use Rattle.rules.specs.Tables.{Mesh, vertex_slots, triangle_slots}
-use Rattle.tables.specs.Lent.{mesh_now}
-use Rattle.tables.proofs.has_room.Goals as goal
+use Rattle.tables.specs.Lent.{mesh_in, seen}
+use Rattle.tables.proofs.View.has_room.Goals as goal
 
 module _ (v f : ℕ) (m : Mesh) where
   room_by_triangles : m.topology.vertices + v ≤ vertex_slots m
@@ -18,12 +18,12 @@ module _ (v f : ℕ) (m : Mesh) where
       → leb (m.topology.vertices + v) (vertex_slots m) ≡ room_for v f m
   no_room_lem i = let e : leb (m.topology.vertices + v) (vertex_slots m) ≡ false = lt-leb _ _ i in rw e refl
 
-pub returns-then-vertices-positions : goal.returns-then-vertices-positions
-returns-then-vertices-positions c corners links locks =
+pub returns-then-vertices-self : goal.returns-then-vertices-self
+returns-then-vertices-self c =
     room_by_triangles (c.args.splits + c.args.rim) (2 * c.args.splits)
-    (mesh_now c.args.counts c.args.positions.now corners links c.args.generations.now locks) c.if-vertices-positions.true
+    (mesh_in c.args.counts (seen c.args.self.now)) c.if-vertices-self.true
 
-pub returns-else-vertices-positions : goal.returns-else-vertices-positions
-returns-else-vertices-positions c corners links locks =
+pub returns-else-vertices-self : goal.returns-else-vertices-self
+returns-else-vertices-self c =
     no_room_lem (c.args.splits + c.args.rim) (2 * c.args.splits)
-    (mesh_now c.args.counts c.args.positions.now corners links c.args.generations.now locks) c.if-vertices-positions.false
+    (mesh_in c.args.counts (seen c.args.self.now)) c.if-vertices-self.false

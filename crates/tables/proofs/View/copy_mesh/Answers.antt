@@ -1,4 +1,4 @@
--- `tables::copies::copy_mesh` meets its contract.
+-- `tables::View::copy_mesh` meets its contract.
 use Prim.Native.Nat.{ℕ, ◌*◌}
 use mathlib.Core.List.{List}
 use mathlib.Core.Path.{◌≡◌, refl}
@@ -8,7 +8,7 @@ use Rattle.rules.specs.Below.{fill}
 use Rattle.rules.specs.Spares.{Spares, copied}
 use Rattle.rules.specs.Tables.{Mesh, sides}
 use Rattle.tables.specs.Lent.{spares_now}
-use Rattle.tables.proofs.copies.copy_mesh.Goals as goal
+use Rattle.tables.proofs.View.copy_mesh.Goals as goal
 
 -- The copy, table by table.
 each_copied : (m : Mesh) (s : Spares) {p : List ℤ} {c l g k : List ℕ}
@@ -21,7 +21,7 @@ each_copied : (m : Mesh) (s : Spares) {p : List ℤ} {c l g k : List ℕ}
 unfolding copied
 each_copied m s a b c d e = rw (a, b, c, d, e) refl
 
-pub returns : goal.returns
-returns c =
+pub returns-clause-copied : goal.returns-clause-copied
+returns-clause-copied c =
     each_copied _ _ c.copy_coordinates.ensures c.copy.ensures c.copy-2.ensures
     c.copy_bytes.ensures c.copy_bytes-2.ensures
