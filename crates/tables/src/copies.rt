@@ -8,42 +8,12 @@ ghost use Rattle.tables.specs.declared.Counts.{Counts};
 use crate::{Counts, Tables, View};
 
 // The first entries of one table into another.
-pub fn copy(from: &[u32], count: usize, to: &mut [u32])
-    requires count_in_bounds { count ≤ length from.now }
-    requires count_in_bounds_2 { count ≤ length to.old }
-    ensures { to.new ≡ fill count (λ i. get_or from.now i 0) to.old }
+pub fn copy<T: Copy>(from: &[T], count: usize, to: &mut [T])
+    requires read { count ≤ length from.now }
+    requires written { count ≤ length to.old }
+    ensures { (none : T) → to.new ≡ fill count (λ i. get_or from.now i none) to.old }
 {
-    let mut i: usize = 0;
-    while i < count {
-        to[i] = from[i];
-        i += 1;
-    }
-}
-
-// The same for coordinates.
-fn copy_coordinates(from: &[i32], count: usize, to: &mut [i32])
-    requires count_in_bounds { count ≤ length from.now }
-    requires count_in_bounds_2 { count ≤ length to.old }
-    ensures { to.new ≡ fill count (λ i. get_or from.now i (pos 0)) to.old }
-{
-    let mut i: usize = 0;
-    while i < count {
-        to[i] = from[i];
-        i += 1;
-    }
-}
-
-// The same for generations and for locks.
-fn copy_bytes(from: &[u8], count: usize, to: &mut [u8])
-    requires count_in_bounds { count ≤ length from.now }
-    requires count_in_bounds_2 { count ≤ length to.old }
-    ensures { to.new ≡ fill count (λ i. get_or from.now i 0) to.old }
-{
-    let mut i: usize = 0;
-    while i < count {
-        to[i] = from[i];
-        i += 1;
-    }
+    to[..count].copy_from_slice(&from[..count]);
 }
 
 impl View<'_> {
@@ -75,10 +45,14 @@ impl View<'_> {
     {
         let triangles = counts.triangles as usize;
         let sides = 3 * triangles;
-        copy_coordinates(self.positions, 3 * (counts.vertices as usize), spares.positions);
+        copy(
+            self.positions,
+            3 * (counts.vertices as usize),
+            spares.positions,
+        );
         copy(self.corners, sides, spares.corners);
         copy(self.links, sides, spares.links);
-        copy_bytes(self.generations, triangles, spares.generations);
-        copy_bytes(self.locks, triangles, spares.locks);
+        copy(self.generations, triangles, spares.generations);
+        copy(self.locks, triangles, spares.locks);
     }
 }

@@ -23,5 +23,5 @@ each_copied m s a b c d e = rw (a, b, c, d, e) refl
 
 pub returns-clause-copied : goal.returns-clause-copied
 returns-clause-copied c =
-    each_copied _ _ c.copy_coordinates.ensures c.copy.ensures c.copy-2.ensures
-    c.copy_bytes.ensures c.copy_bytes-2.ensures
+    each_copied _ _ (c.copy.ensures (pos 0)) (c.copy-2.ensures 0) (c.copy-3.ensures 0)
+    (c.copy-4.ensures 0) (c.copy-5.ensures 0)
