@@ -40,8 +40,17 @@ mesh_in n s = mesh_now n s.positions s.corners s.links s.generations s.locks
 abbrev pub topology_in : Counts → Spares → Topology
 topology_in n s = topology_now n s.corners s.links s.generations
 
+-- Tables of the same sizes.
+pub record SameSizes (a b : Spares) : Type 0 where
+  pub positions : length a.positions ≡ length b.positions
+  pub corners : length a.corners ≡ length b.corners
+  pub links : length a.links ≡ length b.links
+  pub generations : length a.generations ≡ length b.generations
+  pub locks : length a.locks ≡ length b.locks
+
 -- The same five tables, whatever they hold.
 pub record SameTables (a b : Tables) : Type 0 where
+  pub sizes : SameSizes (held a) (held b)
   pub positions : a.positions.ghost_name ≡ b.positions.ghost_name
   pub corners : a.corners.ghost_name ≡ b.corners.ghost_name
   pub links : a.links.ghost_name ≡ b.links.ghost_name
@@ -63,10 +72,10 @@ pub record HasSlots (n : Counts) (s : Spares) : Type 0 where
   pub locks : n.triangles ≤ length s.locks
 
 -- The triangles' tables agree in their slots and keep to the maximum.
-pub record TrianglesAgree (c l g : List ℕ) : Type 0 where
-  pub corners : length c ≡ 3 * length g
-  pub links : length l ≡ 3 * length g
-  pub few : length g ≤ 65536
+pub record TrianglesAgree (s : Spares) : Type 0 where
+  pub corners : length s.corners ≡ 3 * length s.generations
+  pub links : length s.links ≡ 3 * length s.generations
+  pub few : length s.generations ≤ 65536
 
 -- The vertices' table has three entries a slot and keeps to the maximum.
 pub record VerticesAgree (positions : List ℤ) : Type 0 where

@@ -6,7 +6,7 @@ ghost use Rattle.rules.specs.Calls.{room_for};
 ghost use Rattle.rules.specs.Split.{new_unlocked};
 ghost use Rattle.rules.specs.Tables.{put_three, relink};
 ghost use Rattle.tables.specs.declared.Counts.{Counts};
-ghost use Rattle.tables.specs.Lent.{held, seen, mesh_in, topology_in, topology_now, SameTables, SameBeside};
+ghost use Rattle.tables.specs.Lent.{held, seen, mesh_in, topology_in, topology_now, SameSizes, SameBeside};
 ghost use Rattle.tables.specs.Lent.{TrianglesAgree, VerticesAgree, triangle_at, entries, put, point_in, put_point};
 
 use points::Point;
@@ -67,8 +67,7 @@ pub struct Triangle {
 impl View<'_> {
     // The triangle in slot t.
     pub fn triangle_at(&self, t: u32) -> Triangle
-        requires { TrianglesAgree self.now.corners.now self.now.links.now self.now.generations.now
-            × (t < length self.now.generations.now) }
+        requires { TrianglesAgree (seen self.now) × (t < length self.now.generations.now) }
         ensures { (n : Counts) → result ≡ triangle_at (topology_in n (seen self.now)) t }
     {
         let slot = t as usize;
@@ -96,7 +95,8 @@ impl View<'_> {
 impl Tables<'_> {
     // The tables as they stand, for reading.
     pub fn view(&self) -> View<'_>
-        ensures { seen result ≡ held self.now }
+        ensures same { seen result ≡ held self.now }
+        ensures sizes { SameSizes (seen result) (held self.now) }
     {
         View {
             positions: self.positions,
@@ -107,10 +107,17 @@ impl Tables<'_> {
         }
     }
 
+    // The triangle in slot t.
+    pub fn triangle_at(&self, t: u32) -> Triangle
+        requires { TrianglesAgree (held self.now) × (t < length self.now.generations.now) }
+        ensures { (n : Counts) → result ≡ triangle_at (topology_in n (held self.now)) t }
+    {
+        self.view().triangle_at(t)
+    }
+
     // The triangle x stored in slot t.
     pub fn store(&mut self, t: u32, x: Triangle)
-        requires { TrianglesAgree self.old.corners.now self.old.links.now self.old.generations.now
-            × (t < length self.old.generations.now) }
+        requires { TrianglesAgree (held self.old) × (t < length self.old.generations.now) }
         ensures stored { (n : Counts) →
             topology_in n (held self.new) ≡ put t x (topology_in n (held self.old)) }
         ensures rest { SameBeside self.new self.old }
@@ -120,6 +127,17 @@ impl Tables<'_> {
         store_three(self.corners, t, c);
         store_three(self.links, t, l);
         self.generations[t as usize] = x.generation;
+    }
+
+    // Side h linked to side k. The boundary has no slot, so that nothing is written where h is the boundary.
+    pub fn relink(&mut self, h: u32, k: u32)
+        ensures linked { (n : Counts) → topology_in n (held self.new) ≡ relink h k (topology_in n (held self.old)) }
+        ensures rest { SameBeside self.new self.old }
+    {
+        let i = h as usize;
+        if i < self.links.len() {
+            self.links[i] = k;
+        }
     }
 }
 
@@ -162,18 +180,6 @@ pub fn unlock_two(locks: &mut [u8], f: u32)
     let slot = f as usize;
     locks[slot] = 0;
     locks[slot + 1] = 0;
-}
-
-// Side h linked to side k. The boundary has no slot, so that nothing is written where h is the boundary.
-pub fn relink(links: &mut [u32], h: u32, k: u32)
-    ensures { (n : Counts) (corners generations : List ℕ) →
-        topology_now n corners links.new generations
-        ≡ relink h k (topology_now n corners links.old generations) }
-{
-    let i = h as usize;
-    if i < links.len() {
-        links[i] = k;
-    }
 }
 
 // The point in slot v of a table that has this slot.
