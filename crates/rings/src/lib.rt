@@ -55,6 +55,7 @@ pub fn walk_from(links: &[u32], triangles: u32, first: usize) -> Walked
 {
     let mut n: usize = 0;
     let mut h = first;
+    // Kept: no plainer: the walk follows the links until it is round, and n counts what it meets.
     let met = loop {
         let k = turned(links, triangles, h);
         n += 1;
@@ -89,6 +90,7 @@ pub fn write_ring(corners: &[u32], links: &[u32], triangles: u32, first: u32, bu
 {
     let mut n: usize = 0;
     let mut h = first as usize;
+    // Kept: no plainer: the same walk, and n counts what it writes.
     loop {
         let e = next(h);
         buffer[n] = corners[e];

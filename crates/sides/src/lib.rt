@@ -247,12 +247,10 @@ pub fn triangles_fit(
     ensures all_kept { result ≡ true
         → AllKept vertices corners.now links.now (3 * triangles) starts.new }
 {
-    let mut t: usize = 0;
-    while t < triangles as usize {
+    for t in 0..triangles as usize {
         if !triangle_fits(corners, links, generations, vertices, triangles, t, starts) {
             return false;
         }
-        t += 1;
     }
     true
 }
