@@ -47,33 +47,33 @@ returns-then-not-corners_fit c =
 
 pub side_fits-requires : goal.side_fits-requires
 side_fits-requires c =
-    let fit : corners_fit c.args.vertices (get_or c.args.corners.now (3 * c.args.t) 0) (get_or c.args.corners.now (3 * c.args.t + 1) 0) (get_or c.args.corners.now (3 * c.args.t + 2) 0)
+    let fit : corners_fit c.args.counts.vertices (get_or c.args.view.now.corners.now (3 * c.args.t) 0) (get_or c.args.view.now.corners.now (3 * c.args.t + 1) 0) (get_or c.args.view.now.corners.now (3 * c.args.t + 2) 0)
     ≡ true = sym c.corners_fit.ensures ∙ c.if-not-corners_fit.false in
-    let corners : CornersFit c.args.vertices (get_or c.args.corners.now (3 * c.args.t) 0) (get_or c.args.corners.now (3 * c.args.t + 1) 0) (get_or c.args.corners.now (3 * c.args.t + 2) 0) = when_true (corners_are _ _ _ _) fit in
+    let corners : CornersFit c.args.counts.vertices (get_or c.args.view.now.corners.now (3 * c.args.t) 0) (get_or c.args.view.now.corners.now (3 * c.args.t + 1) 0) (get_or c.args.view.now.corners.now (3 * c.args.t + 2) 0) = when_true (corners_are _ _ _ _) fit in
     record { room = (c.requires.room.0, omega arith); side_read = (read_a _ _ _, corners.a_in_use, c.requires.room.2); all_kept = c.requires.all_kept }
 
 pub returns-then-not-side_fits : goal.returns-then-not-side_fits
 unfolding triangle_fits
 returns-then-not-side_fits c =
-    let low : leb (get_or c.args.generations.now c.args.t 0) 20 ≡ true = le-leb _ _ c.if-g-gt20.false in
-    let fit : corners_fit c.args.vertices (get_or c.args.corners.now (3 * c.args.t) 0) (get_or c.args.corners.now (3 * c.args.t + 1) 0) (get_or c.args.corners.now (3 * c.args.t + 2) 0)
+    let low : leb (get_or c.args.view.now.generations.now c.args.t 0) 20 ≡ true = le-leb _ _ c.if-g-gt20.false in
+    let fit : corners_fit c.args.counts.vertices (get_or c.args.view.now.corners.now (3 * c.args.t) 0) (get_or c.args.view.now.corners.now (3 * c.args.t + 1) 0) (get_or c.args.view.now.corners.now (3 * c.args.t + 2) 0)
     ≡ true = sym c.corners_fit.ensures ∙ c.if-not-corners_fit.false in
     let a = sym c.side_fits.ensures.value ∙ c.if-not-side_fits.true in
     record { value = rw (low, fit, a, triangle_fits); all_kept_2 = never }
 
 pub side_fits-requires-2 : goal.side_fits-requires-2
 side_fits-requires-2 c =
-    let fit : corners_fit c.args.vertices (get_or c.args.corners.now (3 * c.args.t) 0) (get_or c.args.corners.now (3 * c.args.t + 1) 0) (get_or c.args.corners.now (3 * c.args.t + 2) 0)
+    let fit : corners_fit c.args.counts.vertices (get_or c.args.view.now.corners.now (3 * c.args.t) 0) (get_or c.args.view.now.corners.now (3 * c.args.t + 1) 0) (get_or c.args.view.now.corners.now (3 * c.args.t + 2) 0)
     ≡ true = sym c.corners_fit.ensures ∙ c.if-not-corners_fit.false in
-    let corners : CornersFit c.args.vertices (get_or c.args.corners.now (3 * c.args.t) 0) (get_or c.args.corners.now (3 * c.args.t + 1) 0) (get_or c.args.corners.now (3 * c.args.t + 2) 0) = when_true (corners_are _ _ _ _) fit in
+    let corners : CornersFit c.args.counts.vertices (get_or c.args.view.now.corners.now (3 * c.args.t) 0) (get_or c.args.view.now.corners.now (3 * c.args.t + 1) 0) (get_or c.args.view.now.corners.now (3 * c.args.t + 2) 0) = when_true (corners_are _ _ _ _) fit in
     let A = c.side_fits.ensures.all_kept_2 c.if-not-side_fits.false in
     record { room = (c.requires.room.0, omega arith); side_read = (read_b _ _ _, corners.b_in_use, c.requires.room.2); all_kept = A }
 
 pub returns-then-not-side_fits-2 : goal.returns-then-not-side_fits-2
 unfolding triangle_fits
 returns-then-not-side_fits-2 c =
-    let low : leb (get_or c.args.generations.now c.args.t 0) 20 ≡ true = le-leb _ _ c.if-g-gt20.false in
-    let fit : corners_fit c.args.vertices (get_or c.args.corners.now (3 * c.args.t) 0) (get_or c.args.corners.now (3 * c.args.t + 1) 0) (get_or c.args.corners.now (3 * c.args.t + 2) 0)
+    let low : leb (get_or c.args.view.now.generations.now c.args.t 0) 20 ≡ true = le-leb _ _ c.if-g-gt20.false in
+    let fit : corners_fit c.args.counts.vertices (get_or c.args.view.now.corners.now (3 * c.args.t) 0) (get_or c.args.view.now.corners.now (3 * c.args.t + 1) 0) (get_or c.args.view.now.corners.now (3 * c.args.t + 2) 0)
     ≡ true = sym c.corners_fit.ensures ∙ c.if-not-corners_fit.false in
     let a = sym c.side_fits.ensures.value ∙ c.if-not-side_fits.false in
     let b = sym c.side_fits-2.ensures.value ∙ c.if-not-side_fits-2.true in
@@ -81,17 +81,17 @@ returns-then-not-side_fits-2 c =
 
 pub side_fits-requires-3 : goal.side_fits-requires-3
 side_fits-requires-3 c =
-    let fit : corners_fit c.args.vertices (get_or c.args.corners.now (3 * c.args.t) 0) (get_or c.args.corners.now (3 * c.args.t + 1) 0) (get_or c.args.corners.now (3 * c.args.t + 2) 0)
+    let fit : corners_fit c.args.counts.vertices (get_or c.args.view.now.corners.now (3 * c.args.t) 0) (get_or c.args.view.now.corners.now (3 * c.args.t + 1) 0) (get_or c.args.view.now.corners.now (3 * c.args.t + 2) 0)
     ≡ true = sym c.corners_fit.ensures ∙ c.if-not-corners_fit.false in
-    let corners : CornersFit c.args.vertices (get_or c.args.corners.now (3 * c.args.t) 0) (get_or c.args.corners.now (3 * c.args.t + 1) 0) (get_or c.args.corners.now (3 * c.args.t + 2) 0) = when_true (corners_are _ _ _ _) fit in
+    let corners : CornersFit c.args.counts.vertices (get_or c.args.view.now.corners.now (3 * c.args.t) 0) (get_or c.args.view.now.corners.now (3 * c.args.t + 1) 0) (get_or c.args.view.now.corners.now (3 * c.args.t + 2) 0) = when_true (corners_are _ _ _ _) fit in
     let A = c.side_fits-2.ensures.all_kept_2 c.if-not-side_fits-2.false in
     record { room = (c.requires.room.0, omega arith); side_read = (read_c _ _ _, corners.c_in_use, c.requires.room.2); all_kept = kept_at _ _ (omega arith) A }
 
 pub returns : goal.returns
 unfolding triangle_fits
 returns c =
-    let low : leb (get_or c.args.generations.now c.args.t 0) 20 ≡ true = le-leb _ _ c.if-g-gt20.false in
-    let fit : corners_fit c.args.vertices (get_or c.args.corners.now (3 * c.args.t) 0) (get_or c.args.corners.now (3 * c.args.t + 1) 0) (get_or c.args.corners.now (3 * c.args.t + 2) 0)
+    let low : leb (get_or c.args.view.now.generations.now c.args.t 0) 20 ≡ true = le-leb _ _ c.if-g-gt20.false in
+    let fit : corners_fit c.args.counts.vertices (get_or c.args.view.now.corners.now (3 * c.args.t) 0) (get_or c.args.view.now.corners.now (3 * c.args.t + 1) 0) (get_or c.args.view.now.corners.now (3 * c.args.t + 2) 0)
     ≡ true = sym c.corners_fit.ensures ∙ c.if-not-corners_fit.false in
     let a = sym c.side_fits.ensures.value ∙ c.if-not-side_fits.false in
     let b = sym c.side_fits-2.ensures.value ∙ c.if-not-side_fits-2.false in record {
