@@ -30,6 +30,7 @@ fn goes_on(triangles: u32, first: usize, n: usize, k: usize) -> bool
 }
 
 // How many entries the ring has where the walk of n sides ends at k: at the boundary the last neighbour is one more.
+#[tactic(auto, unfolding(crate::specs::Rings::entries_at))]
 fn entries_at(n: usize, k: usize) -> usize
     requires { n ≤ 65536 }
     ensures { result ≡ entries_at n k }

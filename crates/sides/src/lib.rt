@@ -61,6 +61,7 @@ fn kinds_fit(g: u8, i: usize, h: u8, j: usize) -> bool
 }
 
 // Whether three corners are vertices in use, no two the same.
+#[tactic(auto, unfolding(crate::specs::Parts::corners_fit))]
 fn corners_fit(vertices: u32, a: u32, b: u32, c: u32) -> bool
     ensures { result ≡ corners_fit vertices a b c }
 {
@@ -84,10 +85,11 @@ fn corners_fit(vertices: u32, a: u32, b: u32, c: u32) -> bool
 
 // Whether side k links back to side h and starts where h ends, and the two are of a fitting kind. Each side of a pair
 // judges the other so: to leave one out would save less than the branch costs.
+#[tactic(auto, unfolding(crate::specs::Parts::partner_fits))]
 fn partner_fits(view: &View, h: usize, i: usize, g: u8, to: u32, k: usize) -> bool
-    requires generations_len_bound { (length view.now.generations.now ≤ 65536) × (3 * length view.now.generations.now ≤ length view.now.corners.now)
+    requires room { (length view.now.generations.now ≤ 65536) × (3 * length view.now.generations.now ≤ length view.now.corners.now)
         × (3 * length view.now.generations.now ≤ length view.now.links.now) }
-    requires h_bound { (h < 3 * length view.now.generations.now) × (k < 3 * length view.now.generations.now) }
+    requires in_use { (h < 3 * length view.now.generations.now) × (k < 3 * length view.now.generations.now) }
     ensures { (n : Counts) (from : ℕ) → SideRead view.now.corners.now view.now.generations.now h i g from to
         → result ≡ partner_fits
         (topology_in n (seen view.now)) h k }
@@ -112,6 +114,7 @@ fn first_kept(start: u32, h: u32) -> u32
 
 // Whether side h, in place i of a triangle of generation g and between these vertices, is on the boundary or has a
 // fitting partner. The start of the vertex that it goes out of is kept.
+#[tactic(auto, unfolding(crate::specs::Parts::link_fits))]
 fn side_fits(
     view: &View,
     counts: Counts,
@@ -128,7 +131,7 @@ fn side_fits(
     ensures value { result ≡ link_fits
         (topology_in counts (seen view.now))
         h }
-    ensures all_kept_2 { result ≡ true
+    ensures kept_after { result ≡ true
         → AllKept counts.vertices view.now.corners.now view.now.links.now (h + 1) starts.new }
 {
     let v = from as usize;
@@ -148,13 +151,14 @@ fn side_fits(
 
 // Whether triangle t is of generation 20 at most, with three vertices in use for corners and links that fit. The starts
 // of its corners are kept.
+#[tactic(auto, unfolding(crate::specs::Parts::triangle_fits))]
 fn triangle_fits(view: &View, counts: Counts, t: usize, starts: &mut [u32]) -> bool
     requires room { Room counts.triangles (seen view.now) × (t < counts.triangles) × (counts.vertices ≤ 32768) }
     requires all_kept { AllKept counts.vertices view.now.corners.now view.now.links.now (3 * t) starts.old }
     ensures value { result ≡ triangle_fits
         (topology_in counts (seen view.now))
         t }
-    ensures all_kept_2 { result ≡ true
+    ensures kept_after { result ≡ true
         → AllKept counts.vertices view.now.corners.now view.now.links.now (3 * t + 3) starts.new }
 {
     let g = view.generations[t];

