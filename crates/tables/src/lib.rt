@@ -5,13 +5,17 @@ ghost use Rattle.std.specs.Prelude.{List, ◌≡◌, ℕ, ◌+◌, ◌*◌, ◌/
 ghost use Rattle.rules.specs.Calls.{room_for};
 ghost use Rattle.rules.specs.Split.{new_unlocked};
 ghost use Rattle.rules.specs.Tables.{put_three, relink};
+ghost use Rattle.tables.specs.Refusals.{number};
 ghost use Rattle.tables.specs.declared.Counts.{Counts};
 ghost use Rattle.tables.specs.Lent.{held, seen, mesh_in, topology_in, topology_now, SameSizes, SameBeside};
 ghost use Rattle.tables.specs.Lent.{TrianglesAgree, VerticesAgree, triangle_at, entries, put, point_in, put_point};
 
 use points::Point;
 
+use crate::refusals::Refusal;
+
 pub mod copies;
+pub mod refusals;
 pub mod sides;
 
 // The five tables of a mesh, lent for writing.
@@ -51,6 +55,25 @@ pub struct Worked {
     pub splits: u32,
     pub flips: u32,
     pub counts: Counts,
+}
+
+impl Worked {
+    // The answer of such a call that is refused.
+    pub fn refused(refusal: Refusal, counts: Counts) -> Self
+        ensures { result ≡ record {
+          refusal = number refusal;
+          splits = 0;
+          flips = 0;
+          counts = counts;
+        } }
+    {
+        Self {
+            refusal: refusal.number(),
+            splits: 0,
+            flips: 0,
+            counts,
+        }
+    }
 }
 
 // What a side without a partner links to.
