@@ -74,29 +74,27 @@ fn counts_fit(
 }
 
 // Whether the first n coordinates are in range. No early return: the loop then reads several at once.
+#[tactic(auto, using(theory::proofs::Numbers::Decide::all_and), unfolding(rules::specs::Below::all))]
 fn coordinates_fit(positions: &[i32], n: usize) -> bool
     requires { n ≤ length positions.now }
     ensures { result ≡ all n (λ i. in_range (get_or positions.now i (pos 0))) }
 {
     let mut fit = true;
-    let mut i: usize = 0;
-    while i < n {
-        fit = fit & points::in_range(positions[i]);
-        i += 1;
+    for x in &positions[..n] {
+        fit &= points::in_range(*x);
     }
     fit
 }
 
 // Whether the first n locks are 0 or 1, read in the same way.
+#[tactic(auto, using(theory::proofs::Numbers::Decide::all_and), unfolding(rules::specs::Below::all))]
 fn locks_fit(locks: &[u8], n: usize) -> bool
     requires { n ≤ length locks.now }
     ensures { result ≡ all n (λ t. leb (get_or locks.now t 0) 1) }
 {
     let mut fit = true;
-    let mut t: usize = 0;
-    while t < n {
-        fit = fit & (locks[t] <= 1);
-        t += 1;
+    for lock in &locks[..n] {
+        fit &= *lock <= 1;
     }
     fit
 }

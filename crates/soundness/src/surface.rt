@@ -37,8 +37,8 @@ fn start_by(
     starts[v as usize]
 }
 
-// The same for up to 128 vertices.
-fn start_within_128(
+// The same for up to N vertices, of which there are no more than 32,768.
+fn start_within<const N: usize>(
     corners: &[u32],
     links: &[u32],
     generations: &[u8],
@@ -46,64 +46,13 @@ fn start_within_128(
     triangles: u32,
     v: u32,
 ) -> u32
-    requires { Room triangles corners.now links.now generations.now × (vertices ≤ 128) }
+    requires room { Room triangles corners.now links.now generations.now }
+    requires slots { (vertices ≤ N) × (N ≤ 32768) }
     ensures { let m = topology_of vertices triangles corners.now links.now
         generations.now in
         result ≡ start_if (is_surface m) m v }
 {
-    let mut starts = [0u32; 128];
-    start_by(
-        corners,
-        links,
-        generations,
-        vertices,
-        triangles,
-        v,
-        &mut starts,
-    )
-}
-
-// The same for up to 2048 vertices.
-fn start_within_2048(
-    corners: &[u32],
-    links: &[u32],
-    generations: &[u8],
-    vertices: u32,
-    triangles: u32,
-    v: u32,
-) -> u32
-    requires { Room triangles corners.now links.now generations.now × (vertices ≤ 2048) }
-    ensures { let m = topology_of vertices triangles corners.now links.now
-        generations.now in
-        result ≡ start_if (is_surface m) m v }
-{
-    let mut starts = [0u32; 2048];
-    start_by(
-        corners,
-        links,
-        generations,
-        vertices,
-        triangles,
-        v,
-        &mut starts,
-    )
-}
-
-// The same for up to 32768 vertices.
-fn start_within_32768(
-    corners: &[u32],
-    links: &[u32],
-    generations: &[u8],
-    vertices: u32,
-    triangles: u32,
-    v: u32,
-) -> u32
-    requires { Room triangles corners.now links.now generations.now × (vertices ≤ 32768) }
-    ensures { let m = topology_of vertices triangles corners.now links.now
-        generations.now in
-        result ≡ start_if (is_surface m) m v }
-{
-    let mut starts = [0u32; 32768];
+    let mut starts = [0u32; N];
     start_by(
         corners,
         links,
@@ -130,10 +79,10 @@ pub fn start(
         result ≡ start_if (is_surface m) m v }
 {
     if vertices <= 128 {
-        return start_within_128(corners, links, generations, vertices, triangles, v);
+        return start_within::<128>(corners, links, generations, vertices, triangles, v);
     }
     if vertices <= 2048 {
-        return start_within_2048(corners, links, generations, vertices, triangles, v);
+        return start_within::<2048>(corners, links, generations, vertices, triangles, v);
     }
-    start_within_32768(corners, links, generations, vertices, triangles, v)
+    start_within::<32768>(corners, links, generations, vertices, triangles, v)
 }
