@@ -16,7 +16,7 @@ use Rattle.split.specs.declared.Work.{Work}
 use Rattle.split.specs.Made.{work_now}
 use Rattle.reporting.specs.Told.{Tells, Told}
 use Rattle.reporting.proofs.Telling.{tells_none, splits_are, fits_from, tells_if}
-use Rattle.reporting.proofs.Turns.{end_within, Turned, Next, turn_may_split, turn_asks, turn_done}
+use Rattle.reporting.proofs.Turns.{end_within, Turned, turn_may_split, turn_asks, turn_done}
 use Rattle.tables.specs.Lent.{mesh_now}
 use Rattle.reporting.proofs.refine.Goals.{After-fits-telling, After-split_at-work, After-tell_split-told, After-across_last-end, After-split_at-work-in-loop-left}
 use Rattle.reporting.proofs.refine.Goals as goal
@@ -35,7 +35,6 @@ told_whole rule report work p c l g k {x} {r} {s} {at} {end} e T f z =
       subst (λ (j : List ℕ). work_now rule j work p c l g k ≡ x) q e,
       (end, tells_if (λ i. subst (λ (j : List ℕ). Tells j r s at end) q (T i)) f z),
     )
-
 
 -- ---- before the first split
 
