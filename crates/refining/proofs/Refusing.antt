@@ -1,5 +1,6 @@
 -- The first refusal of a refine, found test by test.
 use borrow.Author.Tests.{leb-false, eq-eqb, ne_eqb}
+use Rattle.std.specs.Prelude.{Ok}
 use mathlib.Core.Bool.{Bool, true, false, not}
 use mathlib.Core.List.{List, [], ◌∷◌}
 use mathlib.Core.Logic.{◌≢◌}
@@ -18,7 +19,7 @@ use Rattle.rules.specs.Split.{at_first, refine}
 use Rattle.rules.specs.Tables.{Mesh, tables_agree, generation, Topology, boundary, link}
 use Rattle.refining.specs.Finding.{Finds, Goes}
 use Rattle.tables.specs.Standing.{standing}
-use Rattle.refining.specs.declared.Found.{Found}
+use Rattle.split.specs.declared.Chain.{Chain}
 
 -- Four tests before the rest.
 four_kept : (a b d e : Bool) (rest : List Test) (r : ℕ) → r ≡ first_of (1 if a ∷ 7 if b ∷ 8 if d ∷ 9 if e ∷ []) → r ≢ 0
@@ -143,5 +144,5 @@ module _ (t : ℕ) (m : Mesh) (r : ℕ) (e : r ≡ refine_refusal t m) where
   refine_carried = carries m no_room (worked (refine t (at_first m))) (refine_refusal t m) r e
 
 -- Where nothing is found to refuse, the refine is carried out.
-pub finds_goes : {t : ℕ} {m : Mesh} {f : Found} → Finds t m f → f.refusal ≡ 0 → Goes t m f.chain
-finds_goes {t} {m} F z = record { found = refine_found t m (sym F.refusal ∙ z); chain = F.chain z }
+pub finds_goes : {t : ℕ} {m : Mesh} {c : Chain} → Finds t m (Ok c) → Goes t m c
+finds_goes {t} {m} F = record { found = refine_found t m (sym F.0); chain = F.1 }
