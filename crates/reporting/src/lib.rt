@@ -139,16 +139,6 @@ pub fn fits(links: &[u32], generations: &[u8], chain: Chain, entries: usize) -> 
     report_length(links, generations, chain) <= entries
 }
 
-// The entries of a report from this place on.
-fn room_from(entries: usize, at: usize) -> usize
-    ensures { result ≡ entries - at }
-{
-    if entries < at {
-        return 0;
-    }
-    entries - at
-}
-
 // The triangle across the base of the last of so many odd triangles of a chain.
 fn across_last(links: &[u32], slots: &[u32; 20], odd: u32) -> u32
     requires { (0 < odd) × (odd < 20) × (3 * get_or slots.now (odd - 1) 0 < length links.now) }
@@ -192,8 +182,8 @@ pub fn refine(
         splits: 0,
         flips: 0,
     };
-    let mut left = chain.splits();
-    let telling = fits(links, generations, chain, room_from(report.len(), at));
+    let splits = chain.splits();
+    let telling = fits(links, generations, chain, report.len().saturating_sub(at));
     let mut work = split::split_at(
         positions,
         corners,
@@ -212,8 +202,7 @@ pub fn refine(
         report,
         at,
     );
-    while 1 < left {
-        left -= 1;
+    for left in (1..splits).rev() {
         let end = across_last(links, &slots, left);
         let f = work.triangles;
         work = split::split_at(positions, corners, links, generations, locks, work, end);
