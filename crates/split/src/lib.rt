@@ -8,11 +8,11 @@ ghost use Rattle.points.specs.Axes.{each_axis};
 ghost use Rattle.rules.specs.Split.{flip, third_of, settle, settle_all, split_at};
 ghost use Rattle.rules.specs.Tables.{is_base};
 ghost use Rattle.tables.specs.declared.Counts.{Counts};
-ghost use Rattle.tables.specs.Lent.{topology_now, topology_in, mesh_in, held, SameTables, SameBeside, TrianglesAgree, VerticesAgree};
+ghost use Rattle.tables.specs.Lent.{topology_now, topology_in, mesh_in, held, seen, SameTables, SameBeside, TrianglesAgree, VerticesAgree};
 ghost use Rattle.split.specs.Made.{work_now, MaySplit, Hands, replaced, BaseChain};
 
 use points::Point;
-use tables::{Counts, Tables, Triangle};
+use tables::{Counts, Tables, Triangle, View};
 
 // The slots in use, and the splits, face and rim, and flips made so far.
 #[derive(Clone, Copy)]
@@ -256,30 +256,29 @@ pub fn split_at(tables: &mut Tables, work: Work, t: u32) -> Work
 
 // The base chain of t: from an odd triangle on to the one across its base, until an even one or the boundary. Its steps
 // are at most as many as the generation of t says, so that the slots have room.
-pub fn base_chain(links: &[u32], generations: &[u8], t: u32) -> Chain
-    requires { get_or generations.now t 0 ≤ 20 }
-    ensures { (n : Counts) (corners : List ℕ) →
-        BaseChain (topology_now n corners links.now generations.now) t result }
+pub fn base_chain(view: &View, t: u32) -> Chain
+    requires { get_or view.now.generations.now t 0 ≤ 20 }
+    ensures { (n : Counts) → BaseChain (topology_in n (seen view.now)) t result }
 {
     let mut slots: [u32; 20] = [0; 20];
     let mut odd: u32 = 0;
     let mut end = t;
-    let mut steps = tables::generation_at(generations, t);
+    let mut steps = tables::generation_at(view.generations, t);
     while 0 < steps {
-        if tables::generation_at(generations, end) % 2 == 0 {
+        if tables::generation_at(view.generations, end) % 2 == 0 {
             break;
         }
         let i = odd as usize;
         slots[i] = end;
         odd += 1;
-        let across = tables::base_link(links, end);
+        let across = tables::base_link(view.links, end);
         if across == tables::BOUNDARY {
             break;
         }
         end = across / 3;
         steps -= 1;
     }
-    let rim = tables::generation_at(generations, end) as u32 % 2;
+    let rim = tables::generation_at(view.generations, end) as u32 % 2;
     Chain {
         odd,
         end,
