@@ -1,21 +1,22 @@
 // The bytes of a cage: their corners decoded, and the tests that need no links.
 #![tactic(auto)]
 
-ghost use Rattle.std.specs.Prelude.{◌≡◌, List, ℕ, ◌+◌, ◌*◌, ◌<◌, ◌≤◌, length};
+ghost use Rattle.std.specs.Prelude.{◌≡◌, ◌+◌, ◌*◌, ◌<◌, ◌≤◌, length};
 ghost use Rattle.rules.specs.Below.{all, fill};
 ghost use Rattle.rules.specs.Cage.{sizes_fit, corners_fit};
 ghost use Rattle.rules.specs.Numbers.{number_at, signed, in_range};
 ghost use Rattle.tables.specs.declared.Counts.{Counts};
-ghost use Rattle.tables.specs.Lent.{mesh_now};
+ghost use Rattle.tables.specs.Lent.{mesh_in, seen};
 ghost use Rattle.decoding.specs.Decoded.{decoded, triangle_fits};
+
+use tables::View;
 
 pub mod writing;
 
 // Whether the cage is as long as its sizes say, and these are at least 1 and within the slots.
 // In 64 bits nothing wraps.
-pub fn sizes_fit(cage: &[u8], positions: &[i32], generations: &[u8]) -> bool
-    ensures { (n : Counts) (c l k : List ℕ)
-        → result ≡ sizes_fit cage.now (mesh_now n positions.now c l generations.now k) }
+pub fn sizes_fit(cage: &[u8], view: &View) -> bool
+    ensures { (n : Counts) → result ≡ sizes_fit cage.now (mesh_in n (seen view.now)) }
 {
     if cage.len() < 8 {
         return false;
@@ -28,10 +29,10 @@ pub fn sizes_fit(cage: &[u8], positions: &[i32], generations: &[u8]) -> bool
     if f < 1 {
         return false;
     }
-    if positions.len() / 3 < v {
+    if view.positions.len() / 3 < v {
         return false;
     }
-    if generations.len() < f {
+    if view.generations.len() < f {
         return false;
     }
     if cage.len() != 8 + 12 * (v + f) {

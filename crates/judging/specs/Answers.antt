@@ -1,27 +1,11 @@
 -- What a load refuses, and what it leaves of the sides' tables.
-use Rattle.std.specs.Prelude.{ℕ, ◌*◌, ◌≤◌, List, Result, Ok, Err, ◌≢◌, ◌≡◌, length}
-use Rattle.judging.specs.declared.Refusal.{Refusal}
-use Rattle.judging.specs.declared.Refusal.TheVariants.{TablesDisagree, Sizes, Corners, Coordinates, SideTwice, Fans, Rule}
+use Rattle.std.specs.Prelude.{ℕ, ◌*◌, ◌≤◌, List, ◌≢◌, ◌≡◌, length}
 use Rattle.rules.specs.Below.{fill}
 use Rattle.rules.specs.Cage.{Cage, partner}
 use Rattle.rules.specs.Calls.{load_refusal}
 use Rattle.rules.specs.Conditions.{SizesFit}
 use Rattle.rules.specs.Numbers.{KnownRule}
 use Rattle.rules.specs.Tables.{Mesh, TablesAgree}
-
--- The number of a refusal, and what a load answers: this number, or 0.
-abbrev pub number : Refusal → ℕ
-number TablesDisagree = 1
-number Sizes = 2
-number Corners = 3
-number Coordinates = 4
-number SideTwice = 5
-number Fans = 6
-number Rule = 16
-
-abbrev pub refused_with : Result (Unit {0}) Refusal → ℕ
-refused_with (Ok done) = 0
-refused_with (Err refusal) = number refusal
 
 -- r is the refusal of these bytes, whichever the rule, if it is known, and the tables, if they agree and have slots for
 -- the cage.

@@ -3,28 +3,11 @@
 
 ghost use Rattle.std.specs.Prelude.{◌≡◌, IfOk};
 ghost use Rattle.rules.specs.Cage.{cage_of};
-ghost use Rattle.judging.specs.Answers.{number, refused_with, Refuses, SideRoom, SidesLeft};
+ghost use Rattle.tables.specs.Refusals.{refused};
+ghost use Rattle.judging.specs.Answers.{Refuses, SideRoom, SidesLeft};
 ghost use Rattle.judging.specs.Loading.{Sized, WorkingRoom, Holds};
 
-// Why a load is refused, by the number that the rules give it.
-#[derive(Clone, Copy)]
-pub enum Refusal {
-    TablesDisagree = 1,
-    Sizes = 2,
-    Corners = 3,
-    Coordinates = 4,
-    SideTwice = 5,
-    Fans = 6,
-    Rule = 16,
-}
-
-impl Refusal {
-    pub fn number(self) -> u32
-        ensures { result ≡ number self }
-    {
-        self as u32
-    }
-}
+use tables::refusals::Refusal;
 
 // Judges a cage whose sizes fit: where it is not refused, its origins and partners are held.
 fn judge(
@@ -39,7 +22,7 @@ fn judge(
 ) -> Result<(), Refusal>
     requires sized { Sized cage.now vertices triangles }
     requires working_room { WorkingRoom vertices triangles origins.old partners.old heads.old nexts.old slots.old }
-    ensures refuses { Refuses cage.now (refused_with result) }
+    ensures refuses { Refuses cage.now (refused result) }
     ensures holds { IfOk result (λ u. Holds (cage_of cage.now) origins.new partners.new) }
 {
     let v = vertices as usize;
@@ -75,8 +58,8 @@ pub fn load_by(
 ) -> Result<(), Refusal>
     requires sized { Sized cage.now vertices triangles × SideRoom triangles corners.old links.old }
     requires working_room { WorkingRoom vertices triangles origins.old partners.old heads.old nexts.old slots.old }
-    ensures refuses { Refuses cage.now (refused_with result) }
-    ensures sides_left { SidesLeft (cage_of cage.now) (refused_with result) corners.old links.old
+    ensures refuses { Refuses cage.now (refused result) }
+    ensures sides_left { SidesLeft (cage_of cage.now) (refused result) corners.old links.old
         corners.new links.new }
 {
     judge(

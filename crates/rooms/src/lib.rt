@@ -3,11 +3,13 @@
 
 ghost use Rattle.std.specs.Prelude.{true, ◌≡◌, ◌*◌, ◌≤◌};
 ghost use Rattle.rules.specs.Cage.{cage_of};
-ghost use Rattle.judging.specs.Answers.{refused_with, Refuses, SideRoom, SidesLeft};
+ghost use Rattle.tables.specs.Refusals.{refused};
+ghost use Rattle.judging.specs.Answers.{Refuses, SideRoom, SidesLeft};
 ghost use Rattle.judging.specs.Loading.{Sized};
 ghost use Rattle.rooms.specs.Within.{Within};
 
-use judging::{Refusal, load_by};
+use judging::load_by;
+use tables::refusals::Refusal;
 
 // Judges a cage of up to V vertices and S sides. Where it is not refused, its corners and links are written.
 fn load_within<const V: usize, const S: usize>(
@@ -21,8 +23,8 @@ fn load_within<const V: usize, const S: usize>(
     requires vertices_within { vertices ≤ V }
     requires sides_within { 3 * triangles ≤ S }
     requires few { (V ≤ 32768) × (S ≤ 196608) }
-    ensures refuses { Refuses cage.now (refused_with result) }
-    ensures sides_left { SidesLeft (cage_of cage.now) (refused_with result) corners.old links.old
+    ensures refuses { Refuses cage.now (refused result) }
+    ensures sides_left { SidesLeft (cage_of cage.now) (refused result) corners.old links.old
         corners.new links.new }
 {
     let mut origins = [0u32; S];
@@ -62,8 +64,8 @@ fn load_beyond_2048(
     triangles: u32,
 ) -> Result<(), Refusal>
     requires { Sized cage.now vertices triangles × SideRoom triangles corners.old links.old }
-    ensures refuses { Refuses cage.now (refused_with result) }
-    ensures sides_left { SidesLeft (cage_of cage.now) (refused_with result) corners.old links.old
+    ensures refuses { Refuses cage.now (refused result) }
+    ensures sides_left { SidesLeft (cage_of cage.now) (refused result) corners.old links.old
         corners.new links.new }
 {
     if within(16384, vertices, triangles) {
@@ -81,8 +83,8 @@ pub fn load_in_room(
     triangles: u32,
 ) -> Result<(), Refusal>
     requires { Sized cage.now vertices triangles × SideRoom triangles corners.old links.old }
-    ensures refuses { Refuses cage.now (refused_with result) }
-    ensures sides_left { SidesLeft (cage_of cage.now) (refused_with result) corners.old links.old
+    ensures refuses { Refuses cage.now (refused result) }
+    ensures sides_left { SidesLeft (cage_of cage.now) (refused result) corners.old links.old
         corners.new links.new }
 {
     if within(32, vertices, triangles) {
