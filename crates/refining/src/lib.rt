@@ -17,17 +17,10 @@ ghost use Rattle.split.specs.Made.{BaseChain};
 ghost use Rattle.tables.specs.Standing.{standing};
 ghost use Rattle.refining.specs.Locked.{Follows};
 ghost use Rattle.reporting.specs.Told.{Told, told_unless};
-ghost use Rattle.refining.specs.Finding.{Finds, Goes, refused_report};
+ghost use Rattle.refining.specs.Finding.{Checks, Finds, Goes, refused_report};
 
 use split::Chain;
 use tables::{Counts, Worked};
-
-// What is found before a refine: its refusal, and where that is 0 the base chain of its triangle.
-#[derive(Clone, Copy)]
-pub struct Found {
-    pub refusal: u32,
-    pub chain: Chain,
-}
 
 // The answer of a refine with a report: the length of the report too.
 #[repr(C)]
@@ -77,53 +70,59 @@ fn too_old(links: &[u32], generations: &[u8], t: u32) -> bool
     g == 20 || (g == 19 && tables::base_link(links, t) == tables::BOUNDARY)
 }
 
-// The refusal of a refine by the mesh, whose own first refusal is `bad`, and the triangle; or 0.
-fn triangle_refusal(links: &[u32], generations: &[u8], counts: Counts, t: u32, bad: u32) -> u32
+// Refuses a refine by the mesh, whose own first refusal is `bad`, and the triangle.
+fn check_triangle(
+    links: &[u32],
+    generations: &[u8],
+    counts: Counts,
+    t: u32,
+    bad: u32,
+) -> Result<(), u32>
     ensures { (positions : List ℤ) (corners locks : List ℕ) →
         let m = mesh_now counts positions corners links.now generations.now locks in
         bad ≡ standing m
-        → result ≡ first_of (1 if not (tables_agree m) ∷ 7 if not (is_sound m)
-        ∷ 8 if leb m.topology.triangles t ∷ 9 if too_old m.topology t ∷ []) }
+        → Checks (first_of (1 if not (tables_agree m) ∷ 7 if not (is_sound m)
+        ∷ 8 if leb m.topology.triangles t ∷ 9 if too_old m.topology t ∷ [])) result }
 {
     if bad != 0 {
-        return bad;
+        return Err(bad);
     }
     if counts.triangles <= t {
-        return 8;
+        return Err(8);
     }
     if too_old(links, generations, t) {
-        return 9;
+        return Err(9);
     }
-    0
+    Ok(())
 }
 
-// The refusal of a refine by the base chain of its triangle, or 0.
-fn chain_refusal(
+// Refuses a refine by the base chain of its triangle.
+fn check_chain(
     positions: &[i32],
     links: &[u32],
     generations: &[u8],
     locks: &[u8],
     counts: Counts,
     chain: Chain,
-) -> u32
+) -> Result<(), u32>
     requires { Follows chain links.now generations.now locks.now }
     ensures { (t : ℕ) (corners : List ℕ) →
         let m = mesh_now counts positions.now corners links.now generations.now
         locks.now in
         let s = max 1 (chain.odd - chain.rim) in
         BaseChain m.topology t chain
-        → result ≡ first_of (19 if alters_locked t m ∷ 11 if not (room_for (s + chain.rim) (2 * s) m) ∷ []) }
+        → Checks (first_of (19 if alters_locked t m ∷ 11 if not (room_for (s + chain.rim) (2 * s) m) ∷ [])) result }
 {
     if locked::alters_locked(links, generations, locks, chain) {
-        return 19;
+        return Err(19);
     }
     if !tables::has_room(positions, generations, counts, chain.splits(), chain.rim) {
-        return 11;
+        return Err(11);
     }
-    0
+    Ok(())
 }
 
-// What a refine of t finds before its work, on a mesh whose first refusal is `bad`.
+// What a refine of t finds before its work, on a mesh whose first refusal is `bad`: the base chain of t, or its refusal.
 pub fn find(
     positions: &[i32],
     links: &[u32],
@@ -132,7 +131,7 @@ pub fn find(
     counts: Counts,
     t: u32,
     bad: u32,
-) -> Found
+) -> Result<Chain, u32>
     requires { (corners : List ℕ) ×
         (bad ≡ standing (mesh_now counts positions.now corners links.now generations.now locks.now)) }
     ensures { (corners : List ℕ) →
@@ -140,21 +139,10 @@ pub fn find(
         locks.now in
         bad ≡ standing m → Finds t m result }
 {
-    let refused = triangle_refusal(links, generations, counts, t, bad);
-    if refused != 0 {
-        return Found {
-            refusal: refused,
-            chain: Chain {
-                odd: 0,
-                end: t,
-                rim: 0,
-                slots: [0; 20],
-            },
-        };
-    }
+    check_triangle(links, generations, counts, t, bad)?;
     let chain = split::base_chain(links, generations, t);
-    let refusal = chain_refusal(positions, links, generations, locks, counts, chain);
-    Found { refusal, chain }
+    check_chain(positions, links, generations, locks, counts, chain)?;
+    Ok(chain)
 }
 
 // The refine of t along its base chain, which nothing refuses, told from place `at` of the report on.
@@ -227,27 +215,26 @@ pub fn refine(
         corners.old links.old generations.old locks.old))).report)
         report.old report.new at }
 {
-    let found = find(positions, links, generations, locks, counts, t, bad);
-    if found.refusal != 0 {
-        return Worked {
-            refusal: found.refusal,
+    match find(positions, links, generations, locks, counts, t, bad) {
+        Ok(chain) => carry_out(
+            positions,
+            corners,
+            links,
+            generations,
+            locks,
+            counts,
+            t,
+            chain,
+            report,
+            at,
+        ),
+        Err(refusal) => Worked {
+            refusal,
             splits: 0,
             flips: 0,
             counts,
-        };
+        },
     }
-    carry_out(
-        positions,
-        corners,
-        links,
-        generations,
-        locks,
-        counts,
-        t,
-        found.chain,
-        report,
-        at,
-    )
 }
 
 // Refines triangle t of a mesh whose first refusal is known, and reports the slots that it writes.
@@ -269,11 +256,10 @@ pub fn refine_reported(
         ≡ reported_call (one t) report.old (mesh_now counts positions.old corners.old
         links.old generations.old locks.old) }
 {
-    let found = find(positions, links, generations, locks, counts, t, bad);
-    if found.refusal != 0 {
-        return Reported::refused(found.refusal, counts);
-    }
-    let chain = found.chain;
+    let chain = match find(positions, links, generations, locks, counts, t, bad) {
+        Ok(chain) => chain,
+        Err(refusal) => return Reported::refused(refusal, counts),
+    };
     if !reporting::fits(links, generations, chain, report.len()) {
         return Reported::refused(23, counts);
     }

@@ -18,16 +18,14 @@ fn is_locked(locks: &[u8], t: u32) -> bool
     locks[t as usize] == 1
 }
 
-// Whether one of the first n slots of a list has a locked triangle.
-fn some_locked(locks: &[u8], slots: &[u32; 20], n: u32) -> bool
-    requires { (n ≤ 20) × ((i : ℕ) → i < n → get_or slots.now i 0 < length locks.now) }
-    ensures { result ≡ any n (λ i. eqb (get_or locks.now (get_or slots.now i 0) 0) 1) }
+// Whether one of these slots has a locked triangle. All are looked at, so that no branch is taken for each.
+fn some_locked(locks: &[u8], slots: &[u32]) -> bool
+    requires { (i : ℕ) → i < length slots.now → get_or slots.now i 0 < length locks.now }
+    ensures { result ≡ any (length slots.now) (λ i. eqb (get_or locks.now (get_or slots.now i 0) 0) 1) }
 {
     let mut some = false;
-    let mut i: usize = 0;
-    while i < n as usize {
-        some = some | is_locked(locks, slots[i]);
-        i += 1;
+    for slot in slots {
+        some = some | is_locked(locks, *slot);
     }
     some
 }
@@ -54,10 +52,8 @@ fn meets_locked(links: &[u32], generations: &[u8], locks: &[u8], t: u32) -> bool
 {
     let first = 3 * (t as usize);
     let mut some = false;
-    let mut i: usize = 0;
-    while i < 3 {
+    for i in 0..3 {
         some = some | is_locked_base(generations, locks, links[first + i]);
-        i += 1;
     }
     some
 }
@@ -70,7 +66,7 @@ pub fn alters_locked(links: &[u32], generations: &[u8], locks: &[u8], chain: Cha
         BaseChain m.topology t chain → result ≡ alters_locked t m }
 {
     let slots = chain.slots;
-    if some_locked(locks, &slots, chain.odd) {
+    if some_locked(locks, &slots[..chain.odd as usize]) {
         return true;
     }
     if is_locked(locks, chain.end) {

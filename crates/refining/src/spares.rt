@@ -70,13 +70,9 @@ pub fn fit(work: Batch, entries: usize) -> Batch
     if 3 * (work.splits as usize) + 2 * (work.flips as usize) <= entries {
         return work;
     }
-    let reached = work.counts;
     Batch {
         refusal: 23,
-        splits: work.splits,
-        flips: work.flips,
-        handled: work.handled,
-        counts: reached,
+        ..work
     }
 }
 

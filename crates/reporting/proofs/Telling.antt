@@ -99,10 +99,6 @@ room_then {m} n T r =
     let e = length-append m n in
     omega (arith, T.size, (T.told (omega arith)).0)
 
--- A child that was flipped takes two entries.
-pub flip_room : (l : List ℕ) (c at n : ℕ) {b : Bool} → b ≡ true → at + length (flip_after l b c) ≤ n → at + 2 ≤ n
-flip_room l c at n e = subst (λ (b : Bool). at + length (flip_after l b c) ≤ n) e
-
 pub tells_split : (l g : List ℕ) (t f : ℕ) {a b c d e : List ℕ} {at i j k end : ℕ}
     → Tells (t ∷ f ∷ (f + 1) ∷ []) a b at i
     → Tells (flip_after l (is_flipped g t) t) b c i j → Tells (flip_after l (is_second_flipped l g t f) f) c d j k

@@ -1,4 +1,4 @@
-use Prim.Native.Nat.{ℕ, ◌+◌, ◌-◌, ◌/◌, ◌≤◌}
+use Prim.Native.Nat.{ℕ, ◌+◌, ◌/◌}
 use mathlib.Core.Bool.{◌&&◌}
 use mathlib.Core.List.{List}
 use mathlib.Core.Path.{◌≡◌}
@@ -11,9 +11,6 @@ use Rattle.refining.proofs.locked.meets_locked.Given as goal
 
 abbrev pub invariant-loop-i : goal.invariant-loop-i
 invariant-loop-i l =
-    (l.i ≤ 3)
-    × ((n : Counts) (p : List ℤ) (c : List ℕ) → l.some ≡ any l.i (λ k. let m = mesh_now n p c l.links l.generations l.locks in let h = link m.topology (l.first + k) in is_base m.topology h && locked m (h / 3)))
-
-abbrev pub decreases-loop-i : goal.decreases-loop-i
-decreases-loop-i l =
-    3 - l.i
+    (n : Counts) (p : List ℤ) (c : List ℕ) →
+    let m = mesh_now n p c l.links l.generations l.locks in
+    l.some ≡ any l.i (λ k. let h = link m.topology (l.first + k) in is_base m.topology h && locked m (h / 3))
