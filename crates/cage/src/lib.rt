@@ -6,11 +6,12 @@ ghost use Rattle.rules.specs.Cage.{cage_of};
 ghost use Rattle.rules.specs.Calls.{load_refusal, load_call};
 ghost use Rattle.tables.specs.Answers.{worked_outcome};
 ghost use Rattle.tables.specs.Lent.{mesh_now};
-ghost use Rattle.judging.specs.Answers.{SidesLeft};
+ghost use Rattle.judging.specs.Answers.{refused_with, SidesLeft};
 
+use judging::Refusal;
 use tables::{Counts, Worked};
 
-// The refusal of a cage, with the conditions 1, 16 and 2. Where it is 0 its corners and links are written.
+// Judges a cage, by the conditions 1, 16 and 2 too. Where it is not refused, its corners and links are written.
 fn load_sides(
     positions: &[i32],
     corners: &mut [u32],
@@ -19,20 +20,20 @@ fn load_sides(
     locks: &[u8],
     rule: u32,
     cage: &[u8],
-) -> u32
-    ensures value { (n : Counts) → result ≡ load_refusal rule cage.now (mesh_now n positions.now
+) -> Result<(), Refusal>
+    ensures value { (n : Counts) → refused_with result ≡ load_refusal rule cage.now (mesh_now n positions.now
         corners.old links.old generations.now locks.now) }
-    ensures sides_left { SidesLeft (cage_of cage.now) result corners.old links.old
+    ensures sides_left { SidesLeft (cage_of cage.now) (refused_with result) corners.old links.old
         corners.new links.new }
 {
     if !soundness::tables_agree(positions, corners, links, generations, locks) {
-        return 1;
+        return Err(Refusal::TablesDisagree);
     }
     if !points::known_rule(rule) {
-        return 16;
+        return Err(Refusal::Rule);
     }
     if !decoding::sizes_fit(cage, positions, generations) {
-        return 2;
+        return Err(Refusal::Sizes);
     }
     let v = points::number_at(cage, 0);
     let f = points::number_at(cage, 4);
@@ -55,29 +56,27 @@ pub fn load(
         ≡ load_call rule cage.now (mesh_now counts positions.old corners.old
         links.old generations.old locks.old) }
 {
-    let refusal = load_sides(positions, corners, links, generations, locks, rule, cage);
-    if refusal == 0 {
-        let v = points::number_at(cage, 0);
-        let f = points::number_at(cage, 4);
-        decoding::writing::place(cage, 3 * (v as usize), positions);
-        decoding::writing::clear(f as usize, generations);
-        decoding::writing::clear(f as usize, locks);
-        let loaded = Counts {
+    if let Err(refusal) = load_sides(positions, corners, links, generations, locks, rule, cage) {
+        return Worked {
+            refusal: refusal.number(),
+            splits: 0,
+            flips: 0,
+            counts,
+        };
+    }
+    let v = points::number_at(cage, 0);
+    let f = points::number_at(cage, 4);
+    decoding::writing::place(cage, 3 * (v as usize), positions);
+    decoding::writing::clear(f as usize, generations);
+    decoding::writing::clear(f as usize, locks);
+    Worked {
+        refusal: 0,
+        splits: 0,
+        flips: 0,
+        counts: Counts {
             vertices: v,
             triangles: f,
             rule,
-        };
-        return Worked {
-            refusal,
-            splits: 0,
-            flips: 0,
-            counts: loaded,
-        };
-    }
-    Worked {
-        refusal,
-        splits: 0,
-        flips: 0,
-        counts,
+        },
     }
 }

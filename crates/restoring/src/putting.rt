@@ -63,9 +63,7 @@ pub fn put_back_all(
         generations.old locks.old) }
 {
     let slots = note[3] as usize;
-    let mut i: usize = 0;
-    while i < slots {
+    for i in 0..slots {
         put_back(corners, links, generations, locks, note, i);
-        i += 1;
     }
 }
