@@ -6,7 +6,7 @@ ghost use Rattle.rules.specs.Below.{all, fill};
 ghost use Rattle.rules.specs.Cage.{sizes_fit, corners_fit};
 ghost use Rattle.rules.specs.Numbers.{number_at, signed, in_range};
 ghost use Rattle.tables.specs.declared.Counts.{Counts};
-ghost use Rattle.tables.specs.Lent.{mesh_in, seen};
+ghost use Rattle.tables.specs.Lent.{mesh_with, seen};
 ghost use Rattle.decoding.specs.Decoded.{decoded, triangle_fits};
 
 use tables::View;
@@ -16,7 +16,7 @@ pub mod writing;
 // Whether the cage is as long as its sizes say, and these are at least 1 and within the slots.
 // In 64 bits nothing wraps.
 pub fn sizes_fit(cage: &[u8], view: &View) -> bool
-    ensures { (n : Counts) → result ≡ sizes_fit cage.now (mesh_in n (seen view.now)) }
+    ensures { (n : Counts) → result ≡ sizes_fit cage.now (mesh_with n (seen view.now)) }
 {
     if cage.len() < 8 {
         return false;

@@ -7,7 +7,7 @@ ghost use Rattle.theory.proofs.Splits.After.{is_flipped, is_second_flipped, flip
 ghost use Rattle.theory.proofs.Splits.Flipped.{pair_at};
 ghost use Rattle.rules.specs.Split.{at_first, refine};
 ghost use Rattle.tables.specs.declared.Counts.{Counts};
-ghost use Rattle.tables.specs.Lent.{held, seen, topology_in, mesh_in, SameTables};
+ghost use Rattle.tables.specs.Lent.{held, seen, topology_with, mesh_with, SameTables};
 ghost use Rattle.split.specs.Made.{work_now, BaseChain};
 ghost use Rattle.reporting.specs.Told.{Tells, Told};
 
@@ -91,7 +91,7 @@ fn tell_split(
 fn flip_length(view: &View, h: usize) -> usize
     requires { h < length view.now.links.now }
     ensures { ((n : Counts) →
-        let m = topology_in n (seen view.now) in
+        let m = topology_with n (seen view.now) in
         result ≡ length (pair_at m 0 h)) × (result ≤ 2) }
 {
     if split::is_base(view.generations, view.links[h]) {
@@ -104,7 +104,7 @@ fn flip_length(view: &View, h: usize) -> usize
 fn report_length(view: &View, chain: Chain) -> usize
     requires { 3 * chain.end + 2 < length view.now.links.now }
     ensures { (t : ℕ) (n : Counts) →
-        let m = mesh_in n (seen view.now) in
+        let m = mesh_with n (seen view.now) in
         RefineFound t m → BaseChain m.topology t chain → result ≡ length (refine t (at_first m)).report }
 {
     let first = 3 * (chain.end as usize);
@@ -119,7 +119,7 @@ fn report_length(view: &View, chain: Chain) -> usize
 pub fn fits(view: &View, chain: Chain, entries: usize) -> bool
     requires { 3 * chain.end + 2 < length view.now.links.now }
     ensures { (t : ℕ) (n : Counts) →
-        let m = mesh_in n (seen view.now) in
+        let m = mesh_with n (seen view.now) in
         RefineFound t m → BaseChain m.topology t chain
         → result ≡ leb (length (refine t (at_first m)).report) entries }
 {
@@ -155,9 +155,9 @@ pub fn refine(
     report: &mut [u32],
     at: usize,
 ) -> Work
-    requires { RefineFound t (mesh_in counts (held tables.old))
-        × BaseChain (topology_in counts (held tables.old)) t chain }
-    ensures refined { let w = refine t (at_first (mesh_in counts (held tables.old))) in
+    requires { RefineFound t (mesh_with counts (held tables.old))
+        × BaseChain (topology_with counts (held tables.old)) t chain }
+    ensures refined { let w = refine t (at_first (mesh_with counts (held tables.old))) in
         (work_now counts.rule w.report result (held tables.new)
         ≡ w) × Told w.report report.old report.new at }
     ensures lent { SameTables tables.new tables.old }

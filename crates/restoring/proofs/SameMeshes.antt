@@ -14,7 +14,8 @@ use Rattle.std.proofs.lemmas.Bool.Decides.{same_from_decides, Decides-like, Deci
 use Rattle.std.proofs.lemmas.Slice.Eq.{slice_eq-Decides}
 use Rattle.std.specs.Bool.{Decides as Answers}
 use Rattle.tables.specs.declared.Counts.{Counts}
-use Rattle.tables.specs.Lent.{mesh_now, HasSlots}
+use Rattle.rules.specs.Spares.{Spares}
+use Rattle.tables.specs.Lent.{mesh_with, HasSlots}
 use Rattle.theory.proofs.Notes.Tests.{same_number_is}
 use Rattle.theory.proofs.Numbers.Decide.{Decides, is_eq, is_all, is_same, is_true, when_true}
 use Rattle.rules.specs.Below.{all}
@@ -54,21 +55,20 @@ coordinates_same = slices_same (pos 0) Decides-int_eq same_number_is
 
 -- ---- two meshes
 
-pub same_by_slices : (m n : Counts) {p q : List ℤ} {c l g k c₁ l₁ g₁ k₁ : List ℕ}
-    → HasSlots m p c l g k → HasSlots m q c₁ l₁ g₁ k₁
+pub same_by_slices : (m n : Counts) {a b : Spares} → HasSlots m a → HasSlots m b
     → (eqb n.vertices m.vertices && eqb n.triangles m.triangles && eqb n.rule m.rule
-    && pointwise eqb (take (3 * m.triangles) c₁) (take (3 * m.triangles) c)
-    && pointwise eqb (take (3 * m.triangles) l₁) (take (3 * m.triangles) l)
-    && pointwise eqb (take m.triangles g₁) (take m.triangles g)
-    && pointwise eqb (take m.triangles k₁) (take m.triangles k)
-    && pointwise int_eq (take (3 * m.vertices) q) (take (3 * m.vertices) p))
-    ≡ same_in_use (mesh_now m p c l g k) (mesh_now n q c₁ l₁ g₁ k₁)
+    && pointwise eqb (take (3 * m.triangles) b.corners) (take (3 * m.triangles) a.corners)
+    && pointwise eqb (take (3 * m.triangles) b.links) (take (3 * m.triangles) a.links)
+    && pointwise eqb (take m.triangles b.generations) (take m.triangles a.generations)
+    && pointwise eqb (take m.triangles b.locks) (take m.triangles a.locks)
+    && pointwise int_eq (take (3 * m.vertices) b.positions) (take (3 * m.vertices) a.positions))
+    ≡ same_in_use (mesh_with m a) (mesh_with n b)
 unfolding same_in_use
-same_by_slices m n {p} {q} {c} {l} {g} {k} {c₁} {l₁} {g₁} {k₁} H O =
+same_by_slices m n {a} {b} A B =
     rw (
-      entries_same (3 * m.triangles) c₁ c O.corners H.corners,
-      entries_same (3 * m.triangles) l₁ l O.links H.links,
-      entries_same m.triangles g₁ g O.generations H.generations,
-      entries_same m.triangles k₁ k O.locks H.locks,
-      coordinates_same (3 * m.vertices) q p O.positions H.positions,
+      entries_same (3 * m.triangles) b.corners a.corners B.corners A.corners,
+      entries_same (3 * m.triangles) b.links a.links B.links A.links,
+      entries_same m.triangles b.generations a.generations B.generations A.generations,
+      entries_same m.triangles b.locks a.locks B.locks A.locks,
+      coordinates_same (3 * m.vertices) b.positions a.positions B.positions A.positions,
     ) refl

@@ -6,7 +6,7 @@ ghost use Rattle.std.specs.Prelude.{true, List, ◌≢◌, ◌≡◌, ℕ, ◌+�
 ghost use Rattle.rules.specs.Below.{all};
 ghost use Rattle.rules.specs.Sound.{role_of, five_kinds};
 ghost use Rattle.rules.specs.Tables.{boundary};
-ghost use Rattle.tables.specs.Lent.{seen, topology_in};
+ghost use Rattle.tables.specs.Lent.{seen, topology_with};
 ghost use Rattle.tables.specs.declared.Counts.{Counts};
 ghost use Rattle.sides.specs.Parts.{Room, SideRead, corners_fit, partner_fits, link_fits, triangle_fits};
 ghost use Rattle.rings.specs.Walks.{Zeroed};
@@ -92,7 +92,7 @@ fn partner_fits(view: &View, h: usize, i: usize, g: u8, to: u32, k: usize) -> bo
     requires in_use { (h < 3 * length view.now.generations.now) × (k < 3 * length view.now.generations.now) }
     ensures { (n : Counts) (from : ℕ) → SideRead view.now.corners.now view.now.generations.now h i g from to
         → result ≡ partner_fits
-        (topology_in n (seen view.now)) h k }
+        (topology_with n (seen view.now)) h k }
 {
     if view.links[k] != h as u32 {
         return false;
@@ -129,7 +129,7 @@ fn side_fits(
     requires side_read { SideRead view.now.corners.now view.now.generations.now h i g from to × (from < counts.vertices) × (counts.vertices ≤ 32768) }
     requires all_kept { AllKept counts.vertices view.now.corners.now view.now.links.now h starts.old }
     ensures value { result ≡ link_fits
-        (topology_in counts (seen view.now))
+        (topology_with counts (seen view.now))
         h }
     ensures kept_after { result ≡ true
         → AllKept counts.vertices view.now.corners.now view.now.links.now (h + 1) starts.new }
@@ -156,7 +156,7 @@ fn triangle_fits(view: &View, counts: Counts, t: usize, starts: &mut [u32]) -> b
     requires room { Room counts.triangles (seen view.now) × (t < counts.triangles) × (counts.vertices ≤ 32768) }
     requires all_kept { AllKept counts.vertices view.now.corners.now view.now.links.now (3 * t) starts.old }
     ensures value { result ≡ triangle_fits
-        (topology_in counts (seen view.now))
+        (topology_with counts (seen view.now))
         t }
     ensures kept_after { result ≡ true
         → AllKept counts.vertices view.now.corners.now view.now.links.now (3 * t + 3) starts.new }
@@ -186,7 +186,7 @@ pub fn triangles_fit(view: &View, counts: Counts, starts: &mut [u32]) -> bool
     requires room { Room counts.triangles (seen view.now) × (counts.vertices ≤ 32768) }
     requires zeroed { Zeroed counts.vertices starts.old }
     ensures value { result ≡ all counts.triangles (triangle_fits
-        (topology_in counts (seen view.now))) }
+        (topology_with counts (seen view.now))) }
     ensures all_kept { result ≡ true
         → AllKept counts.vertices view.now.corners.now view.now.links.now (3 * counts.triangles) starts.new }
 {

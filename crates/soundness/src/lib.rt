@@ -7,7 +7,7 @@ ghost use Rattle.rules.specs.Below.{all};
 ghost use Rattle.rules.specs.Numbers.{in_range};
 ghost use Rattle.rules.specs.Sound.{is_sound};
 ghost use Rattle.rules.specs.Tables.{Mesh, tables_agree};
-ghost use Rattle.tables.specs.Lent.{seen, mesh_in};
+ghost use Rattle.tables.specs.Lent.{seen, mesh_with};
 ghost use Rattle.tables.specs.Refusals.{refused};
 ghost use Rattle.tables.specs.declared.Counts.{Counts};
 ghost use Rattle.tables.specs.Standing.{standing, slot_refusal};
@@ -20,7 +20,7 @@ mod surface;
 
 // Whether the tables agree in their slots and keep to the maxima. The counts do not matter.
 pub fn tables_agree(view: &View) -> bool
-    ensures { (n : Counts) → result ≡ tables_agree (mesh_in n (seen view.now)) }
+    ensures { (n : Counts) → result ≡ tables_agree (mesh_with n (seen view.now)) }
 {
     let vertex_slots = view.positions.len() / 3;
     let triangle_slots = view.generations.len();
@@ -44,7 +44,7 @@ pub fn tables_agree(view: &View) -> bool
 
 // Whether the counts are at least 1 and within the slots, and their rule is known.
 fn counts_fit(view: &View, counts: Counts) -> bool
-    ensures { result ≡ counts_fit (mesh_in counts (seen view.now)) }
+    ensures { result ≡ counts_fit (mesh_with counts (seen view.now)) }
 {
     if !points::known_rule(counts.rule) {
         return false;
@@ -90,7 +90,7 @@ fn locks_fit(locks: &[u8], n: usize) -> bool
 // The side where the ring of v starts, or the number of sides, where v has no ring; none where the tables are not
 // sound.
 pub fn sound_start(view: &View, counts: Counts, v: u32) -> Option<u32>
-    ensures { let m = mesh_in counts (seen view.now) in result ≡ start_if (is_sound m) m.topology v }
+    ensures { let m = mesh_with counts (seen view.now) in result ≡ start_if (is_sound m) m.topology v }
 {
     if !tables_agree(view) {
         return None;
@@ -109,14 +109,14 @@ pub fn sound_start(view: &View, counts: Counts, v: u32) -> Option<u32>
 
 // Whether the tables are sound.
 pub fn is_sound(view: &View, counts: Counts) -> bool
-    ensures { result ≡ is_sound (mesh_in counts (seen view.now)) }
+    ensures { result ≡ is_sound (mesh_with counts (seen view.now)) }
 {
     sound_start(view, counts, 0).is_some()
 }
 
 // The first refusal of every call but load.
 pub fn first_refusal(view: &View, counts: Counts) -> Result<(), Refusal>
-    ensures { refused result ≡ standing (mesh_in counts (seen view.now)) }
+    ensures { refused result ≡ standing (mesh_with counts (seen view.now)) }
 {
     if !tables_agree(view) {
         return Err(Refusal::TablesDisagree);

@@ -1,6 +1,6 @@
 // The test of triangles and fans together, in one reading of the triangles and one walk round each vertex.
 ghost use Rattle.std.specs.Prelude.{◌≡◌, ◌≤◌};
-ghost use Rattle.tables.specs.Lent.{seen, topology_in};
+ghost use Rattle.tables.specs.Lent.{seen, topology_with};
 ghost use Rattle.rings.specs.Walks.{Zeroed};
 ghost use Rattle.sides.specs.Parts.{Room};
 ghost use Rattle.soundness.specs.Parts.{is_surface, start_if};
@@ -14,7 +14,7 @@ use tables::{Counts, View};
 fn start_by(view: &View, counts: Counts, v: u32, starts: &mut [u32]) -> Option<u32>
     requires room { Room counts.triangles (seen view.now) × (counts.vertices ≤ 32768) }
     requires zeroed { Zeroed counts.vertices starts.old }
-    ensures { let m = topology_in counts (seen view.now) in result ≡ start_if (is_surface m) m v }
+    ensures { let m = topology_with counts (seen view.now) in result ≡ start_if (is_surface m) m v }
 {
     if !triangles_fit(view, counts, starts) {
         return None;
@@ -32,7 +32,7 @@ fn start_by(view: &View, counts: Counts, v: u32, starts: &mut [u32]) -> Option<u
 fn start_within<const N: usize>(view: &View, counts: Counts, v: u32) -> Option<u32>
     requires room { Room counts.triangles (seen view.now) }
     requires slots { (counts.vertices ≤ N) × (N ≤ 32768) }
-    ensures { let m = topology_in counts (seen view.now) in result ≡ start_if (is_surface m) m v }
+    ensures { let m = topology_with counts (seen view.now) in result ≡ start_if (is_surface m) m v }
 {
     let mut starts = [0u32; N];
     start_by(view, counts, v, &mut starts)
@@ -41,7 +41,7 @@ fn start_within<const N: usize>(view: &View, counts: Counts, v: u32) -> Option<u
 // The same for all. A small mesh has little to clear.
 pub fn start(view: &View, counts: Counts, v: u32) -> Option<u32>
     requires { Room counts.triangles (seen view.now) × (counts.vertices ≤ 32768) }
-    ensures { let m = topology_in counts (seen view.now) in result ≡ start_if (is_surface m) m v }
+    ensures { let m = topology_with counts (seen view.now) in result ≡ start_if (is_surface m) m v }
 {
     if counts.vertices <= 128 {
         return start_within::<128>(view, counts, v);

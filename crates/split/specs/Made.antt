@@ -8,7 +8,7 @@ use Rattle.rules.specs.Spares.{Spares}
 use Rattle.rules.specs.Tables.{Topology, TablesAgree, boundary, generation, triangle_slots, relink}
 use Rattle.tables.specs.declared.Counts.{Counts}
 use Rattle.tables.specs.declared.Triangle.{Triangle}
-use Rattle.tables.specs.Lent.{mesh_in, entries, put}
+use Rattle.tables.specs.Lent.{mesh_with, entries, put}
 use Rattle.split.specs.declared.Chain.{Chain}
 use Rattle.split.specs.declared.Work.{Work}
 
@@ -21,7 +21,7 @@ counts_of rule w = record { vertices = w.vertices; triangles = w.triangles; rule
 -- The work done, with a report, which the code does not keep, and what the tables hold.
 abbrev pub work_now : ℕ → List ℕ → Work → Spares → rules.Work
 work_now rule report w s = record {
-  mesh = mesh_in (counts_of rule w) s;
+  mesh = mesh_with (counts_of rule w) s;
   splits = w.splits;
   flips = w.flips;
   report = report;

@@ -8,7 +8,7 @@ ghost use Rattle.points.specs.Axes.{each_axis};
 ghost use Rattle.rules.specs.Split.{flip, third_of, settle, settle_all, split_at};
 ghost use Rattle.rules.specs.Tables.{is_base};
 ghost use Rattle.tables.specs.declared.Counts.{Counts};
-ghost use Rattle.tables.specs.Lent.{topology_now, topology_in, mesh_in, held, seen, SameTables, SameBeside, TrianglesAgree, VerticesAgree};
+ghost use Rattle.tables.specs.Lent.{topology_now, topology_with, mesh_with, held, seen, SameTables, SameBeside, TrianglesAgree, VerticesAgree};
 ghost use Rattle.split.specs.Made.{work_now, MaySplit, Hands, replaced, BaseChain};
 
 use points::Point;
@@ -51,8 +51,8 @@ fn flip(tables: &mut Tables, s: u32, u: u32)
     requires { TrianglesAgree (held tables.old) × (s < length tables.old.generations.now)
         × (u < length tables.old.generations.now) × (get_or tables.old.generations.now s 0 < 255) }
     ensures flipped { (n : Counts) →
-        topology_in n (held tables.new)
-        ≡ flip s u (topology_in n (held tables.old)) }
+        topology_with n (held tables.new)
+        ≡ flip s u (topology_with n (held tables.old)) }
     ensures rest { SameBeside tables.new tables.old }
 {
     let to_s = 3 * s;
@@ -116,9 +116,9 @@ fn replace(
     requires { TrianglesAgree (held tables.old) × (t < length tables.old.generations.now)
         × (f + 2 ≤ length tables.old.generations.now) }
     ensures replaced { (n : Counts) →
-        topology_in n (held tables.new)
+        topology_with n (held tables.new)
         ≡ replaced t f x three to_1 to_2
-        (topology_in n (held tables.old)) }
+        (topology_with n (held tables.old)) }
     ensures rest { SameBeside tables.new tables.old }
 {
     let e = f + 1;
@@ -135,7 +135,7 @@ fn replace(
 // The nearest third of the sum of the corners h, i and j of t.
 fn third_of(tables: &Tables, t: u32, h: usize, i: usize, j: usize) -> Point
     requires { VerticesAgree tables.now.positions.now × (3 * t + 2 < length tables.now.corners.now) × (h < 3) × (i < 3) × (j < 3) }
-    ensures { (n : Counts) → result ≡ each_axis (third_of h i j (mesh_in n (held tables.now)) t) }
+    ensures { (n : Counts) → result ≡ each_axis (third_of h i j (mesh_with n (held tables.now)) t) }
 {
     let first = 3 * (t as usize);
     let a = tables::point_at(tables.positions, tables.corners[first + h]);
@@ -258,7 +258,7 @@ pub fn split_at(tables: &mut Tables, work: Work, t: u32) -> Work
 // are at most as many as the generation of t says, so that the slots have room.
 pub fn base_chain(view: &View, t: u32) -> Chain
     requires { get_or view.now.generations.now t 0 ≤ 20 }
-    ensures { (n : Counts) → BaseChain (topology_in n (seen view.now)) t result }
+    ensures { (n : Counts) → BaseChain (topology_with n (seen view.now)) t result }
 {
     let mut slots: [u32; 20] = [0; 20];
     let mut odd: u32 = 0;

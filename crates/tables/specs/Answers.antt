@@ -3,13 +3,13 @@ use Rattle.std.specs.Prelude.{ℕ, List, ℤ}
 use Rattle.rules.specs.Calls.{Outcome, answer_of, no_room, table_room, outcome_of, zero_point}
 use Rattle.rules.specs.Spares.{Spares}
 use Rattle.rules.specs.Tables.{Mesh}
-use Rattle.tables.specs.Lent.{mesh_in}
+use Rattle.tables.specs.Lent.{mesh_with}
 use Rattle.tables.specs.declared.Worked.{Worked}
 
 -- Of a call that may change the mesh.
 abbrev pub worked_outcome : Worked → Spares → Outcome
 worked_outcome a s =
-    let m = mesh_in a.counts s in
+    let m = mesh_with a.counts s in
     outcome_of (answer_of a.refusal a.splits a.flips 0 zero_point m) m no_room
 
 -- Of a call that reads m, refuses with n or with 0, and leaves this table.

@@ -34,11 +34,11 @@ abbrev pub seen : View → Spares
 seen v = spares_now v.positions.now v.corners.now v.links.now v.generations.now v.locks.now
 
 -- The mesh in them, and its triangles.
-abbrev pub mesh_in : Counts → Spares → Mesh
-mesh_in n s = mesh_now n s.positions s.corners s.links s.generations s.locks
+abbrev pub mesh_with : Counts → Spares → Mesh
+mesh_with n s = mesh_now n s.positions s.corners s.links s.generations s.locks
 
-abbrev pub topology_in : Counts → Spares → Topology
-topology_in n s = topology_now n s.corners s.links s.generations
+abbrev pub topology_with : Counts → Spares → Topology
+topology_with n s = topology_now n s.corners s.links s.generations
 
 -- Tables of the same sizes.
 pub record SameSizes (a b : Spares) : Type 0 where

@@ -2,7 +2,7 @@
 ghost use Rattle.std.specs.Prelude.{◌≡◌, ◌*◌, ◌≤◌, pos, length, get_or};
 ghost use Rattle.rules.specs.Below.{fill};
 ghost use Rattle.rules.specs.Spares.{copied, same_sizes};
-ghost use Rattle.tables.specs.Lent.{mesh_in, held, seen, HasSlots, SameTables};
+ghost use Rattle.tables.specs.Lent.{mesh_with, held, seen, HasSlots, SameTables};
 ghost use Rattle.tables.specs.declared.Counts.{Counts};
 
 use crate::{Counts, Tables, View};
@@ -19,7 +19,7 @@ pub fn copy<T: Copy>(from: &[T], count: usize, to: &mut [T])
 impl View<'_> {
     // Whether spare tables are as long as these.
     pub fn same_sizes(&self, spares: &View) -> bool
-        ensures { (n : Counts) → result ≡ same_sizes (seen spares.now) (mesh_in n (seen self.now)) }
+        ensures { (n : Counts) → result ≡ same_sizes (seen spares.now) (mesh_with n (seen self.now)) }
     {
         if spares.positions.len() != self.positions.len() {
             return false;
@@ -40,7 +40,7 @@ impl View<'_> {
     pub fn copy_mesh(&self, counts: Counts, spares: &mut Tables)
         requires own_slots { HasSlots counts (seen self.now) }
         requires spare_slots { HasSlots counts (held spares.old) }
-        ensures copied { held spares.new ≡ copied (mesh_in counts (seen self.now)) (held spares.old) }
+        ensures copied { held spares.new ≡ copied (mesh_with counts (seen self.now)) (held spares.old) }
         ensures lent { SameTables spares.new spares.old }
     {
         let triangles = counts.triangles as usize;

@@ -7,7 +7,7 @@ ghost use Rattle.rules.specs.Split.{new_unlocked};
 ghost use Rattle.rules.specs.Tables.{put_three, relink};
 ghost use Rattle.tables.specs.Refusals.{number};
 ghost use Rattle.tables.specs.declared.Counts.{Counts};
-ghost use Rattle.tables.specs.Lent.{held, seen, mesh_in, topology_in, topology_now, SameSizes, SameBeside};
+ghost use Rattle.tables.specs.Lent.{held, seen, mesh_with, topology_with, topology_now, SameSizes, SameBeside};
 ghost use Rattle.tables.specs.Lent.{TrianglesAgree, VerticesAgree, triangle_at, entries, put, point_in, put_point};
 
 use points::Point;
@@ -91,7 +91,7 @@ impl View<'_> {
     // The triangle in slot t.
     pub fn triangle_at(&self, t: u32) -> Triangle
         requires { TrianglesAgree (seen self.now) × (t < length self.now.generations.now) }
-        ensures { (n : Counts) → result ≡ triangle_at (topology_in n (seen self.now)) t }
+        ensures { (n : Counts) → result ≡ triangle_at (topology_with n (seen self.now)) t }
     {
         let slot = t as usize;
         let i = 3 * slot;
@@ -107,7 +107,7 @@ impl View<'_> {
     // Whether there are slots for so many splits. Each makes two triangles and a vertex, and the rim splits among them
     // a vertex more.
     pub fn has_room(&self, counts: Counts, splits: u32, rim: u32) -> bool
-        ensures { result ≡ room_for (splits + rim) (2 * splits) (mesh_in counts (seen self.now)) }
+        ensures { result ≡ room_for (splits + rim) (2 * splits) (mesh_with counts (seen self.now)) }
     {
         let vertices = counts.vertices as u64 + (splits as u64 + rim as u64);
         let triangles = counts.triangles as u64 + 2 * (splits as u64);
@@ -133,7 +133,7 @@ impl Tables<'_> {
     // The triangle in slot t.
     pub fn triangle_at(&self, t: u32) -> Triangle
         requires { TrianglesAgree (held self.now) × (t < length self.now.generations.now) }
-        ensures { (n : Counts) → result ≡ triangle_at (topology_in n (held self.now)) t }
+        ensures { (n : Counts) → result ≡ triangle_at (topology_with n (held self.now)) t }
     {
         self.view().triangle_at(t)
     }
@@ -142,7 +142,7 @@ impl Tables<'_> {
     pub fn store(&mut self, t: u32, x: Triangle)
         requires { TrianglesAgree (held self.old) × (t < length self.old.generations.now) }
         ensures stored { (n : Counts) →
-            topology_in n (held self.new) ≡ put t x (topology_in n (held self.old)) }
+            topology_with n (held self.new) ≡ put t x (topology_with n (held self.old)) }
         ensures rest { SameBeside self.new self.old }
     {
         let c = x.corners;
@@ -154,7 +154,7 @@ impl Tables<'_> {
 
     // Side h linked to side k. The boundary has no slot, so that nothing is written where h is the boundary.
     pub fn relink(&mut self, h: u32, k: u32)
-        ensures linked { (n : Counts) → topology_in n (held self.new) ≡ relink h k (topology_in n (held self.old)) }
+        ensures linked { (n : Counts) → topology_with n (held self.new) ≡ relink h k (topology_with n (held self.old)) }
         ensures rest { SameBeside self.new self.old }
     {
         let i = h as usize;

@@ -7,7 +7,7 @@ use Rattle.theory.proofs.Numbers.Decide.{when_true}
 use Rattle.theory.proofs.Soundness.SoundTest.{tables_agree_is}
 use Rattle.rules.specs.Below.{all}
 use Rattle.rules.specs.Tables.{Mesh, TablesAgree, tables_agree}
-use Rattle.tables.specs.Lent.{seen, mesh_in}
+use Rattle.tables.specs.Lent.{seen, mesh_with}
 use Rattle.soundness.specs.Parts.{counts_fit}
 use Rattle.soundness.proofs.Parts.{CountsFit, counts_are, coordinate_fits, lock_fits}
 use Rattle.soundness.proofs.Parts.{room, parts}
@@ -21,7 +21,7 @@ returns-then-not-tables_agree c =
 
 pub returns-then-not-counts_fit : goal.returns-then-not-counts_fit
 returns-then-not-counts_fit c =
-    let mesh : Mesh = mesh_in c.args.counts (seen c.args.view.now) in
+    let mesh : Mesh = mesh_with c.args.counts (seen c.args.view.now) in
     let agreed : tables_agree mesh ≡ true = sym (c.tables_agree.ensures c.args.counts) ∙ c.if-not-tables_agree.false in
     let test = c.counts_fit.ensures in
     let none = sym test ∙ c.if-not-counts_fit.true in
@@ -29,14 +29,14 @@ returns-then-not-counts_fit c =
 
 pub coordinates_fit-requires : goal.coordinates_fit-requires
 coordinates_fit-requires c =
-    let mesh : Mesh = mesh_in c.args.counts (seen c.args.view.now) in
+    let mesh : Mesh = mesh_with c.args.counts (seen c.args.view.now) in
     let counted : counts_fit mesh ≡ true = sym (c.counts_fit.ensures) ∙ c.if-not-counts_fit.false in
     let counts : CountsFit mesh = when_true (counts_are mesh) counted in
     omega (arith, counts.vertex_room)
 
 pub returns-then-not-coordinates_fit : goal.returns-then-not-coordinates_fit
 returns-then-not-coordinates_fit c =
-    let mesh : Mesh = mesh_in c.args.counts (seen c.args.view.now) in
+    let mesh : Mesh = mesh_with c.args.counts (seen c.args.view.now) in
     let agreed : tables_agree mesh ≡ true = sym (c.tables_agree.ensures c.args.counts) ∙ c.if-not-tables_agree.false in
     let counted : counts_fit mesh ≡ true = sym (c.counts_fit.ensures) ∙ c.if-not-counts_fit.false in
     let none = sym c.coordinates_fit.ensures ∙ c.if-not-coordinates_fit.true in
@@ -44,7 +44,7 @@ returns-then-not-coordinates_fit c =
 
 pub locks_fit-requires : goal.locks_fit-requires
 locks_fit-requires c =
-    let mesh : Mesh = mesh_in c.args.counts (seen c.args.view.now) in
+    let mesh : Mesh = mesh_with c.args.counts (seen c.args.view.now) in
     let agreed : tables_agree mesh ≡ true = sym (c.tables_agree.ensures c.args.counts) ∙ c.if-not-tables_agree.false in
     let agree : TablesAgree mesh = when_true (tables_agree_is mesh) agreed in
     let counted : counts_fit mesh ≡ true = sym (c.counts_fit.ensures) ∙ c.if-not-counts_fit.false in
@@ -53,7 +53,7 @@ locks_fit-requires c =
 
 pub returns-then-not-locks_fit : goal.returns-then-not-locks_fit
 returns-then-not-locks_fit c =
-    let mesh : Mesh = mesh_in c.args.counts (seen c.args.view.now) in
+    let mesh : Mesh = mesh_with c.args.counts (seen c.args.view.now) in
     let agreed : tables_agree mesh ≡ true = sym (c.tables_agree.ensures c.args.counts) ∙ c.if-not-tables_agree.false in
     let counted : counts_fit mesh ≡ true = sym (c.counts_fit.ensures) ∙ c.if-not-counts_fit.false in
     let placed : let m = mesh in
@@ -63,7 +63,7 @@ returns-then-not-locks_fit c =
 
 pub start-requires : goal.start-requires
 start-requires c =
-    let mesh : Mesh = mesh_in c.args.counts (seen c.args.view.now) in
+    let mesh : Mesh = mesh_with c.args.counts (seen c.args.view.now) in
     let agreed : tables_agree mesh ≡ true = sym (c.tables_agree.ensures c.args.counts) ∙ c.if-not-tables_agree.false in
     let agree : TablesAgree mesh = when_true (tables_agree_is mesh) agreed in
     let counted : counts_fit mesh ≡ true = sym (c.counts_fit.ensures) ∙ c.if-not-counts_fit.false in
@@ -74,7 +74,7 @@ start-requires c =
 
 pub returns : goal.returns
 returns c =
-    let mesh : Mesh = mesh_in c.args.counts (seen c.args.view.now) in
+    let mesh : Mesh = mesh_with c.args.counts (seen c.args.view.now) in
     let agreed : tables_agree mesh ≡ true = sym (c.tables_agree.ensures c.args.counts) ∙ c.if-not-tables_agree.false in
     let counted : counts_fit mesh ≡ true = sym (c.counts_fit.ensures) ∙ c.if-not-counts_fit.false in
     let placed : let m = mesh in

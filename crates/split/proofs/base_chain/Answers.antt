@@ -5,7 +5,7 @@ use native.Mathlib.Omega.{arith}
 use mathlib.Core.Path.{◌≡◌, sym, ◌∙◌, ap}
 use lib.ListN.{length, length-set}
 use Rattle.rules.specs.Tables.{Topology}
-use Rattle.tables.specs.Lent.{seen, topology_in}
+use Rattle.tables.specs.Lent.{seen, topology_with}
 use Rattle.split.proofs.Walk.{Walking, walk_begins, walk_ends, walk_more, walk_even}
 use Rattle.split.proofs.Walk.{walk_boundary, walk_on, Walked, walk_tells}
 use Rattle.split.proofs.base_chain.Goals as goal
@@ -32,7 +32,7 @@ loop-steps-preserved c = (
 
 pub returns : goal.returns
 returns c n =
-    let m : Topology = topology_in n (seen c.args.view.now) in
+    let m : Topology = topology_with n (seen c.args.view.now) in
     let walking : Walking m c.args.t c.loop-steps.odd c.loop-steps.end c.loop-steps.steps c.loop-steps.slots =
     c.loop-steps.invariant.0 n in
     -- past the loop: by its test, or by one of its two breaks

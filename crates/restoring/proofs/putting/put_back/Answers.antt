@@ -1,11 +1,11 @@
 -- `restoring::putting::put_back` meets its contract.
 use mathlib.Core.Path.{refl}
-use Rattle.tables.specs.Lent.{mesh_now}
+use Rattle.tables.specs.Lent.{mesh_with, held}
 use Rattle.restoring.proofs.SlotsBack.{one_put}
 use Rattle.restoring.proofs.putting.put_back.Goals as goal
 
-pub returns : goal.returns
-returns c n positions =
-    one_put c.args.note.now c.args.i
-    (mesh_now n positions c.args.corners.now c.args.links.now c.args.generations.now c.args.locks.now)
-    c.triangle_of.ensures refl (c.store.ensures n)
+pub returns-clause-put : goal.returns-clause-put
+returns-clause-put c n =
+    rw (c.store.ensures.rest.positions, c.store.ensures.rest.locks)
+    (one_put c.args.note.now c.args.i (mesh_with n (held c.args.tables.now)) c.triangle_of.ensures refl
+    (c.store.ensures.stored n))

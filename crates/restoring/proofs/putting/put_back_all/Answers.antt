@@ -3,10 +3,7 @@ use Rattle.restoring.proofs.SlotsBack.{none_put, one_more_put}
 use Rattle.restoring.proofs.putting.put_back_all.Goals as goal
 
 pub loop-i-init : goal.loop-i-init
-loop-i-init c =
-    none_put _ _ _ _ _
+loop-i-init c = none_put _ _
 
 pub loop-i-preserved : goal.loop-i-preserved
-loop-i-preserved c =
-    one_more_put c.loop-i.invariant c.put_back.auto.corners c.put_back.auto.links c.put_back.auto.generations c.put_back.auto.locks
-    c.put_back.ensures
+loop-i-preserved c = one_more_put c.loop-i.invariant c.put_back.ensures.lent c.put_back.ensures.put

@@ -16,7 +16,7 @@ use Rattle.rules.specs.Below.{all}
 use Rattle.rules.specs.Ring.{first_side}
 use Rattle.rules.specs.Sound.{OneFan, has_one_fan}
 use Rattle.rules.specs.Tables.{Topology, sides, boundary}
-use Rattle.tables.specs.Lent.{seen, topology_in}
+use Rattle.tables.specs.Lent.{seen, topology_with}
 use Rattle.rings.specs.Walks.{CornersInUse}
 use Rattle.sides.specs.Parts.{triangle_fits}
 use Rattle.sides.specs.Starts.{Kept, AllKept}
@@ -87,7 +87,7 @@ fans-requires c =
 
 pub returns-then-not-fans : goal.returns-then-not-fans
 returns-then-not-fans c =
-    let m : Topology = topology_in c.args.counts (seen c.args.view.now) in
+    let m : Topology = topology_with c.args.counts (seen c.args.view.now) in
     let few : sides m < boundary = omega (arith, c.requires.room.0.few_slots, c.requires.room.0.triangle_room) in
     let fitted = sym c.triangles_fit.ensures.value ∙ c.if-not-triangles_fit.false in
     let A = c.triangles_fit.ensures.all_kept c.if-not-triangles_fit.false in
@@ -96,7 +96,7 @@ returns-then-not-fans c =
 
 pub returns-then-counts-v : goal.returns-then-counts-v
 returns-then-counts-v c =
-    let m : Topology = topology_in c.args.counts (seen c.args.view.now) in
+    let m : Topology = topology_with c.args.counts (seen c.args.view.now) in
     let few : sides m < boundary = omega (arith, c.requires.room.0.few_slots, c.requires.room.0.triangle_room) in
     let fitted = sym c.triangles_fit.ensures.value ∙ c.if-not-triangles_fit.false in
     let A = c.triangles_fit.ensures.all_kept c.if-not-triangles_fit.false in
@@ -105,7 +105,7 @@ returns-then-counts-v c =
 
 pub overflow_sub-result : goal.overflow_sub-result
 overflow_sub-result c =
-    let m : Topology = topology_in c.args.counts (seen c.args.view.now) in
+    let m : Topology = topology_with c.args.counts (seen c.args.view.now) in
     let few : sides m < boundary = omega (arith, c.requires.room.0.few_slots, c.requires.room.0.triangle_room) in
     let fitted = sym c.triangles_fit.ensures.value ∙ c.if-not-triangles_fit.false in
     let A = c.triangles_fit.ensures.all_kept c.if-not-triangles_fit.false in
@@ -115,7 +115,7 @@ overflow_sub-result c =
 
 pub returns : goal.returns
 returns c =
-    let m : Topology = topology_in c.args.counts (seen c.args.view.now) in
+    let m : Topology = topology_with c.args.counts (seen c.args.view.now) in
     let few : sides m < boundary = omega (arith, c.requires.room.0.few_slots, c.requires.room.0.triangle_room) in
     let fitted = sym c.triangles_fit.ensures.value ∙ c.if-not-triangles_fit.false in
     let A = c.triangles_fit.ensures.all_kept c.if-not-triangles_fit.false in

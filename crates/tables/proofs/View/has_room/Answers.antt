@@ -6,7 +6,7 @@ use mathlib.Core.Path.{◌≡◌, refl}
 use lib.Dec.{leb}
 use Rattle.rules.specs.Calls.{room_for}
 use Rattle.rules.specs.Tables.{Mesh, vertex_slots, triangle_slots}
-use Rattle.tables.specs.Lent.{mesh_in, seen}
+use Rattle.tables.specs.Lent.{mesh_with, seen}
 use Rattle.tables.proofs.View.has_room.Goals as goal
 
 module _ (v f : ℕ) (m : Mesh) where
@@ -21,9 +21,9 @@ module _ (v f : ℕ) (m : Mesh) where
 pub returns-then-vertices-self : goal.returns-then-vertices-self
 returns-then-vertices-self c =
     room_by_triangles (c.args.splits + c.args.rim) (2 * c.args.splits)
-    (mesh_in c.args.counts (seen c.args.self.now)) c.if-vertices-self.true
+    (mesh_with c.args.counts (seen c.args.self.now)) c.if-vertices-self.true
 
 pub returns-else-vertices-self : goal.returns-else-vertices-self
 returns-else-vertices-self c =
     no_room_lem (c.args.splits + c.args.rim) (2 * c.args.splits)
-    (mesh_in c.args.counts (seen c.args.self.now)) c.if-vertices-self.false
+    (mesh_with c.args.counts (seen c.args.self.now)) c.if-vertices-self.false

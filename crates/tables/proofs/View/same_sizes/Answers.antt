@@ -7,7 +7,7 @@ use lib.Dec.{eqb}
 use lib.ListN.{length}
 use Rattle.rules.specs.Spares.{Spares, same_sizes}
 use Rattle.rules.specs.Tables.{Mesh}
-use Rattle.tables.specs.Lent.{mesh_in, seen}
+use Rattle.tables.specs.Lent.{mesh_with, seen}
 use Rattle.tables.proofs.View.same_sizes.Goals as goal
 
 module _ (s : Spares) (m : Mesh) where
@@ -37,23 +37,23 @@ module _ (s : Spares) (m : Mesh) where
 
 pub returns-then-spares-self : goal.returns-then-spares-self
 returns-then-spares-self c n =
-    positions_differ (seen c.args.spares.now) (mesh_in n (seen c.args.self.now)) c.if-spares-self.true
+    positions_differ (seen c.args.spares.now) (mesh_with n (seen c.args.self.now)) c.if-spares-self.true
 
 pub returns-then-spares-self-2 : goal.returns-then-spares-self-2
 returns-then-spares-self-2 c n =
-    corners_differ (seen c.args.spares.now) (mesh_in n (seen c.args.self.now)) c.if-spares-self.false c.if-spares-self-2.true
+    corners_differ (seen c.args.spares.now) (mesh_with n (seen c.args.self.now)) c.if-spares-self.false c.if-spares-self-2.true
 
 pub returns-then-spares-self-3 : goal.returns-then-spares-self-3
 returns-then-spares-self-3 c n =
-    links_differ (seen c.args.spares.now) (mesh_in n (seen c.args.self.now)) c.if-spares-self.false c.if-spares-self-2.false
+    links_differ (seen c.args.spares.now) (mesh_with n (seen c.args.self.now)) c.if-spares-self.false c.if-spares-self-2.false
     c.if-spares-self-3.true
 
 pub returns-then-spares-self-4 : goal.returns-then-spares-self-4
 returns-then-spares-self-4 c n =
-    generations_differ (seen c.args.spares.now) (mesh_in n (seen c.args.self.now)) c.if-spares-self.false c.if-spares-self-2.false
+    generations_differ (seen c.args.spares.now) (mesh_with n (seen c.args.self.now)) c.if-spares-self.false c.if-spares-self-2.false
     c.if-spares-self-3.false c.if-spares-self-4.true
 
 pub returns : goal.returns
 returns c n =
-    locks_decide (seen c.args.spares.now) (mesh_in n (seen c.args.self.now)) c.if-spares-self.false c.if-spares-self-2.false
+    locks_decide (seen c.args.spares.now) (mesh_with n (seen c.args.self.now)) c.if-spares-self.false c.if-spares-self-2.false
     c.if-spares-self-3.false c.if-spares-self-4.false
