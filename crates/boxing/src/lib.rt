@@ -1,7 +1,7 @@
 // Triangles with a corner in a box, refined one after the other in spare tables.
 #![tactic(auto)]
 
-ghost use Rattle.std.specs.Prelude.{◌≡◌, ◌≤◌, length};
+ghost use Rattle.std.specs.Prelude.{◌≡◌, ◌*◌, ◌/◌, ◌≤◌, length};
 ghost use Rattle.points.specs.Axes.{box_of};
 ghost use Rattle.rules.specs.Boxes.{refine_in_box};
 ghost use Rattle.rules.specs.Calls.{with_report};
@@ -17,8 +17,9 @@ use points::Point;
 use refining::spares::{Batch, BatchReported, BatchWorked};
 use tables::Counts;
 
-// The box worked in tables that hold the mesh, with marks for 2,048 slots of either kind.
-fn refine_within_2048(
+// The box worked in tables that hold the mesh, with marks for 64 vertices in each word of INSIDE and for 64 triangles in
+// each of BITS, and for 64 of these in each of WORDS.
+fn refine_within<const INSIDE: usize, const BITS: usize, const WORDS: usize>(
     positions: &mut [i32],
     corners: &mut [u32],
     links: &mut [u32],
@@ -30,53 +31,12 @@ fn refine_within_2048(
     below: u32,
     report: &mut [u32],
 ) -> Batch
-    requires { ((m : Mesh) × (s : Spares) ×
-        Begins m s m.topology.generations
-        (mesh_now counts positions.old corners.old links.old generations.old locks.old))
-        × (length generations.old ≤ 2048) × (length positions.old ≤ 6144) }
-    ensures { (m : Mesh) (s : Spares) →
-        Begins m s m.topology.generations (mesh_now counts positions.old corners.old
-        links.old generations.old locks.old)
-        → Boxes (box_of low high below) m s result (mesh_now result.counts positions.new corners.new
-        links.new generations.new locks.new)
-        × Told (refine_in_box (box_of low high below) m).work.report report.old report.new 0 }
-{
-    let mut inside = [0u64; 32];
-    let mut bits = [0u64; 32];
-    let mut words = [0u64; 1];
-    wanting::refine_wanted(
-        positions,
-        corners,
-        links,
-        generations,
-        locks,
-        counts,
-        low,
-        high,
-        below,
-        &mut inside,
-        &mut bits,
-        &mut words,
-        report,
-    )
-}
-
-// The same for the maximum.
-fn refine_within_65536(
-    positions: &mut [i32],
-    corners: &mut [u32],
-    links: &mut [u32],
-    generations: &mut [u8],
-    locks: &mut [u8],
-    counts: Counts,
-    low: Point,
-    high: Point,
-    below: u32,
-    report: &mut [u32],
-) -> Batch
-    requires { (m : Mesh) × (s : Spares) ×
+    requires begins { (m : Mesh) × (s : Spares) ×
         Begins m s m.topology.generations
         (mesh_now counts positions.old corners.old links.old generations.old locks.old) }
+    requires vertices { length positions.old / 3 ≤ 64 * INSIDE }
+    requires triangles { length generations.old ≤ 64 * BITS }
+    requires words { (BITS ≤ 64 * WORDS) × (INSIDE ≤ 512) × (WORDS ≤ 16) }
     ensures { (m : Mesh) (s : Spares) →
         Begins m s m.topology.generations (mesh_now counts positions.old corners.old
         links.old generations.old locks.old)
@@ -84,9 +44,9 @@ fn refine_within_65536(
         links.new generations.new locks.new)
         × Told (refine_in_box (box_of low high below) m).work.report report.old report.new 0 }
 {
-    let mut inside = [0u64; 512];
-    let mut bits = [0u64; 1024];
-    let mut words = [0u64; 16];
+    let mut inside = [0u64; INSIDE];
+    let mut bits = [0u64; BITS];
+    let mut words = [0u64; WORDS];
     wanting::refine_wanted(
         positions,
         corners,
@@ -149,7 +109,7 @@ fn work_in_spares(
         spare_locks,
     );
     if spare_generations.len() <= 2048 && spare_positions.len() <= 6144 {
-        return refine_within_2048(
+        return refine_within::<32, 32, 1>(
             spare_positions,
             spare_corners,
             spare_links,
@@ -162,7 +122,7 @@ fn work_in_spares(
             report,
         );
     }
-    refine_within_65536(
+    refine_within::<512, 1024, 16>(
         spare_positions,
         spare_corners,
         spare_links,

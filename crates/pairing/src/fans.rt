@@ -9,7 +9,6 @@ ghost use Rattle.decoding.specs.Decoded.{decoded, Readable};
 ghost use Rattle.pairing.specs.Fans.{TellsFit};
 ghost use Rattle.pairing.specs.Pairing.{Threads};
 
-use decoding::wide;
 use tables::BOUNDARY;
 
 // Whether v is off the boundary and has exactly two triangles: two sides out of it, neither on the boundary.
@@ -28,11 +27,11 @@ fn inner_of_two(
     ensures { Decides result (InnerOfTwo
         (topology_of vertices triangles corners.now links.now []) v) }
 {
-    let h = wide(heads[v]);
+    let h = heads[v] as usize;
     if h == 0 {
         return false;
     }
-    let k = wide(nexts[h - 1]);
+    let k = nexts[h - 1] as usize;
     if k == 0 {
         return false;
     }
@@ -59,14 +58,7 @@ fn some_inner_of_two(
     ensures { Decides result ((v : ℕ) × (v < vertices) × InnerOfTwo
         (topology_of vertices triangles corners.now links.now []) v) }
 {
-    let mut v: usize = 0;
-    while v < vertices {
-        if inner_of_two(corners, links, triangles, vertices, heads, nexts, v) {
-            return true;
-        }
-        v += 1;
-    }
-    false
+    (0..vertices).any(|v| inner_of_two(corners, links, triangles, vertices, heads, nexts, v))
 }
 
 // A side on the boundary in place of the head of each thread that has one.
@@ -83,13 +75,10 @@ fn begin_at_boundary(
     ensures { AllBegun vertices corners.now links.now (3 * triangles) (3 * triangles)
         heads.new }
 {
-    let mut h: usize = 0;
-    while h < 3 * triangles {
+    for h in 0..3 * triangles {
         if links[h] == BOUNDARY {
-            let v = wide(corners[h]);
-            heads[v] = h as u32 + 1;
+            heads[corners[h] as usize] = h as u32 + 1;
         }
-        h += 1;
     }
 }
 

@@ -7,7 +7,6 @@ ghost use Rattle.decoding.specs.Decoded.{decoded, Readable};
 ghost use Rattle.rings.specs.Walks.{Zeroed};
 ghost use Rattle.pairing.specs.Pairing.{Threads, Stamps, Stamping, Stamped, Stamp, Linking, Paired};
 
-use decoding::wide;
 use tables::BOUNDARY;
 use tables::sides::{next, previous};
 
@@ -17,33 +16,31 @@ pub mod fans;
 // All numbers are one more than a side, and 0 ends a thread.
 fn thread(corners: &[u32], triangles: usize, vertices: usize, heads: &mut [u32], nexts: &mut [u32])
     requires readable { Readable vertices triangles corners.now }
-    requires zeroed { Zeroed vertices heads.old }
-    requires triangles_in_bounds { 3 * triangles ≤ length nexts.old }
+    requires heads_zeroed { Zeroed vertices heads.old }
+    requires next_room { 3 * triangles ≤ length nexts.old }
     ensures { Threads (decoded vertices triangles corners.now) (3 * triangles) heads.new
         nexts.new }
 {
-    let mut h: usize = 0;
-    while h < 3 * triangles {
-        let v = wide(corners[h]);
+    for h in 0..3 * triangles {
+        let v = corners[h] as usize;
         nexts[h] = heads[v];
         heads[v] = h as u32 + 1;
-        h += 1;
     }
 }
 
 // The side out of v that is stamped at w, or the boundary.
 fn stamped_at(corners: &[u32], slots: &[u32], v: usize, w: usize) -> u32
     requires w_in_bounds { w < length slots.now }
-    requires w_in_bounds_2 { get_or slots.now w 0 ≤ length corners.now }
+    requires side_in_bounds { get_or slots.now w 0 ≤ length corners.now }
     ensures { Stamp (λ k. get_or corners.now k 0) slots.now v w result }
 {
     let s = slots[w];
     if s == 0 {
         return BOUNDARY;
     }
-    let k = wide(s - 1);
-    if wide(corners[k]) == v {
-        s - 1
+    let k = s - 1;
+    if corners[k as usize] as usize == v {
+        k
     } else {
         BOUNDARY
     }
@@ -65,15 +62,15 @@ fn stamp(
     requires v_lt_vertices { v < vertices }
     ensures { Stamped (decoded vertices triangles corners.now) v slots.new result }
 {
-    let mut p = wide(heads[v]);
+    let mut p = heads[v];
     while 0 < p {
-        let h = p - 1;
-        let w = wide(corners[next(h)]);
+        let h = p as usize - 1;
+        let w = corners[next(h)] as usize;
         if stamped_at(corners, slots, v, w) != BOUNDARY {
             return false;
         }
-        slots[w] = p as u32;
-        p = wide(nexts[h]);
+        slots[w] = p;
+        p = nexts[h];
     }
     true
 }
@@ -96,12 +93,12 @@ fn join(
     requires v_lt_vertices { v < vertices }
     ensures { Linking (decoded vertices triangles corners.now) v 0 links.new }
 {
-    let mut p = wide(heads[v]);
+    let mut p = heads[v];
     while 0 < p {
-        let h = p - 1;
+        let h = p as usize - 1;
         let k = previous(h);
-        links[k] = stamped_at(corners, slots, v, wide(corners[k]));
-        p = wide(nexts[h]);
+        links[k] = stamped_at(corners, slots, v, corners[k] as usize);
+        p = nexts[h];
     }
 }
 
@@ -117,17 +114,15 @@ fn join_all(
 ) -> bool
     requires readable { Readable vertices triangles corners.now }
     requires threads { Threads (decoded vertices triangles corners.now) (3 * triangles) heads.now nexts.now }
-    requires zeroed { Zeroed vertices slots.old }
-    requires triangles_in_bounds { 3 * triangles ≤ length links.old }
+    requires slots_zeroed { Zeroed vertices slots.old }
+    requires link_room { 3 * triangles ≤ length links.old }
     ensures { Paired (decoded vertices triangles corners.now) links.new result }
 {
-    let mut v: usize = 0;
-    while v < vertices {
+    for v in 0..vertices {
         if !stamp(corners, triangles, vertices, heads, nexts, slots, v) {
             return false;
         }
         join(corners, triangles, vertices, heads, nexts, slots, links, v);
-        v += 1;
     }
     true
 }
@@ -144,10 +139,10 @@ pub fn pair(
     links: &mut [u32],
 ) -> bool
     requires readable { Readable vertices triangles corners.now }
-    requires zeroed { Zeroed vertices heads.old }
-    requires triangles_in_bounds { 3 * triangles ≤ length nexts.old }
-    requires zeroed_2 { Zeroed vertices slots.old }
-    requires triangles_in_bounds_2 { 3 * triangles ≤ length links.old }
+    requires heads_zeroed { Zeroed vertices heads.old }
+    requires next_room { 3 * triangles ≤ length nexts.old }
+    requires slots_zeroed { Zeroed vertices slots.old }
+    requires link_room { 3 * triangles ≤ length links.old }
     ensures paired { Paired (decoded vertices triangles corners.now) links.new result }
     ensures threads { Threads (decoded vertices triangles corners.now) (3 * triangles) heads.new
         nexts.new }

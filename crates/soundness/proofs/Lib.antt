@@ -2,4 +2,5 @@
 pub mod Answers
 pub mod Pairs
 pub mod Triangles
+pub mod Standing
 pub mod Parts

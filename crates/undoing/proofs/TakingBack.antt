@@ -1,86 +1,64 @@
 -- What comes of a take-back, by its refusal.
-use mathlib.Core.Bool.{Bool, true, false, not, ◌&&◌}
+use mathlib.Core.Bool.{Bool, true, false, not}
 use mathlib.Core.List.{List, [], ◌∷◌}
 use mathlib.Core.Logic.{◌≢◌}
 use mathlib.Core.Path.{◌≡◌, refl, sym, ap, ◌∙◌}
 use Prim.Native.Nat.{ℕ, ◌≤◌}
 use native.Mathlib.Omega.{arith}
 use lib.IntN.{ℤ}
-use Rattle.theory.proofs.Calls.CallRefusals.{take_back_refusal_first}
 use Rattle.theory.proofs.Calls.Carried.{take_back_found}
-use Rattle.theory.proofs.Calls.FirstThatHolds.{two_kept, two_passed, none_hold, refuses, carries}
-use Rattle.theory.proofs.Numbers.Decide.{when_true, stable}
-use Rattle.theory.proofs.Soundness.SoundTest.{sound_is}
+use Rattle.theory.proofs.Calls.FirstThatHolds.{two_kept, two_passed, refuses, carries}
 use Rattle.rules.specs.Calls.{no_room, refused_with, worked, first_of, ◌if◌}
 use Rattle.rules.specs.Notes.{old_v, old_f, note_slots, put_back_all, restored, accepted, take_back_refusal}
 use Rattle.rules.specs.Notes.{take_back_call}
 use Rattle.rules.specs.Sound.{Sound, is_sound}
 use Rattle.rules.specs.Split.{at_first}
 use Rattle.rules.specs.Tables.{Mesh, tables_agree}
-use Rattle.tables.proofs.Standing.{standing_sound}
 use Rattle.tables.specs.Standing.{standing}
-use Rattle.theory.proofs.Numbers.Answers.{refused, passed}
 use Rattle.tables.specs.declared.Counts.{Counts}
 use Rattle.tables.specs.Lent.{mesh_now}
-use Rattle.restoring.specs.Fitting.{note_fits, NoteFits}
+use Rattle.restoring.specs.Fitting.{NoteFits}
 use Rattle.restoring.specs.Putting.{SlotRoom}
-use Rattle.undoing.specs.Trying.{accepted_cut}
-use Rattle.undoing.proofs.AcceptedCut.{accepted_counts, accepted_tried}
+use Rattle.undoing.proofs.AcceptedCut.{accepted_counts}
 use Rattle.undoing.proofs.CutTables.{recounted_back}
-use Rattle.restoring.proofs.NoteTests.{note_fits_is, accepted_fits}
+use Rattle.restoring.proofs.NoteTests.{accepted_fits}
 
--- ---- the refusal, found test by test
+-- ---- what comes of it, found test by test
 
 module _ (note : List ℕ) (m : Mesh) (r : ℕ) (s : r ≡ standing m) where
-  pub refused_standing : r ≢ 0 → r ≡ take_back_refusal note m
-  unfolding take_back_refusal
-  refused_standing = two_kept (not (tables_agree m)) (not (is_sound m)) (21 if not (accepted note m) ∷ []) r s
+  pub back_standing : r ≢ 0 → refused_with r m no_room ≡ take_back_call note m
+  unfolding take_back_refusal take_back_call
+  back_standing n =
+      refuses m no_room (worked (at_first (restored note m))) (take_back_refusal note m) r
+      (two_kept (not (tables_agree m)) (not (is_sound m)) (21 if not (accepted note m) ∷ []) r s n) n
 
-  module _ (z : r ≡ 0) where
-    -- The refusal by the answers of the tests. A test that was not made stands for itself.
-    by_tests : {a b : Bool} → note_fits note ≡ a → accepted_cut note m ≡ b
-        → first_of (21 if not (a && b) ∷ []) ≡ take_back_refusal note m
+  module _ (z : r ≡ 0) {b : Bool} (e : b ≡ accepted note m) where
+    refusal_is : first_of (21 if not b ∷ []) ≡ take_back_refusal note m
     unfolding take_back_refusal
-    by_tests a b =
-        sym (two_passed (not (tables_agree m)) (not (is_sound m)) (21 if not (accepted note m) ∷ []) r s z
-        ∙ rw (accepted_tried note m (standing_sound m r s z), a, b) refl)
+    refusal_is =
+        sym (two_passed (not (tables_agree m)) (not (is_sound m)) (21 if not (accepted note m) ∷ []) r s z ∙ rw e refl)
 
-    module _ {q : Bool} (c : q ≡ note_fits note) where
-      pub refused_unfit : not q ≡ true → 21 ≡ take_back_refusal note m
-      refused_unfit x = by_tests (refused c x) refl
-
-      module _ (x : not q ≡ false) where
-        -- What may then be tried.
-        pub may_try : NoteFits note × Sound m
-        may_try = (when_true (note_fits_is note) (passed c x), standing_sound m r s z)
-
-        module _ {k : Bool} (d : k ≡ accepted_cut note m) where
-          pub refused_tried : not k ≡ true → 21 ≡ take_back_refusal note m
-          refused_tried y = by_tests (passed c x) (refused d y)
-
-          pub not_refused : not k ≡ false → 0 ≡ take_back_refusal note m
-          not_refused y = by_tests (passed c x) (passed d y)
-
--- ---- what comes of it
-
-module _ (note : List ℕ) (m : Mesh) (r : ℕ) (e : r ≡ take_back_refusal note m) where
-  pub back_refused : r ≢ 0 → refused_with r m no_room ≡ take_back_call note m
-  unfolding take_back_call
-  back_refused = refuses m no_room (worked (at_first (restored note m))) (take_back_refusal note m) r e
-
-  module _ (z : r ≡ 0) where
-    -- The mesh is sound, the note fits, and its slots are in use.
-    pub may_put : (Sound m) × (NoteFits note) × (old_f note ≤ m.topology.triangles)
-    may_put =
-        let (_, (s, _)) = none_hold (take_back_refusal_first note m) (sym e ∙ z) tt in
-        let A = take_back_found note m (sym e ∙ z) in
-        (stable (sound_is m) s, accepted_fits note m A, (accepted_counts note m A).1)
-
-    pub back_carried : {back : Mesh} → back ≡ restored note m → worked (at_first back) ≡ take_back_call note m
+    pub back_stale : b ≡ false → refused_with 21 m no_room ≡ take_back_call note m
     unfolding take_back_call
-    back_carried b =
-        ap (λ (x : Mesh). worked (at_first x)) b
-        ∙ carries m no_room (worked (at_first (restored note m))) (take_back_refusal note m) r e z
+    back_stale f =
+        refuses m no_room (worked (at_first (restored note m))) (take_back_refusal note m) 21
+        (rw f at refusal_is) (λ q. omega arith)
+
+    module _ (t : b ≡ true) where
+      passes : 0 ≡ take_back_refusal note m
+      passes = rw t at refusal_is
+
+      -- The note fits, and its slots are in use.
+      pub may_put : NoteFits note × (old_f note ≤ m.topology.triangles)
+      may_put =
+          let A = take_back_found note m (sym passes) in
+          (accepted_fits note m A, (accepted_counts note m A).1)
+
+      pub back_carried : {back : Mesh} → back ≡ restored note m → worked (at_first back) ≡ take_back_call note m
+      unfolding take_back_call
+      back_carried q =
+          ap (λ (x : Mesh). worked (at_first x)) q
+          ∙ carries m no_room (worked (at_first (restored note m))) (take_back_refusal note m) 0 passes refl
 
 -- ---- the lent tables
 

@@ -1,5 +1,5 @@
 -- A note tried in tables of its own, which have no more slots than the present mesh uses.
-use Rattle.std.specs.Prelude.{ℕ, ◌*◌, ◌≤◌, Bool, ◌&&◌, List, ◌≡◌, eqb, leb, ℤ, length, take}
+use Rattle.std.specs.Prelude.{ℕ, ◌*◌, Bool, ◌&&◌, List, ◌≡◌, eqb, leb, ℤ, length, take}
 use Rattle.rules.specs.Calls.{refine_refusal}
 use Rattle.rules.specs.Notes.{noted_triangle, old_v, old_f, restored, refined, same_in_use}
 use Rattle.rules.specs.Sound.{is_sound}
@@ -35,8 +35,3 @@ pub record JustSlots (n : Counts) (p : List ℤ) (c l g k : List ℕ) : Type 0 w
   pub links : length l ≡ 3 * n.triangles
   pub generations : length g ≡ n.triangles
   pub locks : length k ≡ n.triangles
-
--- So many slots are enough for the vertices and for the triangles.
-pub record Within (k : ℕ) (n : Counts) : Type 0 where
-  pub vertices : n.vertices ≤ k
-  pub triangles : n.triangles ≤ k

@@ -5,7 +5,8 @@
 ghost use Rattle.std.specs.Prelude.{◌≡◌};
 ghost use Rattle.tables.specs.Answers.{worked_outcome};
 ghost use Rattle.tables.specs.Lent.{mesh_now};
-ghost use Rattle.rules.specs.Notes.{take_back_refusal, take_back_call};
+ghost use Rattle.rules.specs.Notes.{accepted, take_back_call};
+ghost use Rattle.rules.specs.Sound.{Sound};
 ghost use Rattle.tables.specs.Standing.{standing};
 
 use tables::{Counts, Worked};
@@ -13,32 +14,34 @@ use tables::{Counts, Worked};
 mod rooms;
 mod trying;
 
-// The refusal of a take-back, on a mesh whose own first refusal is `bad`; or 0.
-fn refusal(
+// Whether a note is accepted, on a sound mesh.
+fn is_accepted(
     positions: &[i32],
     corners: &[u32],
     links: &[u32],
     generations: &[u8],
     locks: &[u8],
     counts: Counts,
-    bad: u32,
     note: &[u32],
-) -> u32
-    requires { bad ≡ standing (mesh_now counts positions.now corners.now links.now generations.now
-        locks.now) }
-    ensures { result ≡ take_back_refusal note.now (mesh_now counts positions.now
-        corners.now links.now generations.now locks.now) }
+) -> bool
+    requires { Sound (mesh_now counts positions.now corners.now links.now generations.now locks.now) }
+    ensures { result ≡ accepted note.now (mesh_now counts positions.now corners.now
+        links.now generations.now locks.now) }
 {
-    if bad != 0 {
-        return bad;
+    restoring::fitting::note_fits(note)
+        && rooms::accepts(positions, corners, links, generations, locks, counts, note)
+}
+
+// The answer of a take-back that is refused.
+fn refused(refusal: u32, counts: Counts) -> Worked
+    ensures { result ≡ record { refusal = refusal; splits = 0; flips = 0; counts = counts } }
+{
+    Worked {
+        refusal,
+        splits: 0,
+        flips: 0,
+        counts,
     }
-    if !restoring::fitting::note_fits(note) {
-        return 21;
-    }
-    if !rooms::accepts(positions, corners, links, generations, locks, counts, note) {
-        return 21;
-    }
-    0
 }
 
 // Takes back the refine that wrote the note: every slot in use and the counts are as they were. A refusal leaves them.
@@ -59,23 +62,11 @@ pub fn take_back(
         ≡ take_back_call note.now (mesh_now counts positions.now corners.old
         links.old generations.old locks.old) }
 {
-    let refused = refusal(
-        positions,
-        corners,
-        links,
-        generations,
-        locks,
-        counts,
-        bad,
-        note,
-    );
-    if refused != 0 {
-        return Worked {
-            refusal: refused,
-            splits: 0,
-            flips: 0,
-            counts,
-        };
+    if bad != 0 {
+        return refused(bad, counts);
+    }
+    if !is_accepted(positions, corners, links, generations, locks, counts, note) {
+        return refused(21, counts);
     }
     restoring::putting::put_back_all(corners, links, generations, locks, note);
     Worked {

@@ -11,6 +11,7 @@ use tables::Counts;
 use tables::copies::copy_mesh;
 
 // Whether an old mesh is sound and refining t there makes the present one.
+#[tactic(auto, unfolding(crate::specs::Trying::refines_to))]
 fn refines_to(
     positions: &[i32],
     corners: &[u32],
@@ -27,7 +28,7 @@ fn refines_to(
     t: u32,
 ) -> bool
     requires has_slots { HasSlots counts positions.now corners.now links.now generations.now locks.now }
-    requires has_slots_2 { HasSlots counts old_positions.old old_corners.old old_links.old
+    requires old_has_slots { HasSlots counts old_positions.old old_corners.old old_links.old
         old_generations.old old_locks.old }
     ensures { result ≡ refines_to t (mesh_now old_counts old_positions.old
         old_corners.old old_links.old old_generations.old
@@ -80,6 +81,7 @@ fn refines_to(
 }
 
 // Whether a note that fits is accepted, in tables that have just the slots in use.
+#[tactic(auto, unfolding(crate::specs::Trying::accepted_cut))]
 fn accepts_by(
     positions: &[i32],
     corners: &[u32],
@@ -101,10 +103,7 @@ fn accepts_by(
     ensures { result ≡ accepted_cut note.now (mesh_now counts positions.now
         corners.now links.now generations.now locks.now) }
 {
-    if counts.vertices < note[1] {
-        return false;
-    }
-    if counts.triangles < note[2] {
+    if counts.vertices < note[1] || counts.triangles < note[2] {
         return false;
     }
     copy_mesh(

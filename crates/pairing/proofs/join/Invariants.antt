@@ -1,5 +1,3 @@
-use mathlib.Core.Path.{◌≡◌}
-use lib.ListN.{length}
 use Rattle.decoding.specs.Decoded.{decoded}
 use Rattle.pairing.specs.Pairing.{Linking}
 use Rattle.pairing.proofs.Stamps.{Cursor}
@@ -8,7 +6,7 @@ use Rattle.pairing.proofs.join.Given as goal
 abbrev pub invariant-loop-p : goal.invariant-loop-p
 invariant-loop-p l =
     let c = decoded l.vertices l.triangles l.corners in
-    (length l.links ≡ length l.initial.links) × Cursor c l.v l.p × Linking c l.v l.p l.links
+    Cursor c l.v l.p × Linking c l.v l.p l.links
 
 abbrev pub decreases-loop-p : goal.decreases-loop-p
 decreases-loop-p l =

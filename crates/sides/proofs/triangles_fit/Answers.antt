@@ -3,7 +3,8 @@ use native.Mathlib.Omega.{arith}
 use mathlib.Core.Path.{refl, sym, ◌∙◌}
 use Rattle.theory.proofs.Numbers.Decide.{all_more, all_fails}
 use Rattle.rules.specs.Below.{all}
-use Rattle.rules.specs.Tables.{Topology, topology_of}
+use Rattle.tables.specs.Lent.{seen, topology_with}
+use Rattle.rules.specs.Tables.{Topology}
 use Rattle.sides.specs.Parts.{triangle_fits}
 use Rattle.theory.proofs.Numbers.Answers.{never}
 use Rattle.sides.proofs.Starts.{none_seen, kept_at}
@@ -16,13 +17,13 @@ loop-t-init c =
 
 pub returns-then-not-triangle_fits : goal.returns-then-not-triangle_fits
 returns-then-not-triangle_fits c =
-    let topology : Topology = topology_of c.args.vertices c.args.triangles c.args.corners.now c.args.links.now c.args.generations.now in
+    let topology : Topology = topology_with c.args.counts (seen c.args.view.now) in
     let one = sym c.triangle_fits.ensures.value ∙ c.if-not-triangle_fits.true in
     record { value = sym (all_fails _ _ (triangle_fits topology) c.loop-t-test.true one); all_kept = never }
 
 pub loop-t-preserved : goal.loop-t-preserved
 loop-t-preserved c =
-    let topology : Topology = topology_of c.args.vertices c.args.triangles c.args.corners.now c.args.links.now c.args.generations.now in (
+    let topology : Topology = topology_with c.args.counts (seen c.args.view.now) in (
       all_more _ (triangle_fits topology) c.loop-t.invariant.0 (sym c.triangle_fits.ensures.value ∙ c.if-not-triangle_fits.false),
       kept_at _ _ (omega arith) (c.triangle_fits.ensures.kept_after c.if-not-triangle_fits.false),
     )

@@ -1,55 +1,40 @@
 -- `undoing::take_back` meets its contract.
-use Prim.Native.Nat.{ℕ, ◌≤◌}
 use native.Mathlib.Omega.{arith}
-use mathlib.Core.List.{List}
-use lib.ListN.{length}
-use Rattle.rules.specs.Tables.{Mesh}
-use Rattle.tables.specs.Lent.{mesh_now}
-use Rattle.undoing.proofs.TakingBack.{back_refused, may_put, back_carried, sound_room, put_restored}
+use Rattle.tables.proofs.Standing.{standing_sound}
+use Rattle.undoing.proofs.TakingBack.{back_standing, back_stale, may_put, back_carried, sound_room, put_restored}
 use Rattle.undoing.proofs.take_back.Goals as goal
 
-pub returns-then-refused-ne0 : goal.returns-then-refused-ne0
-returns-then-refused-ne0 c =
-    let note_of : List ℕ = c.args.note.now in
-    let mesh_of : Mesh = mesh_now c.args.counts c.args.positions.now c.args.corners.now c.args.links.now c.args.generations.now
-    c.args.locks.now in
-    back_refused note_of mesh_of _ c.refusal-refused.ensures c.if-refused-ne0.true
+pub returns-then-bad-ne0 : goal.returns-then-bad-ne0
+returns-then-bad-ne0 c = rw c.refused.ensures (back_standing _ _ _ c.requires c.if-bad-ne0.true)
 
-pub put_back_all-requires : goal.put_back_all-requires
-put_back_all-requires c =
-    let note_of : List ℕ = c.args.note.now in
-    let mesh_of : Mesh = mesh_now c.args.counts c.args.positions.now c.args.corners.now c.args.links.now c.args.generations.now
-    c.args.locks.now in
-    let known = may_put note_of mesh_of _ c.refusal-refused.ensures c.if-refused-ne0.false in
-    record {
-      note_fits = known.1;
-      slot_room = sound_room c.args.counts c.args.positions.now c.args.corners.now c.args.links.now
-          c.args.generations.now c.args.locks.now known.0 known.2;
-    }
+pub is_accepted-requires : goal.is_accepted-requires
+is_accepted-requires c = standing_sound _ _ c.requires c.if-bad-ne0.false
+
+pub returns-then-not-is_accepted : goal.returns-then-not-is_accepted
+returns-then-not-is_accepted c =
+    rw c.refused-then-not-is_accepted.ensures
+    (back_stale _ _ _ c.requires c.if-bad-ne0.false c.is_accepted.ensures c.if-not-is_accepted.true)
+
+pub put_back_all-requires-clause-note_fits : goal.put_back_all-requires-clause-note_fits
+put_back_all-requires-clause-note_fits c =
+    (may_put _ _ _ c.requires c.if-bad-ne0.false c.is_accepted.ensures c.if-not-is_accepted.false).0
+
+pub put_back_all-requires-clause-slot_room : goal.put_back_all-requires-clause-slot_room
+put_back_all-requires-clause-slot_room c =
+    sound_room _ _ _ _ _ _ (standing_sound _ _ c.requires c.if-bad-ne0.false)
+    (may_put _ _ _ c.requires c.if-bad-ne0.false c.is_accepted.ensures c.if-not-is_accepted.false).1
 
 pub bounds-note-1 : goal.bounds-note-1
 bounds-note-1 c =
-    let note_of : List ℕ = c.args.note.now in
-    let mesh_of : Mesh = mesh_now c.args.counts c.args.positions.now c.args.corners.now c.args.links.now c.args.generations.now
-    c.args.locks.now in
-    let long : 4 ≤ length note_of = let N = (may_put note_of mesh_of _ c.refusal-refused.ensures c.if-refused-ne0.false).1 in
-    omega (arith, N.long) in
-    omega (arith, long)
+    let fits = (may_put _ _ _ c.requires c.if-bad-ne0.false c.is_accepted.ensures c.if-not-is_accepted.false).0 in
+    omega (arith, fits.long)
 
 pub bounds-note-2 : goal.bounds-note-2
 bounds-note-2 c =
-    let note_of : List ℕ = c.args.note.now in
-    let mesh_of : Mesh = mesh_now c.args.counts c.args.positions.now c.args.corners.now c.args.links.now c.args.generations.now
-    c.args.locks.now in
-    let long : 4 ≤ length note_of = let N = (may_put note_of mesh_of _ c.refusal-refused.ensures c.if-refused-ne0.false).1 in
-    omega (arith, N.long) in
-    omega (arith, long)
+    let fits = (may_put _ _ _ c.requires c.if-bad-ne0.false c.is_accepted.ensures c.if-not-is_accepted.false).0 in
+    omega (arith, fits.long)
 
 pub returns : goal.returns
 returns c =
-    let note_of : List ℕ = c.args.note.now in
-    let mesh_of : Mesh = mesh_now c.args.counts c.args.positions.now c.args.corners.now c.args.links.now c.args.generations.now
-    c.args.locks.now in
-    back_carried note_of mesh_of _ c.refusal-refused.ensures c.if-refused-ne0.false
-    (put_restored c.args.counts c.args.positions.now c.args.corners.now c.args.links.now
-    c.args.generations.now c.args.locks.now note_of c.put_back_all.ensures)
+    back_carried _ _ _ c.requires c.if-bad-ne0.false c.is_accepted.ensures c.if-not-is_accepted.false
+    (put_restored _ _ _ _ _ _ _ c.put_back_all.ensures)
