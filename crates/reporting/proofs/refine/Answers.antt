@@ -12,14 +12,12 @@ use Rattle.rules.specs.Split as rules
 use Rattle.rules.specs.Split.{chain_end}
 use Rattle.rules.specs.Tables.{Mesh}
 use Rattle.split.specs.declared.Work.{Work}
-use Rattle.split.specs.Made.{work_now, BaseChain}
+use Rattle.split.specs.Made.{work_now}
 use Rattle.reporting.specs.Told.{Tells, Told}
-use Rattle.reporting.proofs.Telling.{tells_none, splits_are, fits_from, tells_if}
+use Rattle.reporting.proofs.Telling.{fits_seen, tells_none, splits_are, fits_from, tells_if}
 use Rattle.reporting.proofs.Turns.{end_within, Turned, turn_may_split, turn_asks, turn_done}
 use Rattle.rules.specs.Spares.{Spares}
-use Rattle.tables.specs.Lent.{held, mesh_with, topology_with}
-use Rattle.tables.specs.declared.Counts.{Counts}
-use Rattle.split.specs.declared.Chain.{Chain}
+use Rattle.tables.specs.Lent.{held, mesh_with}
 use Rattle.tables.proofs.Lending.{same_on}
 use Rattle.reporting.proofs.refine.Goals.{After-fits-telling, After-split_at-work, After-tell_split-told, After-across_last-end, After-split_at-work-in-loop-left}
 use Rattle.reporting.proofs.refine.Goals as goal
@@ -38,16 +36,6 @@ told_whole rule report work tables {x} {r} {s} {at} {end} e T f z =
       subst (λ (j : List ℕ). work_now rule j work tables ≡ x) q e,
       (end, tells_if (λ i. subst (λ (j : List ℕ). Tells j r s at end) q (T i)) f z),
     )
-
--- Whether the report fits, by the tables as they were seen.
-fits_seen : (t : ℕ) (n : Counts) (chain : Chain) {seen lent : Spares} {b : Bool} (entries : ℕ) → seen ≡ lent
-    → (RefineFound t (mesh_with n seen) → BaseChain (topology_with n seen) t chain
-    → b ≡ leb (length (rules.refine t (rules.at_first (mesh_with n seen))).report) entries)
-    → RefineFound t (mesh_with n lent) → BaseChain (topology_with n lent) t chain
-    → b ≡ leb (length (rules.refine t (rules.at_first (mesh_with n lent))).report) entries
-fits_seen t n chain {b = b} entries e f =
-    subst (λ (s : Spares). RefineFound t (mesh_with n s) → BaseChain (topology_with n s) t chain
-    → b ≡ leb (length (rules.refine t (rules.at_first (mesh_with n s))).report) entries) e f
 
 -- ---- before the first split
 
