@@ -1,5 +1,5 @@
 -- A note tried in tables of its own, which have no more slots than the present mesh uses.
-use Rattle.std.specs.Prelude.{ℕ, ◌*◌, Bool, ◌&&◌, List, ◌≡◌, eqb, leb, ℤ, length, take}
+use Rattle.std.specs.Prelude.{ℕ, ◌*◌, Bool, ◌&&◌, List, ◌≡◌, eqb, leb, length, take}
 use Rattle.rules.specs.Calls.{refine_refusal}
 use Rattle.rules.specs.Notes.{noted_triangle, old_v, old_f, restored, refined, same_in_use}
 use Rattle.rules.specs.Sound.{is_sound}

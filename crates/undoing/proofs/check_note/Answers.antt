@@ -1,6 +1,5 @@
 -- `undoing::check_note` meets its contract.
-use mathlib.Core.Path.{sym, ap, ◌∙◌}
-use Rattle.std.specs.Prelude.{false}
+use mathlib.Core.Path.{ap, ◌∙◌}
 use Rattle.tables.proofs.Refusing.{refused_some, passed_on}
 use Rattle.tables.proofs.Standing.{standing_sound}
 use Rattle.tables.specs.Refusals.{refused}
