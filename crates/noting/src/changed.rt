@@ -12,6 +12,7 @@ use crate::rising::insert;
 use split::Chain;
 
 // Puts the triangle whose base meets side h behind the first n of these, if there is one.
+// Kept: no heap; the room of the odd ones is fixed, with their number beside it.
 fn add_met(links: &[u32], generations: &[u8], odd: &mut [u32], n: usize, h: usize) -> usize
     requires { (n < length odd.old) × Met links.now generations.now h }
     ensures { Joins links.now odd.old n (NearMet links.now generations.now h)
@@ -52,17 +53,15 @@ fn list_near(links: &[u32], slots: &mut [u32], from: usize, x: u32) -> usize
     insert(slots, own, across / 3)
 }
 
-// Lists the first n of these, and the triangles across their sides 1.
-fn list_all(links: &[u32], odd: &[u32], n: usize, slots: &mut [u32], from: usize) -> usize
-    requires { Rising slots.old from × (n ≤ length odd.now) × (2 * n + 4 ≤ from) × Sides links.now odd.now n }
-    ensures { Adds slots.old from (NearOne links.now odd.now n) slots.new result
-        × (from ≤ result + 2 * n) }
+// Lists these, and the triangles across their sides 1.
+fn list_all(links: &[u32], odd: &[u32], slots: &mut [u32], from: usize) -> usize
+    requires { Rising slots.old from × (2 * length odd.now + 4 ≤ from) × Sides links.now odd.now (length odd.now) }
+    ensures { Adds slots.old from (NearOne links.now odd.now (length odd.now)) slots.new result
+        × (from ≤ result + 2 * length odd.now) }
 {
-    let mut i: usize = 0;
     let mut at = from;
-    while i < n {
-        at = list_near(links, slots, at, odd[i]);
-        i += 1;
+    for x in odd {
+        at = list_near(links, slots, at, *x);
     }
     at
 }
@@ -94,16 +93,6 @@ fn list_beside(links: &[u32], generations: &[u8], slots: &mut [u32], from: usize
     list_unmet(links, generations, slots, second, first + 2)
 }
 
-// How many triangles a chain has before its last odd one.
-fn before_last(odd: u32) -> usize
-    ensures { result ≡ odd - 1 }
-{
-    if odd == 0 {
-        return 0;
-    }
-    odd as usize - 1
-}
-
 // Lists the slots in use that a refine along this chain changes, in rising order, behind the place that is answered: the
 // odd triangles of the chain before its last and those whose bases meet its end, all with those across their sides 1;
 // and its end with those beside it. (The last odd one meets the end, or is the end.)
@@ -116,9 +105,9 @@ pub fn list_changed(links: &[u32], generations: &[u8], chain: Chain, slots: &mut
         Goes t m chain → FrontIs (changed_slots m (refined t m)) (drop (result + 1) slots.new) (32 - result)) }
 {
     let mut odd = chain.slots;
-    let before = before_last(chain.odd);
+    let before = chain.odd.saturating_sub(1) as usize;
     let n = add_mets(links, generations, &mut odd, before, chain.end);
-    let near = list_all(links, &odd, n, slots, 32);
+    let near = list_all(links, &odd[..n], slots, 32);
     let own = insert(slots, near, chain.end);
     if n == before + 3 {
         return own;

@@ -74,7 +74,7 @@ fn write_head(counts: Counts, t: u32, k: usize, note: &mut [u32])
     note[3] = k as u32;
 }
 
-// Writes the note of a refine of t that changes these k slots.
+// Writes the note of a refine of t that changes these slots.
 fn write_note(
     corners: &[u32],
     links: &[u32],
@@ -83,37 +83,35 @@ fn write_note(
     counts: Counts,
     t: u32,
     slots: &[u32],
-    k: usize,
     note: &mut [u32],
 )
     requires { TrianglesAgree corners.now links.now generations.now
-        × (length locks.now ≡ length generations.now) × (k ≤ 32) × (k ≤ length slots.now)
-        × ((i : ℕ) → i < k → get_or slots.now i 0 + 1 < length generations.now)
-        × (4 + 9 * k ≤ length note.old) }
-    ensures { (p : List ℤ) (list : List ℕ) → FrontIs list slots.now k →
+        × (length locks.now ≡ length generations.now) × (length slots.now ≤ 32)
+        × ((i : ℕ) → i < length slots.now → get_or slots.now i 0 + 1 < length generations.now)
+        × (4 + 9 * length slots.now ≤ length note.old) }
+    ensures { (p : List ℤ) (list : List ℕ) → FrontIs list slots.now (length slots.now) →
+        let k = length slots.now in
         let m = mesh_now counts p corners.now links.now generations.now
         locks.now in
         note.new ≡ fill (4 + 9 * k)
         (λ i. get_or (head_of t counts.vertices counts.triangles k ++ nines_of m list) i 0) note.old }
 {
-    write_head(counts, t, k, note);
-    let mut i: usize = 0;
-    while i < k {
+    write_head(counts, t, slots.len(), note);
+    for (i, slot) in slots.iter().enumerate() {
         write_nine(
             corners,
             links,
             generations,
             locks,
-            slots[i],
+            *slot,
             note,
             4 + 9 * i,
         );
-        i += 1;
     }
 }
 
-// Writes the note of a refine of t along this chain; or answers 22, where what is lent is too short for it, and
-// then 23, where a report of the refine does not fit.
+// Writes the note of a refine of t along this chain; or refuses it, with 22 where what is lent is too short for it, and
+// then with 23 where a report of the refine does not fit.
 fn note_changes(
     corners: &[u32],
     links: &[u32],
@@ -124,7 +122,7 @@ fn note_changes(
     chain: Chain,
     note: &mut [u32],
     report_fits: bool,
-) -> u32
+) -> Result<(), u32>
     requires { (p : List ℤ) ×
         Goes t (mesh_now counts p corners.now links.now generations.now locks.now) chain }
     ensures { (p : List ℤ) →
@@ -134,12 +132,12 @@ fn note_changes(
 {
     let mut slots: [u32; 40] = [tables::BOUNDARY; 40];
     let from = changed::list_changed(links, generations, chain, &mut slots);
-    let k = 32 - from;
-    if note.len() < 4 + 9 * k {
-        return 22;
+    let listed = &slots[from + 1..33];
+    if note.len() < 4 + 9 * listed.len() {
+        return Err(22);
     }
     if !report_fits {
-        return 23;
+        return Err(23);
     }
     write_note(
         corners,
@@ -148,11 +146,10 @@ fn note_changes(
         locks,
         counts,
         t,
-        &slots[from + 1..],
-        k,
+        listed,
         note,
     );
-    0
+    Ok(())
 }
 
 // Refines triangle t of a mesh whose first refusal is known, with a note of what it changes.
@@ -174,17 +171,18 @@ pub fn refine_noted(
         ≡ noted_call t note.old (mesh_now counts positions.old corners.old
         links.old generations.old locks.old) }
 {
-    let found = refining::find(positions, links, generations, locks, counts, t, bad);
-    if found.refusal != 0 {
-        return Worked {
-            refusal: found.refusal,
-            splits: 0,
-            flips: 0,
-            counts,
-        };
-    }
-    let chain = found.chain;
-    let refusal = note_changes(
+    let chain = match refining::find(positions, links, generations, locks, counts, t, bad) {
+        Ok(chain) => chain,
+        Err(refusal) => {
+            return Worked {
+                refusal,
+                splits: 0,
+                flips: 0,
+                counts,
+            };
+        }
+    };
+    match note_changes(
         corners,
         links,
         generations,
@@ -194,28 +192,29 @@ pub fn refine_noted(
         chain,
         note,
         true,
-    );
-    if refusal != 0 {
-        return Worked {
+    ) {
+        Ok(()) => {
+            let mut none = [0u32; 1];
+            refining::carry_out(
+                positions,
+                corners,
+                links,
+                generations,
+                locks,
+                counts,
+                t,
+                chain,
+                &mut none,
+                1,
+            )
+        }
+        Err(refusal) => Worked {
             refusal,
             splits: 0,
             flips: 0,
             counts,
-        };
+        },
     }
-    let mut none = [0u32; 1];
-    refining::carry_out(
-        positions,
-        corners,
-        links,
-        generations,
-        locks,
-        counts,
-        t,
-        chain,
-        &mut none,
-        1,
-    )
 }
 
 // Refines triangle t with a note as above, and reports the slots that it writes.
@@ -239,13 +238,12 @@ pub fn refine_noted_reported(
         positions.old corners.old links.old generations.old
         locks.old) }
 {
-    let finding = refining::find(positions, links, generations, locks, counts, t, bad);
-    if finding.refusal != 0 {
-        return Reported::refused(finding.refusal, counts);
-    }
-    let chain = finding.chain;
+    let chain = match refining::find(positions, links, generations, locks, counts, t, bad) {
+        Ok(chain) => chain,
+        Err(refusal) => return Reported::refused(refusal, counts),
+    };
     let report_fits = reporting::fits(links, generations, chain, report.len());
-    let refusal = note_changes(
+    match note_changes(
         corners,
         links,
         generations,
@@ -255,20 +253,19 @@ pub fn refine_noted_reported(
         chain,
         note,
         report_fits,
-    );
-    if refusal != 0 {
-        return Reported::refused(refusal, counts);
+    ) {
+        Ok(()) => Reported::carried(refining::carry_out(
+            positions,
+            corners,
+            links,
+            generations,
+            locks,
+            counts,
+            t,
+            chain,
+            report,
+            0,
+        )),
+        Err(refusal) => Reported::refused(refusal, counts),
     }
-    Reported::carried(refining::carry_out(
-        positions,
-        corners,
-        links,
-        generations,
-        locks,
-        counts,
-        t,
-        chain,
-        report,
-        0,
-    ))
 }

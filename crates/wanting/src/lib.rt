@@ -45,12 +45,10 @@ fn mark_inside(
         × ((v : ℕ) → from ≤ v → marked inside.old v ≡ false) }
     ensures { SeenFrom from vertices low high positions.now inside.old inside.new }
 {
-    let mut v = from;
-    while v < vertices {
+    for v in from..vertices {
         if in_box(positions, v, low, high) {
             marks::put(inside, v, true);
         }
-        v += 1;
     }
 }
 
@@ -63,13 +61,9 @@ fn has_marked_corner(corners: &[u32], inside: &[u64], t: u32) -> bool
         || marked inside.now (get_or corners.now (3 * t + 2) 0)) }
 {
     let i = 3 * (t as usize);
-    if marks::is_marked(inside, corners[i]) {
-        return true;
-    }
-    if marks::is_marked(inside, corners[i + 1]) {
-        return true;
-    }
-    marks::is_marked(inside, corners[i + 2])
+    marks::is_marked(inside, corners[i])
+        || marks::is_marked(inside, corners[i + 1])
+        || marks::is_marked(inside, corners[i + 2])
 }
 
 // Whether triangle t is below the generation and has a corner in the box.
@@ -106,44 +100,37 @@ fn mark_from(
         → triangles ≡ m.topology.triangles
         → MarkedFrom from b m bits.old bits.new words.new }
 {
-    let mut t = from;
-    while t < triangles {
+    for t in from..triangles {
         if is_wanted(corners, generations, inside, t, below) {
             marks::mark(bits, words, t, true);
         }
-        t += 1;
     }
 }
 
-// Puts the marks of so many listed slots right.
+// Puts the marks of listed slots right.
 fn mend(
     corners: &[u32],
     generations: &[u8],
     inside: &[u64],
     triangles: u32,
     slots: &[u32],
-    count: usize,
     below: u32,
     bits: &mut [u64],
     words: &mut [u64],
 )
-    requires { ((b : Box) × (m : Mesh) ×
+    requires { (b : Box) × (m : Mesh) ×
         Looks b m corners.now generations.now inside.now below
-        × MarksFit m bits.old words.old × (triangles ≡ m.topology.triangles))
-        × (count ≤ length slots.now) }
+        × MarksFit m bits.old words.old × (triangles ≡ m.topology.triangles) }
     ensures { (b : Box) (m : Mesh) →
         Looks b m corners.now generations.now inside.now below
         → triangles ≡ m.topology.triangles
-        → Mended count slots.now b m bits.old bits.new words.new }
+        → Mended (length slots.now) slots.now b m bits.old bits.new words.new }
 {
-    let mut i: usize = 0;
-    while i < count {
-        let t = slots[i];
-        if t < triangles {
-            let on = is_wanted(corners, generations, inside, t, below);
-            marks::mark(bits, words, t, on);
+    for t in slots {
+        if *t < triangles {
+            let on = is_wanted(corners, generations, inside, *t, below);
+            marks::mark(bits, words, *t, on);
         }
-        i += 1;
     }
 }
 
@@ -164,19 +151,18 @@ fn mend_after(
     inside: &[u64],
     before: u32,
     triangles: u32,
-    odd: u32,
-    slots: &[u32; 20],
+    odd: &[u32],
     near: &[u32; 4],
     below: u32,
     bits: &mut [u64],
     words: &mut [u64],
 )
     requires { (b : Box) × (t : ℕ) × (x : Mesh) × (y : Mesh) ×
-        Stale b t x y odd slots.now near.now bits.old words.old
+        Stale b t x y odd.now near.now bits.old words.old
         × Looks b y corners.now generations.now inside.now below
         × (before ≡ x.topology.triangles) × (triangles ≡ y.topology.triangles) }
     ensures { (b : Box) (t : ℕ) (x y : Mesh) →
-        Stale b t x y odd slots.now near.now bits.old words.old
+        Stale b t x y odd.now near.now bits.old words.old
         → Looks b y corners.now generations.now inside.now below
         → before ≡ x.topology.triangles → triangles ≡ y.topology.triangles
         → Marking b y bits.new words.new }
@@ -191,28 +177,8 @@ fn mend_after(
         bits,
         words,
     );
-    mend(
-        corners,
-        generations,
-        inside,
-        triangles,
-        near,
-        4,
-        below,
-        bits,
-        words,
-    );
-    mend(
-        corners,
-        generations,
-        inside,
-        triangles,
-        slots,
-        odd as usize,
-        below,
-        bits,
-        words,
-    );
+    mend(corners, generations, inside, triangles, near, below, bits, words);
+    mend(corners, generations, inside, triangles, odd, below, bits, words);
 }
 
 // Refines triangle t of a sound mesh, told from place `at` of the report on, and puts the marks right.
@@ -280,8 +246,7 @@ fn refine_marked(
             inside,
             counts.triangles,
             reached.triangles,
-            chain.odd,
-            &slots,
+            &slots[..chain.odd as usize],
             &near,
             below,
             bits,
@@ -293,6 +258,7 @@ fn refine_marked(
 
 // Refines the lowest wanted triangle until none is left, in tables that hold the mesh. Nothing is marked at first. The
 // turns are told where the report has room.
+// Kept: no plainer: the next triangle is the lowest mark that a refine leaves, and its number says whether there is one.
 pub fn refine_wanted(
     positions: &mut [i32],
     corners: &mut [u32],
