@@ -13,21 +13,21 @@ use Rattle.rules.specs.Numbers.{number_at}
 use Rattle.rules.specs.Spares.{Spares}
 use Rattle.rules.specs.Tables.{Mesh, TablesAgree, tables_agree}
 use Rattle.tables.specs.declared.Counts.{Counts}
-use Rattle.tables.specs.Lent.{mesh_in}
+use Rattle.tables.specs.Lent.{mesh_with}
 use Rattle.judging.specs.Loading.{Sized}
 
 -- What the first tests say of the tables, as they are seen, holds of what they hold.
-pub agreeing : {s t : Spares} (n : Counts) {a : Bool} → s ≡ t → a ≡ tables_agree (mesh_in n s)
-    → tables_agree (mesh_in n t) ≡ a
-agreeing n same p = ap (λ s. tables_agree (mesh_in n s)) (sym same) ∙ sym p
+pub agreeing : {s t : Spares} (n : Counts) {a : Bool} → s ≡ t → a ≡ tables_agree (mesh_with n s)
+    → tables_agree (mesh_with n t) ≡ a
+agreeing n same p = ap (λ s. tables_agree (mesh_with n s)) (sym same) ∙ sym p
 
-pub fitting : (bytes : List ℕ) {s t : Spares} (n : Counts) {a : Bool} → s ≡ t → a ≡ sizes_fit bytes (mesh_in n s)
-    → sizes_fit bytes (mesh_in n t) ≡ a
-fitting bytes n same p = ap (λ s. sizes_fit bytes (mesh_in n s)) (sym same) ∙ sym p
+pub fitting : (bytes : List ℕ) {s t : Spares} (n : Counts) {a : Bool} → s ≡ t → a ≡ sizes_fit bytes (mesh_with n s)
+    → sizes_fit bytes (mesh_with n t) ≡ a
+fitting bytes n same p = ap (λ s. sizes_fit bytes (mesh_with n s)) (sym same) ∙ sym p
 
-pub passed : (bytes : List ℕ) {s t : Spares} (n : Counts) {a b : Bool} → s ≡ t → a ≡ tables_agree (mesh_in n s)
-    → a ≡ true → b ≡ sizes_fit bytes (mesh_in n s) → b ≡ true
-    → TablesAgree (mesh_in n t) × SizesFit bytes (mesh_in n t)
+pub passed : (bytes : List ℕ) {s t : Spares} (n : Counts) {a b : Bool} → s ≡ t → a ≡ tables_agree (mesh_with n s)
+    → a ≡ true → b ≡ sizes_fit bytes (mesh_with n s) → b ≡ true
+    → TablesAgree (mesh_with n t) × SizesFit bytes (mesh_with n t)
 passed bytes n same p x q y =
     (when_true (tables_agree_is _) (agreeing n same p ∙ x), when_true (sizes_fit_is _ _) (fitting bytes n same q ∙ y))
 

@@ -6,7 +6,7 @@ ghost use Rattle.rules.specs.Cage.{cage_of};
 ghost use Rattle.rules.specs.Calls.{load_refusal, load_call};
 ghost use Rattle.tables.specs.declared.Counts.{Counts};
 ghost use Rattle.tables.specs.Answers.{worked_outcome};
-ghost use Rattle.tables.specs.Lent.{held, mesh_in, SameTables};
+ghost use Rattle.tables.specs.Lent.{held, mesh_with, SameTables};
 ghost use Rattle.tables.specs.Refusals.{refused};
 ghost use Rattle.cage.specs.Sides.{SidesLoaded};
 
@@ -15,7 +15,7 @@ use tables::{Counts, Tables, Worked};
 
 // Judges a cage, by the conditions 1, 16 and 2 too. Where it is not refused, its corners and links are written.
 fn load_sides(tables: &mut Tables, rule: u32, cage: &[u8]) -> Result<(), Refusal>
-    ensures value { (n : Counts) → refused result ≡ load_refusal rule cage.now (mesh_in n (held tables.old)) }
+    ensures value { (n : Counts) → refused result ≡ load_refusal rule cage.now (mesh_with n (held tables.old)) }
     ensures sides { SidesLoaded (cage_of cage.now) (refused result) (held tables.old) (held tables.new) }
     ensures lent { SameTables tables.new tables.old }
 {
@@ -37,7 +37,7 @@ fn load_sides(tables: &mut Tables, rule: u32, cage: &[u8]) -> Result<(), Refusal
 // Loads the cage, to be rounded by this rule. A refusal leaves the tables and the counts.
 pub fn load(tables: &mut Tables, counts: Counts, rule: u32, cage: &[u8]) -> Worked
     ensures loaded { worked_outcome result (held tables.new) ≡ load_call rule cage.now
-        (mesh_in counts (held tables.old)) }
+        (mesh_with counts (held tables.old)) }
     ensures lent { SameTables tables.new tables.old }
 {
     if let Err(refusal) = load_sides(tables, rule, cage) {
