@@ -1,7 +1,7 @@
 // The whole step on sound tables: what it refuses, and its work.
 #![tactic(auto)]
 
-ghost use Rattle.std.specs.Prelude.{List, ◌≡◌, ℕ, ◌≤◌, ℤ, length};
+ghost use Rattle.std.specs.Prelude.{List, ◌≡◌, ℕ, ◌*◌, ◌≤◌, ℤ, length};
 ghost use Rattle.theory.proofs.Calls.Carried.{StepFound};
 ghost use Rattle.theory.proofs.Steps.Closed.{closed_step};
 ghost use Rattle.rules.specs.Calls.{some_locked, whole_step_refusal, whole_step_call, worked};
@@ -16,16 +16,15 @@ ghost use Rattle.step.specs.Stepped.{stepped};
 use tables::{Counts, Worked};
 
 // Whether some triangle is locked.
+#[tactic(auto, using(theory::proofs::Numbers::Decide::any_none), unfolding(rules::specs::Calls::some_locked))]
 fn some_locked(locks: &[u8], triangles: u32) -> bool
     requires { triangles ≤ length locks.now }
     ensures { (v rule : ℕ) (p : List ℤ) (c l g : List ℕ) →
         result ≡ some_locked (mesh_of (topology_of v triangles c l g) p locks.now rule) }
 {
     let mut some = false;
-    let mut t: usize = 0;
-    while t < triangles as usize {
-        some = some | (locks[t] == 1);
-        t += 1;
+    for lock in &locks[..triangles as usize] {
+        some |= *lock == 1;
     }
     some
 }
@@ -173,8 +172,8 @@ fn step_by(
     )
 }
 
-// The same for up to 128 vertices.
-fn step_within_128(
+// The same for up to N vertices, of which there are no more than 32,768, with room for the S sums on their axes.
+fn step_within<const N: usize, const S: usize>(
     positions: &mut [i32],
     corners: &mut [u32],
     links: &mut [u32],
@@ -182,105 +181,15 @@ fn step_within_128(
     locks: &mut [u8],
     counts: Counts,
 ) -> Worked
-    requires { Sound (mesh_now counts positions.old corners.old links.old generations.old locks.old)
-        × (counts.vertices ≤ 128) }
+    requires sound { Sound (mesh_now counts positions.old corners.old links.old generations.old locks.old) }
+    requires slots { (counts.vertices ≤ N) × (N ≤ 32768) × (S ≡ 3 * N) }
     ensures { worked_outcome result positions.new corners.new links.new generations.new
         locks.new
         ≡ whole_step_call (mesh_now counts positions.old corners.old links.old
         generations.old locks.old) }
 {
-    let mut lengths = [0u8; 128];
-    let mut sums = [0i32; 384];
-    step_by(
-        positions,
-        corners,
-        links,
-        generations,
-        locks,
-        counts,
-        &mut lengths,
-        &mut sums,
-    )
-}
-
-// The same for up to 2048 vertices.
-fn step_within_2048(
-    positions: &mut [i32],
-    corners: &mut [u32],
-    links: &mut [u32],
-    generations: &mut [u8],
-    locks: &mut [u8],
-    counts: Counts,
-) -> Worked
-    requires { Sound (mesh_now counts positions.old corners.old links.old generations.old locks.old)
-        × (counts.vertices ≤ 2048) }
-    ensures { worked_outcome result positions.new corners.new links.new generations.new
-        locks.new
-        ≡ whole_step_call (mesh_now counts positions.old corners.old links.old
-        generations.old locks.old) }
-{
-    let mut lengths = [0u8; 2048];
-    let mut sums = [0i32; 6144];
-    step_by(
-        positions,
-        corners,
-        links,
-        generations,
-        locks,
-        counts,
-        &mut lengths,
-        &mut sums,
-    )
-}
-
-// The same for up to 12288 vertices. A mesh in one piece that has room for a step has no more.
-fn step_within_12288(
-    positions: &mut [i32],
-    corners: &mut [u32],
-    links: &mut [u32],
-    generations: &mut [u8],
-    locks: &mut [u8],
-    counts: Counts,
-) -> Worked
-    requires { Sound (mesh_now counts positions.old corners.old links.old generations.old locks.old)
-        × (counts.vertices ≤ 12288) }
-    ensures { worked_outcome result positions.new corners.new links.new generations.new
-        locks.new
-        ≡ whole_step_call (mesh_now counts positions.old corners.old links.old
-        generations.old locks.old) }
-{
-    let mut lengths = [0u8; 12288];
-    let mut sums = [0i32; 36864];
-    step_by(
-        positions,
-        corners,
-        links,
-        generations,
-        locks,
-        counts,
-        &mut lengths,
-        &mut sums,
-    )
-}
-
-// The same for up to 32768 vertices.
-fn step_within_32768(
-    positions: &mut [i32],
-    corners: &mut [u32],
-    links: &mut [u32],
-    generations: &mut [u8],
-    locks: &mut [u8],
-    counts: Counts,
-) -> Worked
-    requires { Sound (mesh_now counts positions.old corners.old links.old generations.old locks.old)
-        × (counts.vertices ≤ 32768) }
-    ensures { worked_outcome result positions.new corners.new links.new generations.new
-        locks.new
-        ≡ whole_step_call (mesh_now counts positions.old corners.old links.old
-        generations.old locks.old) }
-{
-    let mut lengths = [0u8; 32768];
-    let mut sums = [0i32; 98304];
+    let mut lengths = [0u8; N];
+    let mut sums = [0i32; S];
     step_by(
         positions,
         corners,
@@ -294,6 +203,7 @@ fn step_within_32768(
 }
 
 // The whole step on sound tables. All is decided before anything lent is written, and a small mesh has little to clear.
+// A mesh in one piece that has room for a step has no more than 12,288 vertices.
 pub fn smoothing_step(
     positions: &mut [i32],
     corners: &mut [u32],
@@ -309,13 +219,13 @@ pub fn smoothing_step(
         generations.old locks.old) }
 {
     if counts.vertices <= 128 {
-        return step_within_128(positions, corners, links, generations, locks, counts);
+        return step_within::<128, 384>(positions, corners, links, generations, locks, counts);
     }
     if counts.vertices <= 2048 {
-        return step_within_2048(positions, corners, links, generations, locks, counts);
+        return step_within::<2048, 6144>(positions, corners, links, generations, locks, counts);
     }
     if counts.vertices <= 12288 {
-        return step_within_12288(positions, corners, links, generations, locks, counts);
+        return step_within::<12288, 36864>(positions, corners, links, generations, locks, counts);
     }
-    step_within_32768(positions, corners, links, generations, locks, counts)
+    step_within::<32768, 98304>(positions, corners, links, generations, locks, counts)
 }

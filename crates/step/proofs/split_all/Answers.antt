@@ -1,6 +1,5 @@
 -- `step::split_all` meets its contract: what it writes is the closed form.
 use Prim.Native.Nat.{ℕ, ◌+◌, ◌*◌}
-use native.Mathlib.Omega.{arith}
 use mathlib.Core.List.{List}
 use mathlib.Core.Path.{◌≡◌, refl}
 use lib.IntN.{ℤ}
@@ -24,10 +23,6 @@ closed_of : (m : Mesh) {positions : List ℤ} {corners links generations locks :
     ≡ closed_step m
 unfolding closed_step
 closed_of m ep ec el eg ek = rw (ep, ec, el, eg, ek) refl
-
-pub overflow_add-g : goal.overflow_add-g
-overflow_add-g c =
-    omega (arith, c.requires.sound.generations 0 c.requires.sound.some_triangle)
 
 pub returns : goal.returns
 returns c =
