@@ -2,7 +2,7 @@
 use mathlib.Core.List.{List}
 use mathlib.Core.Path.{◌≡◌, refl, sym, ap, ◌∙◌}
 use Prim.Native.Nat.{ℕ, zero, suc, ◌*◌}
-use lib.IntN.{ℤ, pos}
+use lib.IntN.{pos}
 use lib.ListN.{take}
 use Rattle.theory.proofs.Numbers.Take.{take_set, take_three}
 use Rattle.theory.proofs.Spares.Copies.{copied_all}
@@ -12,7 +12,7 @@ use Rattle.rules.specs.Spares.{Spares, copied}
 use Rattle.rules.specs.Tables.{Mesh, with_topology, with_counts}
 use Rattle.refining.proofs.Batching.{has_slots}
 use Rattle.tables.specs.declared.Counts.{Counts}
-use Rattle.tables.specs.Lent.{mesh_now, spares_now}
+use Rattle.tables.specs.Lent.{mesh_now, mesh_with}
 use Rattle.undoing.specs.Trying.{cut, JustSlots}
 
 -- ---- slots put back into cut tables
@@ -52,34 +52,31 @@ module _ (note : List ℕ) where
 
 -- ---- the copy of a mesh in tables with just its slots
 
-module _ (n : Counts) (p : List ℤ) (c l g k : List ℕ) (S : Sound (mesh_now n p c l g k))
-    {q₀ q : List ℤ} {c₀ l₀ g₀ k₀ c₁ l₁ g₁ k₁ : List ℕ} (J : JustSlots n q₀ c₀ l₀ g₀ k₀)
-    (e : spares_now q c₁ l₁ g₁ k₁ ≡ copied (mesh_now n p c l g k) (spares_now q₀ c₀ l₀ g₀ k₀)) where
+module _ (n : Counts) (s : Spares) (S : Sound (mesh_with n s)) {room copy : Spares} (J : JustSlots n room)
+    (e : copy ≡ copied (mesh_with n s) room) where
   -- The copy is the mesh in cut tables, with whatever counts.
   copy_is_cut : (o : Counts)
-      → mesh_now o q c₁ l₁ g₁ k₁
-      ≡ mesh_now o (take (3 * n.vertices) p) (take (3 * n.triangles) c) (take (3 * n.triangles) l)
-      (take n.triangles g) (take n.triangles k)
+      → mesh_with o copy
+      ≡ mesh_now o (take (3 * n.vertices) s.positions) (take (3 * n.triangles) s.corners) (take (3 * n.triangles) s.links)
+      (take n.triangles s.generations) (take n.triangles s.locks)
   unfolding copied
   copy_is_cut o =
       let R = has_slots n S in
-      let positions = ap (λ (x : Spares). x.positions) e ∙ copied_all (pos 0) _ q₀ p R.positions J.positions in
-      let corners = ap (λ (x : Spares). x.corners) e ∙ copied_all 0 _ c₀ c R.corners J.corners in
-      let links = ap (λ (x : Spares). x.links) e ∙ copied_all 0 _ l₀ l R.links J.links in
+      let positions = ap (λ (x : Spares). x.positions) e ∙ copied_all (pos 0) _ room.positions s.positions R.positions J.positions in
+      let corners = ap (λ (x : Spares). x.corners) e ∙ copied_all 0 _ room.corners s.corners R.corners J.corners in
+      let links = ap (λ (x : Spares). x.links) e ∙ copied_all 0 _ room.links s.links R.links J.links in
       let generations =
-      ap (λ (x : Spares). x.generations) e ∙ copied_all 0 _ g₀ g R.generations J.generations in
-      let locks = ap (λ (x : Spares). x.locks) e ∙ copied_all 0 _ k₀ k R.locks J.locks in
+      ap (λ (x : Spares). x.generations) e ∙ copied_all 0 _ room.generations s.generations R.generations J.generations in
+      let locks = ap (λ (x : Spares). x.locks) e ∙ copied_all 0 _ room.locks s.locks R.locks J.locks in
       rw (positions, corners, links, generations, locks) refl
 
   -- With the slots of a note it is the restored mesh.
-  pub copy_restored : (note : List ℕ) {c₂ l₂ g₂ k₂ : List ℕ}
-      → ((o : Counts) (r : List ℤ)
-      → mesh_now o r c₂ l₂ g₂ k₂ ≡ put_back_all note (note_slots note) (mesh_now o r c₁ l₁ g₁ k₁))
-      → mesh_now (record { vertices = old_v note; triangles = old_f note; rule = n.rule })
-      q c₂ l₂ g₂ k₂
-      ≡ cut n.vertices n.triangles (restored note (mesh_now n p c l g k))
+  pub copy_restored : (note : List ℕ) {back : Spares}
+      → ((o : Counts) → mesh_with o back ≡ put_back_all note (note_slots note) (mesh_with o copy))
+      → mesh_with (record { vertices = old_v note; triangles = old_f note; rule = n.rule }) back
+      ≡ cut n.vertices n.triangles (restored note (mesh_with n s))
   copy_restored note put =
       let o : Counts = record { vertices = old_v note; triangles = old_f note; rule = n.rule } in
-      put o q
+      put o
       ∙ ap (put_back_all note (note_slots note)) (copy_is_cut o)
-      ∙ restored_cut note n.vertices n.triangles (mesh_now n p c l g k)
+      ∙ restored_cut note n.vertices n.triangles (mesh_with n s)

@@ -1,69 +1,69 @@
 -- What comes of a take-back, by its refusal.
-use mathlib.Core.Bool.{Bool, true, false, not}
+use mathlib.Core.Bool.{Bool, not}
 use mathlib.Core.List.{List, [], ◌∷◌}
 use mathlib.Core.Logic.{◌≢◌}
 use mathlib.Core.Path.{◌≡◌, refl, sym, ap, ◌∙◌}
 use Prim.Native.Nat.{ℕ, ◌≤◌}
 use native.Mathlib.Omega.{arith}
-use lib.IntN.{ℤ}
+use Rattle.theory.proofs.Calls.CallRefusals.{take_back_refusal_first}
 use Rattle.theory.proofs.Calls.Carried.{take_back_found}
-use Rattle.theory.proofs.Calls.FirstThatHolds.{two_kept, two_passed, refuses, carries}
+use Rattle.theory.proofs.Calls.FirstThatHolds.{two_kept, two_passed, none_hold, refuses, carries}
+use Rattle.theory.proofs.Numbers.Decide.{stable}
+use Rattle.theory.proofs.Soundness.SoundTest.{sound_is}
 use Rattle.rules.specs.Calls.{no_room, refused_with, worked, first_of, ◌if◌}
 use Rattle.rules.specs.Notes.{old_v, old_f, note_slots, put_back_all, restored, accepted, take_back_refusal}
 use Rattle.rules.specs.Notes.{take_back_call}
 use Rattle.rules.specs.Sound.{Sound, is_sound}
+use Rattle.rules.specs.Spares.{Spares}
 use Rattle.rules.specs.Split.{at_first}
 use Rattle.rules.specs.Tables.{Mesh, tables_agree}
 use Rattle.tables.specs.Standing.{standing}
 use Rattle.tables.specs.declared.Counts.{Counts}
-use Rattle.tables.specs.Lent.{mesh_now}
+use Rattle.tables.specs.Lent.{mesh_with}
 use Rattle.restoring.specs.Fitting.{NoteFits}
 use Rattle.restoring.specs.Putting.{SlotRoom}
 use Rattle.undoing.proofs.AcceptedCut.{accepted_counts}
 use Rattle.undoing.proofs.CutTables.{recounted_back}
 use Rattle.restoring.proofs.NoteTests.{accepted_fits}
 
--- ---- what comes of it, found test by test
+-- ---- the refusal, found test by test
 
 module _ (note : List ℕ) (m : Mesh) (r : ℕ) (s : r ≡ standing m) where
-  pub back_standing : r ≢ 0 → refused_with r m no_room ≡ take_back_call note m
-  unfolding take_back_refusal take_back_call
-  back_standing n =
-      refuses m no_room (worked (at_first (restored note m))) (take_back_refusal note m) r
-      (two_kept (not (tables_agree m)) (not (is_sound m)) (21 if not (accepted note m) ∷ []) r s n) n
+  pub refused_standing : r ≢ 0 → r ≡ take_back_refusal note m
+  unfolding take_back_refusal
+  refused_standing = two_kept (not (tables_agree m)) (not (is_sound m)) (21 if not (accepted note m) ∷ []) r s
 
-  module _ (z : r ≡ 0) {b : Bool} (e : b ≡ accepted note m) where
-    refusal_is : first_of (21 if not b ∷ []) ≡ take_back_refusal note m
-    unfolding take_back_refusal
-    refusal_is =
-        sym (two_passed (not (tables_agree m)) (not (is_sound m)) (21 if not (accepted note m) ∷ []) r s z ∙ rw e refl)
+  -- On a sound mesh it is 21 or none, by the answer of the test.
+  pub refused_by_note : r ≡ 0 → {b : Bool} → b ≡ accepted note m → first_of (21 if not b ∷ []) ≡ take_back_refusal note m
+  unfolding take_back_refusal
+  refused_by_note z e =
+      sym (two_passed (not (tables_agree m)) (not (is_sound m)) (21 if not (accepted note m) ∷ []) r s z ∙ rw e refl)
 
-    pub back_stale : b ≡ false → refused_with 21 m no_room ≡ take_back_call note m
+-- ---- what comes of it
+
+module _ (note : List ℕ) (m : Mesh) (r : ℕ) (e : r ≡ take_back_refusal note m) where
+  pub back_refused : r ≢ 0 → refused_with r m no_room ≡ take_back_call note m
+  unfolding take_back_call
+  back_refused = refuses m no_room (worked (at_first (restored note m))) (take_back_refusal note m) r e
+
+  module _ (z : r ≡ 0) where
+    -- The mesh is sound, the note fits, and its slots are in use.
+    pub may_put : (Sound m) × (NoteFits note) × (old_f note ≤ m.topology.triangles)
+    may_put =
+        let (_, (s, _)) = none_hold (take_back_refusal_first note m) (sym e ∙ z) tt in
+        let A = take_back_found note m (sym e ∙ z) in
+        (stable (sound_is m) s, accepted_fits note m A, (accepted_counts note m A).1)
+
+    pub back_carried : {back : Mesh} → back ≡ restored note m → worked (at_first back) ≡ take_back_call note m
     unfolding take_back_call
-    back_stale f =
-        refuses m no_room (worked (at_first (restored note m))) (take_back_refusal note m) 21
-        (rw f at refusal_is) (λ q. omega arith)
-
-    module _ (t : b ≡ true) where
-      passes : 0 ≡ take_back_refusal note m
-      passes = rw t at refusal_is
-
-      -- The note fits, and its slots are in use.
-      pub may_put : NoteFits note × (old_f note ≤ m.topology.triangles)
-      may_put =
-          let A = take_back_found note m (sym passes) in
-          (accepted_fits note m A, (accepted_counts note m A).1)
-
-      pub back_carried : {back : Mesh} → back ≡ restored note m → worked (at_first back) ≡ take_back_call note m
-      unfolding take_back_call
-      back_carried q =
-          ap (λ (x : Mesh). worked (at_first x)) q
-          ∙ carries m no_room (worked (at_first (restored note m))) (take_back_refusal note m) 0 passes refl
+    back_carried b =
+        ap (λ (x : Mesh). worked (at_first x)) b
+        ∙ carries m no_room (worked (at_first (restored note m))) (take_back_refusal note m) r e z
 
 -- ---- the lent tables
 
-module _ (n : Counts) (p : List ℤ) (c l g k : List ℕ) where
-  pub sound_room : {f : ℕ} → Sound (mesh_now n p c l g k) → f ≤ n.triangles → SlotRoom f c l g k
+module _ (n : Counts) (s : Spares) where
+  pub sound_room : {f : ℕ} → Sound (mesh_with n s) → f ≤ n.triangles → SlotRoom f s
   sound_room S b = record {
     triangles = record {
       corners = S.tables.corners;
@@ -75,12 +75,11 @@ module _ (n : Counts) (p : List ℤ) (c l g k : List ℕ) where
   }
 
   -- With the slots of a note and its counts they are restored.
-  pub put_restored : (note : List ℕ) {c₁ l₁ g₁ k₁ : List ℕ}
-      → ((o : Counts) (q : List ℤ)
-      → mesh_now o q c₁ l₁ g₁ k₁ ≡ put_back_all note (note_slots note) (mesh_now o q c l g k))
-      → mesh_now (record { vertices = old_v note; triangles = old_f note; rule = n.rule }) p c₁ l₁ g₁ k₁
-      ≡ restored note (mesh_now n p c l g k)
+  pub put_restored : (note : List ℕ) {back : Spares}
+      → ((o : Counts) → mesh_with o back ≡ put_back_all note (note_slots note) (mesh_with o s))
+      → mesh_with (record { vertices = old_v note; triangles = old_f note; rule = n.rule }) back
+      ≡ restored note (mesh_with n s)
   unfolding restored
   put_restored note put =
-      put (record { vertices = old_v note; triangles = old_f note; rule = n.rule }) p
-      ∙ recounted_back note (old_v note) (old_f note) (mesh_now n p c l g k) (note_slots note)
+      put (record { vertices = old_v note; triangles = old_f note; rule = n.rule })
+      ∙ recounted_back note (old_v note) (old_f note) (mesh_with n s) (note_slots note)

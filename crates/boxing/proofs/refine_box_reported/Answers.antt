@@ -42,8 +42,8 @@ overflow_add-result c =
     let M = made _ c.args.report.now {r = c.work_reported-made.result} c.requires c.work_reported-made.ensures.0 in
     omega (arith, few M (c.carry_back-done.ensures _ _ M))
 
-pub returns : goal.returns
-returns c =
+pub returns-clause-done : goal.returns-clause-done
+returns-clause-done c =
     let M = made _ c.args.report.now {r = c.work_reported-made.result} c.requires c.work_reported-made.ensures.0 in
     reported_is _ c.args.report.now _ (box_going _ c.requires) c.work_reported-made.ensures.1
     (c.carry_back-done.ensures _ _ M)

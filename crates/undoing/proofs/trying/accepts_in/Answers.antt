@@ -1,0 +1,10 @@
+-- `undoing::trying::accepts_in` meets its contract.
+use Rattle.undoing.proofs.CutTables.{copy_restored}
+use Rattle.undoing.proofs.Trials.{tried}
+use Rattle.undoing.proofs.trying.accepts_in.Goals as goal
+
+pub returns : goal.returns
+returns c =
+    tried _ _ c.if-counts-note.false c.if-counts-note-2.false
+    (copy_restored _ _ c.requires.sound c.requires.just_slots c.copy_mesh.ensures.copied _ c.put_back_all.ensures.put)
+    c.refines_to.ensures
