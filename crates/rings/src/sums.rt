@@ -10,7 +10,7 @@ use tables::Counts;
 // Of the ring of a vertex, how many entries it has and the sum of their positions.
 #[derive(Clone, Copy)]
 pub struct RingSum {
-    pub length: u32,
+    pub length: u8,
     pub sum: Point,
 }
 
