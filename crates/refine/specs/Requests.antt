@@ -1,13 +1,24 @@
 -- A fresh store, and what requests make of a mesh.
 use Rattle.std.specs.Prelude.{ℕ, zero, suc, ◌-◌, ◌*◌, ◌/◌, ◌^◌, ◌≤◌, List, ◌++◌, ◌≡◌, length}
-use Rattle.rules.specs.Calls.{refine_call}
+use Rattle.rules.specs.Calls.{Outcome, refine_call}
 use Rattle.rules.specs.Numbers.{number_at}
 use Rattle.rules.specs.Tables.{Mesh}
+use Rattle.tables.specs.Answers.{worked_outcome}
+use Rattle.tables.specs.Lent.{mesh_now}
 use Rattle.tables.specs.declared.Counts.{Counts}
+use Rattle.tables.specs.declared.Worked.{Worked}
+use Rattle.refine.specs.declared.Store.{Store}
 
 -- The counts of a fresh store, with rule 1.
 abbrev pub fresh : Counts
 fresh = record { vertices = 0; triangles = 0; rule = 1 }
+
+-- The mesh in a store, and the outcome of a call that left this store.
+abbrev pub mesh_in : Store → Mesh
+mesh_in s = mesh_now s.counts s.positions s.corners s.links s.generations s.locks
+
+abbrev pub outcome_in : Worked → Store → Outcome
+outcome_in done s = worked_outcome done s.positions s.corners s.links s.generations s.locks
 
 -- The mesh after the first n requests in these bytes, each a triangle's number in four of them.
 unfoldable pub after_requests : ℕ → List ℕ → Mesh → Mesh
