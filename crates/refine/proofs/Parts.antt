@@ -70,20 +70,19 @@ pub rest_dropped : (bytes : List ℕ) (m : Mesh) → length bytes < 4 → after_
 unfolding after_bytes after_requests
 rest_dropped bytes m l = let q : length bytes / 4 ≡ 0 = omega arith in rw q refl
 
--- The mesh that a call left in a store.
-pub mesh_left : {done : Worked} {s : Store} {o : Outcome} → s.counts ≡ done.counts → outcome_in done s ≡ o
-    → mesh_in s ≡ o.mesh
-mesh_left n e = rw n (ap (λ (o : Outcome). o.mesh) e)
-
 -- The first request is answered before those behind it.
-pub first_answered : (request rest : List ℕ) {bytes : List ℕ} {t : ℕ} (m : Mesh) {after : Mesh} → bytes ≡ request ++ rest
-    → length request ≡ 4 → t ≡ number_at request 0 → after ≡ (refine_call t m).mesh
-    → after_bytes rest after ≡ after_bytes bytes m
+pub first_answered : (request rest : List ℕ) {bytes : List ℕ} {t : ℕ} (before after : Store) {done : Worked}
+    → bytes ≡ request ++ rest → length request ≡ 4 → t ≡ number_at request 0 → after.counts ≡ done.counts
+    → outcome_in done after ≡ refine_call t (mesh_in before)
+    → after_bytes rest (mesh_in after) ≡ after_bytes bytes (mesh_in before)
 unfolding after_bytes after_requests
-first_answered request rest m e l n a =
+first_answered request rest before after e l n c o =
+    let m = mesh_in before in
     let q : length request / 4 ≡ 1 = omega arith in
     let one : after_bytes request m ≡ (refine_call (number_at request 0) m).mesh = rw q refl in
-    rw (a, n, e) (sym (bytes_after request rest m (omega arith) ∙ ap (after_bytes rest) one))
+    let a : mesh_in after ≡ (refine_call (number_at request 0) m).mesh =
+    rw (c, ← n) (ap (λ (o : Outcome). o.mesh) o) in
+    rw (a, e) (sym (bytes_after request rest m (omega arith) ∙ ap (after_bytes rest) one))
 
 -- After `turns` reads that filled a buffer of `size` bytes, and one more, which brought `last`. The loop began when the
 -- first read, which brought `first`, had led to the mesh `m₀`.

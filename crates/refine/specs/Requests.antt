@@ -1,5 +1,5 @@
 -- A fresh store, and what requests make of a mesh.
-use Rattle.std.specs.Prelude.{ℕ, zero, suc, ◌-◌, ◌*◌, ◌/◌, ◌^◌, ◌≤◌, List, ◌++◌, ◌≡◌, length}
+use Rattle.std.specs.Prelude.{ℕ, zero, suc, ◌-◌, ◌*◌, ◌/◌, ◌^◌, ◌≤◌, List, ◌++◌, ◌≡◌, length, decimal, codes}
 use Rattle.rules.specs.Calls.{Outcome, refine_call}
 use Rattle.rules.specs.Numbers.{number_at}
 use Rattle.rules.specs.Tables.{Mesh}
@@ -12,6 +12,15 @@ use Rattle.refine.specs.declared.Store.{Store}
 -- The counts of a fresh store, with rule 1.
 abbrev pub fresh : Counts
 fresh = record { vertices = 0; triangles = 0; rule = 1 }
+
+-- The line of a call: refusal, splits, flips, vertices and triangles.
+abbrev pub spaced : ℕ → List ℕ → List ℕ
+spaced n rest = decimal n ++ (codes " " ++ rest)
+
+abbrev pub line_of : Worked → List ℕ
+line_of done =
+    spaced done.refusal (spaced done.splits (spaced done.flips (spaced done.counts.vertices
+    (decimal done.counts.triangles))))
 
 -- The mesh in a store, and the outcome of a call that left this store.
 abbrev pub mesh_in : Store → Mesh

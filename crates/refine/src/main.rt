@@ -3,15 +3,14 @@
 // the first such error.
 #![tactic(auto)]
 
-ghost use Rattle.std.specs.Prelude.{ℕ, ◌%◌, ◌≤◌, List, ◌≡◌, length, take};
+ghost use Rattle.std.specs.Prelude.{ℕ, ◌%◌, ◌≤◌, List, ◌≡◌, Some, length, take};
 ghost use Rattle.rules.specs.Calls.{load_call, refine_call};
-ghost use Rattle.refine.specs.Requests.{fresh, mesh_in, outcome_in, after_bytes, AllAnswered};
+ghost use Rattle.refine.specs.Requests.{fresh, line_of, mesh_in, outcome_in, after_bytes, AllAnswered};
 
-use std::fmt;
 use std::fs::File;
-use std::io;
 use std::io::Read;
 use std::rt::Files;
+use std::{fmt, io};
 use tables::{Counts, Worked};
 
 // The mesh that the program keeps, in 1,024 vertex and 2,048 triangle slots.
@@ -87,19 +86,15 @@ impl Store {
 struct Line(Worked);
 
 impl fmt::Display for Line {
+    ghost output = { λ line. Some (line_of line.0) };
+
     fn fmt<W: fmt::Write>(&self, f: &mut fmt::Formatter<W>) -> fmt::Result {
-        let Worked {
-            refusal,
-            splits,
-            flips,
-            counts,
-        } = self.0;
-        let Counts {
-            vertices,
-            triangles,
-            rule: _,
-        } = counts;
-        write!(f, "{refusal} {splits} {flips} {vertices} {triangles}")
+        let done = self.0;
+        write!(
+            f,
+            "{} {} {} {} {}",
+            done.refusal, done.splits, done.flips, done.counts.vertices, done.counts.triangles
+        )
     }
 }
 
@@ -108,6 +103,7 @@ fn read_full(file: &mut impl Read, buffer: &mut [u8]) -> (usize, io::Result<()>)
     ensures { result.0 ≤ length buffer.new }
 {
     let mut done = 0;
+    // Kept: no plainer: a read advances by what it brings, and `read_exact` does not tell what came before the end.
     while done < buffer.len() {
         match file.read(&mut buffer[done..]) {
             Ok(0) => break,

@@ -7,5 +7,5 @@ use Rattle.refine.proofs.answer.Given as goal
 abbrev pub invariant-loop-request : goal.invariant-loop-request
 invariant-loop-request g l = record {
   four : chunks_exact_size l.request-iterator ≡ 4;
-  left : after_bytes (chunks_exact_rest l.request-iterator) (mesh_in l.store) ≡ after_bytes l.requests (mesh_in l.initial.store)
+  left : after_bytes (chunks_exact_rest l.request-iterator) (mesh_in l.store) ≡ after_bytes l.requests (mesh_in l.initial.store);
 }

@@ -9,5 +9,5 @@ invariant-loop-turn g l = record {
   size : length l.requests ≡ length l.initial.requests;
   fits : l.last ≤ length l.requests;
   reading : Reading (length l.initial.requests) l._turn (take l.initial.last l.initial.requests)
-      (take l.last l.requests) (mesh_in l.initial.store) (mesh_in l.store)
+      (take l.last l.requests) (mesh_in l.initial.store) (mesh_in l.store);
 }
