@@ -7,7 +7,7 @@ use Rattle.rules.specs.Calls.{Outcome, refine_call}
 use Rattle.rules.specs.Numbers.{number_at}
 use Rattle.rules.specs.Tables.{Mesh}
 use Rattle.tables.specs.declared.Worked.{Worked}
-use Rattle.refine.specs.Requests.{mesh_in, outcome_in, after_requests, after_bytes, AllAnswered}
+use Rattle.refine.specs.Requests.{store_mesh, store_outcome, after_requests, after_bytes, AllAnswered}
 use Rattle.refine.specs.declared.Store.{Store}
 use Rattle.std.proofs.Math.Nat.{mul-zero}
 
@@ -73,14 +73,14 @@ rest_dropped bytes m l = let q : length bytes / 4 ≡ 0 = omega arith in rw q re
 -- The first request is answered before those behind it.
 pub first_answered : (request rest : List ℕ) {bytes : List ℕ} {t : ℕ} (before after : Store) {done : Worked}
     → bytes ≡ request ++ rest → length request ≡ 4 → t ≡ number_at request 0 → after.counts ≡ done.counts
-    → outcome_in done after ≡ refine_call t (mesh_in before)
-    → after_bytes rest (mesh_in after) ≡ after_bytes bytes (mesh_in before)
+    → store_outcome done after ≡ refine_call t (store_mesh before)
+    → after_bytes rest (store_mesh after) ≡ after_bytes bytes (store_mesh before)
 unfolding after_bytes after_requests
 first_answered request rest before after e l n c o =
-    let m = mesh_in before in
+    let m = store_mesh before in
     let q : length request / 4 ≡ 1 = omega arith in
     let one : after_bytes request m ≡ (refine_call (number_at request 0) m).mesh = rw q refl in
-    let a : mesh_in after ≡ (refine_call (number_at request 0) m).mesh =
+    let a : store_mesh after ≡ (refine_call (number_at request 0) m).mesh =
     rw (c, ← n) (ap (λ (o : Outcome). o.mesh) o) in
     rw (a, e) (sym (bytes_after request rest m (omega arith) ∙ ap (after_bytes rest) one))
 

@@ -23,11 +23,11 @@ line_of done =
     (decimal done.counts.triangles))))
 
 -- The mesh in a store, and the outcome of a call that left this store.
-abbrev pub mesh_in : Store → Mesh
-mesh_in s = mesh_now s.counts s.positions s.corners s.links s.generations s.locks
+abbrev pub store_mesh : Store → Mesh
+store_mesh s = mesh_now s.counts s.positions s.corners s.links s.generations s.locks
 
-abbrev pub outcome_in : Worked → Store → Outcome
-outcome_in done s = worked_outcome done s.positions s.corners s.links s.generations s.locks
+abbrev pub store_outcome : Worked → Store → Outcome
+store_outcome done s = worked_outcome done s.positions s.corners s.links s.generations s.locks
 
 -- The mesh after the first n requests in these bytes, each a triangle's number in four of them.
 unfoldable pub after_requests : ℕ → List ℕ → Mesh → Mesh

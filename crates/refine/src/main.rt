@@ -5,7 +5,7 @@
 
 ghost use Rattle.std.specs.Prelude.{ℕ, ◌%◌, ◌≤◌, List, ◌≡◌, Some, length, take};
 ghost use Rattle.rules.specs.Calls.{load_call, refine_call};
-ghost use Rattle.refine.specs.Requests.{fresh, line_of, mesh_in, outcome_in, after_bytes, AllAnswered};
+ghost use Rattle.refine.specs.Requests.{fresh, line_of, store_mesh, store_outcome, after_bytes, AllAnswered};
 
 use std::fs::File;
 use std::io::Read;
@@ -46,7 +46,7 @@ impl Store {
     // Loads a cage by rule 1.
     fn load(&mut self, cage: &[u8]) -> Worked
         ensures counts { self.new.counts ≡ result.counts }
-        ensures outcome { outcome_in result self.new ≡ load_call 1 cage.now (mesh_in self.old) }
+        ensures outcome { store_outcome result self.new ≡ load_call 1 cage.now (store_mesh self.old) }
     {
         let done = mesh::load(
             &mut self.positions,
@@ -65,7 +65,7 @@ impl Store {
     // Refines triangle t.
     fn refine(&mut self, t: u32) -> Worked
         ensures counts { self.new.counts ≡ result.counts }
-        ensures outcome { outcome_in result self.new ≡ refine_call t (mesh_in self.old) }
+        ensures outcome { store_outcome result self.new ≡ refine_call t (store_mesh self.old) }
     {
         let done = mesh::refine(
             &mut self.positions,
@@ -117,7 +117,7 @@ fn read_full(file: &mut impl Read, buffer: &mut [u8]) -> (usize, io::Result<()>)
 // Loads the cage in a file; one that is missing is empty. The buffer has a byte more than the largest cage of this
 // store, so that a longer file is longer here too.
 fn load(store: &mut Store, rt: &impl Files, path: &str) -> (Worked, io::Result<()>)
-    ensures { (bytes : List ℕ) × (outcome_in result.0 store.new ≡ load_call 1 bytes (mesh_in store.old)) }
+    ensures { (bytes : List ℕ) × (store_outcome result.0 store.new ≡ load_call 1 bytes (store_mesh store.old)) }
 {
     let mut cage = [0; 36873];
     let Ok(mut file) = File::open(rt, path) else {
@@ -129,7 +129,7 @@ fn load(store: &mut Store, rt: &impl Files, path: &str) -> (Worked, io::Result<(
 
 // Answers the requests in these bytes, four to each, and drops what is left over.
 fn answer(store: &mut Store, rt: &impl Print, requests: &[u8]) -> io::Result<()>
-    ensures { mesh_in store.new ≡ after_bytes requests.now (mesh_in store.old) }
+    ensures { store_mesh store.new ≡ after_bytes requests.now (store_mesh store.old) }
 {
     let mut printed = Ok(());
     for request in requests.chunks_exact(4) {
@@ -147,8 +147,8 @@ fn answer_some(
     requests: &mut [u8],
 ) -> (usize, io::Result<()>)
     ensures read_in_bounds { result.0 ≤ length requests.new }
-    ensures answered { mesh_in store.new
-        ≡ after_bytes (take result.0 requests.new) (mesh_in store.old) }
+    ensures answered { store_mesh store.new
+        ≡ after_bytes (take result.0 requests.new) (store_mesh store.old) }
 {
     let (n, read) = read_full(file, requests);
     let printed = answer(store, rt, &requests[..n]);
@@ -166,7 +166,7 @@ fn answer_all(
 ) -> (usize, io::Result<()>)
     requires { length requests.old % 4 ≡ 0 }
     ensures { AllAnswered (length requests.new) (take result.0 requests.new)
-        (mesh_in store.old) (mesh_in store.new) }
+        (store_mesh store.old) (store_mesh store.new) }
 {
     let (mut last, mut outcome) = answer_some(store, rt, file, requests);
     for _turn in 0..u64::MAX {

@@ -57,7 +57,10 @@ module _ (m : Topology) {first : ℕ} (R : OnRimSide m first) where
     side = sym first_is;
   }
 
-  module _ {n h k : ℕ} (T : Tracing m first n h) (e : k ≡ first_side m (target m h)) where
+  module _ {n h k : ℕ} (T : Tracing m first n h) (goes_on : OnRimSide m h → k ≡ first_side m (target m h)) where
+    e : k ≡ first_side m (target m h)
+    e = goes_on (traced_on_rim T)
+
     -- The next side leaves the next vertex.
     next_side : k ≡ first_side m (along m v n)
     next_side =

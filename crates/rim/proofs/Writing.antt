@@ -152,7 +152,10 @@ module _ (m : Mesh) {first : ℕ} {trace : Trace} (W : Traced m first trace) whe
       pub writing_size : length table ≡ length lent
       writing_size = ap length R.table ∙ length_fill (9 * j) (curve_at m l) lent
 
-      module _ {k : ℕ} (e : k ≡ first_side tri (target tri h)) where
+      module _ {k : ℕ} (goes_on : OnRimSide tri h → k ≡ first_side tri (target tri h)) where
+        e : k ≡ first_side tri (target tri h)
+        e = goes_on writing_on_rim
+
         next_side : k ≡ first_side tri (vertex (suc j))
         unfolding along
         next_side = e ∙ ap (λ (x : ℕ). first_side tri (target tri x)) R.side
@@ -161,8 +164,11 @@ module _ (m : Mesh) {first : ℕ} {trace : Trace} (W : Traced m first trace) whe
         next_vertex =
             ap (λ (x : ℕ). origin tri x) next_side ∙ (side_along tri F v i on (suc j)).out
 
-        pub next_on_rim : OnRimSide tri k
+        next_on_rim : OnRimSide tri k
         next_on_rim = leaves_at tri W.on_rim (suc j) next_side
+
+        pub next_readable : (k < boundary) × (k < length tri.corners) × (origin tri k < length m.positions / 3)
+        next_readable = readable next_on_rim
 
         pub writing_on : {after : Point} {table' : List ℤ} → j < trace.length
             → after ≡ point_in m.positions (origin tri k) → table' ≡ three_points (3 * j) before this after table
