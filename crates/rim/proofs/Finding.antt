@@ -68,11 +68,11 @@ module _ (v room : ℕ) (m : Mesh) where
         R : RingMakes t v
         R = ring_makes S v l
 
-        in_use_lem : start - 1 < sides t
-        in_use_lem = rw first (subst (λ (h : ℕ). h < sides t) R.first (R.in_use 0 R.some))
+        first_in_use : start - 1 < sides t
+        first_in_use = rw first (subst (λ (h : ℕ). h < sides t) R.first (R.in_use 0 R.some))
 
         pub first_read : start - 1 < length t.links
-        first_read = omega (arith, in_use_lem, S.tables.links, S.triangle_room)
+        first_read = omega (arith, first_in_use, S.tables.links, S.triangle_room)
 
         pub finds_twenty_four : link t (start - 1) ≢ boundary → Refused v room 24 m
         finds_twenty_four n =
@@ -84,20 +84,20 @@ module _ (v room : ℕ) (m : Mesh) where
           out = ap (λ (h : ℕ). origin t h) first ∙ R.starts_out
 
           on : on_rim t v ≡ true
-          on = is_same (on_rim_is t v) (is_true (start - 1, in_use_lem, out, e))
+          on = is_same (on_rim_is t v) (is_true (start - 1, first_in_use, out, e))
 
-          pub on_rim_lem : OnRimSide t (start - 1)
-          on_rim_lem = record {
+          pub first_on_rim : OnRimSide t (start - 1)
+          first_on_rim = record {
             manifold = sound_manifold S;
-            side = record { in_use = in_use_lem; out = refl; edge = e };
+            side = record { in_use = first_in_use; out = refl; edge = e };
           }
 
           module _ {trace : Trace} (follows : OnRimSide t (start - 1) → Closes t (start - 1) trace) where
             C : Closes t (start - 1) trace
-            C = follows on_rim_lem
+            C = follows first_on_rim
 
             traced : Traced m (start - 1) trace
-            traced = record { sound = S; on_rim = on_rim_lem; closes = C }
+            traced = record { sound = S; on_rim = first_on_rim; closes = C }
 
             pub few_on_rim : trace.length ≤ 32768
             few_on_rim = few m traced

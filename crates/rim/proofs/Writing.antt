@@ -20,7 +20,7 @@ use Rattle.points.specs.Axes.{each_axis}
 use Rattle.tables.specs.Lent.{point_in, put_point}
 use Rattle.rim.specs.declared.Trace.{Trace}
 use Rattle.rim.specs.Traced.{OnRimSide, Traced, three_points}
-use Rattle.rim.proofs.Tracing.{in_use_lem, on_boundary_lem, first_is, leaves_at}
+use Rattle.rim.proofs.Tracing.{starts_in_use, starts_on_boundary, first_is, leaves_at}
 
 -- After j vertices of the rim from the side `first` on: the points of the one before and of the next, the side by which
 -- the rim leaves that, and the table.
@@ -51,10 +51,10 @@ module _ (m : Mesh) {first : ℕ} {trace : Trace} (W : Traced m first trace) whe
   place j = point_in m.positions (vertex j)
 
   i : v < tri.vertices
-  i = in_use_lem tri W.on_rim
+  i = starts_in_use tri W.on_rim
 
   on : OnBoundary tri v
-  on = on_boundary_lem tri W.on_rim
+  on = starts_on_boundary tri W.on_rim
 
   two : 2 ≤ length l
   two = (rim_made tri F v i on).at_least_two
@@ -174,16 +174,16 @@ module _ (m : Mesh) {first : ℕ} {trace : Trace} (W : Traced m first trace) whe
             → after ≡ point_in m.positions (origin tri k) → table' ≡ three_points (3 * j) before this after table
             → Writing m first (j + 1) k this after lent table'
         writing_on b p t = record {
-          side = next_side ∙ ap (λ (x : ℕ). first_side tri (vertex x)) one_more_lem;
+          side = next_side ∙ ap (λ (x : ℕ). first_side tri (vertex x)) one_more;
           before =
               let q : j + 1 + length l - 1 ≡ j + length l = omega arith in
               R.this ∙ ap (point_in m.positions)
               (sym (again tri F v i on j) ∙ ap vertex (sym q));
-          this = p ∙ ap (point_in m.positions) (next_vertex ∙ ap vertex one_more_lem);
+          this = p ∙ ap (point_in m.positions) (next_vertex ∙ ap vertex one_more);
           table =
               t ∙ rw (R.before, R.this, R.table, p, next_vertex)
               (three_more j lent (omega (arith, W.closes.size)));
         }
           where
-            one_more_lem : suc j ≡ j + 1
-            one_more_lem = omega arith
+            one_more : suc j ≡ j + 1
+            one_more = omega arith

@@ -1,6 +1,6 @@
 -- `rim::find_rim` meets its contract: each test tells a refusal, or what the next ones need.
 use Rattle.std.proofs.Common.{sym, ◌∙◌, arith}
-use Rattle.rim.proofs.Finding.{finds_one, finds_seven, finds_eight, first_read, finds_twenty_four, on_rim_lem}
+use Rattle.rim.proofs.Finding.{finds_one, finds_seven, finds_eight, first_read, finds_twenty_four, first_on_rim}
 use Rattle.rim.proofs.Finding.{few_on_rim, finds_twenty_five, finds}
 use Rattle.rim.proofs.find_rim.Goals as goal
 
@@ -34,7 +34,7 @@ trace_rim-trace-requires c = (
   c.args.counts.triangles,
   c.args.corners.now,
   c.args.generations.now,
-  on_rim_lem _ c.args.room _ (sym (c.tables_agree.ensures _ _ _) ∙ c.if-not-tables_agree.false) c.sound_start-start.ensures
+  first_on_rim _ c.args.room _ (sym (c.tables_agree.ensures _ _ _) ∙ c.if-not-tables_agree.false) c.sound_start-start.ensures
       c.if-start-eq0.false c.if-counts-v.false c.if-links-first.false,
 )
 
