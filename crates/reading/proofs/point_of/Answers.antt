@@ -22,6 +22,6 @@ pub returns-then-v-positions : goal.returns-then-v-positions
 returns-then-v-positions c =
     held c.args.positions.now c.args.v (omega (arith, c.if-v-positions.true)) c.point_in.ensures
 
-pub returns : goal.returns
-returns c =
+pub returns-else-v-positions : goal.returns-else-v-positions
+returns-else-v-positions c =
     not_held c.args.positions.now c.args.v (omega (arith, c.if-v-positions.false))
