@@ -181,12 +181,7 @@ fn set_lock(locks: &mut [u8], t: u32, on: bool)
     requires { t < length locks.old }
     ensures { locks.new ≡ set locks.old t (elim on [ true ↦ 1 | false ↦ 0 ]) }
 {
-    let slot = t as usize;
-    if on {
-        locks[slot] = 1;
-    } else {
-        locks[slot] = 0;
-    }
+    locks[t as usize] = on.into();
 }
 
 // Sets or clears the lock of triangle t of a mesh whose first refusal is known.
