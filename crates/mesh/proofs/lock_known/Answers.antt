@@ -2,13 +2,13 @@
 use Rattle.mesh.proofs.Refusing.{lock_refused, lock_carried, lock_room}
 use Rattle.mesh.proofs.lock_known.Goals as goal
 
-pub set_lock-requires : goal.set_lock-requires
-set_lock-requires c =
+pub bounds-locks-t : goal.bounds-locks-t
+bounds-locks-t c =
     lock_room c.args.on _ _ _ (c.slot_refusal-refusal.ensures _ c.requires) c.if-refusal-eq0.true
 
 pub returns-then-refusal-eq0 : goal.returns-then-refusal-eq0
 returns-then-refusal-eq0 c =
-    rw (c.set_lock.ensures, c.if-refusal-eq0.true)
+    rw (c.into.ensures, c.if-refusal-eq0.true)
     (lock_carried _ _ _ _ (c.slot_refusal-refusal.ensures _ c.requires) c.if-refusal-eq0.true)
 
 pub returns-else-refusal-eq0 : goal.returns-else-refusal-eq0
