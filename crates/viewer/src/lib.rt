@@ -23,6 +23,7 @@ pub struct ViewPoint {
 }
 
 // What is seen of a vertex: its point, or the number of the refusal.
+// Kept: the outline asks for this enum, and `Results.point_carried` names it (docs/DECISIONS.md).
 #[derive(Clone, Copy)]
 pub enum Seen {
     Point(ViewPoint),
