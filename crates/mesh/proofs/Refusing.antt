@@ -1,12 +1,5 @@
 -- The first refusal of a whole step and of a lock.
-use mathlib.Core.Bool.{Bool, not}
-use mathlib.Core.List.{[], ◌∷◌}
-use mathlib.Core.Logic.{◌≢◌}
-use mathlib.Core.Path.{◌≡◌, sym, ◌∙◌}
-use Prim.Native.Nat.{ℕ, ◌*◌, ◌<◌}
-use native.Mathlib.Omega.{arith}
-use lib.Dec.{eqb}
-use lib.ListN.{length}
+use Rattle.std.proofs.Common.{ℕ, ◌*◌, ◌<◌, arith, Bool, not, eqb, [], ◌∷◌, length, ◌≡◌, ◌≢◌, sym, ◌∙◌}
 use Rattle.theory.proofs.Calls.Carried.{lock_found}
 use Rattle.theory.proofs.Calls.FirstThatHolds.{two_kept, refuses, carries}
 use Rattle.rules.specs.Calls.{◌if◌, no_room}

@@ -1,11 +1,6 @@
 -- The ring of a vertex is found: what each test tells.
-use Prim.Native.Nat.{ℕ, ◌-◌, ◌≤◌, ◌<◌}
-use native.Mathlib.Omega.{arith}
-use mathlib.Core.Bool.{true, false}
-use mathlib.Core.List.{List}
-use mathlib.Core.Logic.{◌≢◌}
-use mathlib.Core.Path.{◌≡◌, refl, sym, ap, ◌∙◌}
-use lib.ListN.{length, get_or}
+use Rattle.std.proofs.Common.{ℕ, ◌-◌, ◌<◌, ◌≤◌, arith, true, false, List, length, get_or, ◌≡◌, ◌≢◌, refl, sym, ap}
+use Rattle.std.proofs.Common.{◌∙◌}
 use Rattle.theory.proofs.Numbers.Decide.{when_true}
 use Rattle.theory.proofs.Rings.Fans.{first_in_use}
 use Rattle.theory.proofs.Soundness.SoundTest.{sound_is}

@@ -1,13 +1,7 @@
 -- The first refusal of a call that reads, found test by test.
-use borrow.Author.Tests.{le-leb, lt-leb, lt-ltb, le-ltb}
-use mathlib.Core.Bool.{Bool, true, false, not}
-use mathlib.Core.List.{List, [], ◌∷◌}
-use mathlib.Core.Logic.{◌≢◌}
-use mathlib.Core.Path.{◌≡◌, refl, sym, ap, ◌∙◌}
-use Prim.Native.Nat.{ℕ, ◌*◌, ◌≤◌, ◌<◌}
-use lib.Dec.{eqb, leb, ltb}
-use lib.IntN.{ℤ}
-use lib.ListN.{length}
+use Rattle.std.proofs.Common.{ℕ, ◌*◌, ◌<◌, ◌≤◌, Bool, true, false, not, eqb, leb, ltb, List, [], ◌∷◌, length, ℤ, ◌≡◌}
+use Rattle.std.proofs.Common.{◌≢◌, refl, sym, ap, ◌∙◌, le-leb, lt-ltb, le-ltb}
+use borrow.Author.Tests.{lt-leb}
 use Rattle.theory.proofs.Calls.CallRefusals.{position_refusal_first}
 use Rattle.theory.proofs.Numbers.Decide.{stable}
 use Rattle.theory.proofs.Calls.FirstThatHolds.{two_kept, refuses, carries, none_hold}

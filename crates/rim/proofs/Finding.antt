@@ -1,14 +1,7 @@
 -- The rim of a vertex is found: what each test tells; and the outcome of its curve.
-use Prim.Native.Nat.{ℕ, ◌-◌, ◌*◌, ◌≤◌, ◌<◌}
-use native.Mathlib.Omega.{arith}
-use borrow.Author.Tests.{le-leb, lt-leb, lt-ltb, le-ltb}
-use mathlib.Core.Bool.{Bool, true, false, not}
-use mathlib.Core.List.{List, [], ◌∷◌}
-use mathlib.Core.Logic.{◌≢◌}
-use mathlib.Core.Path.{◌≡◌, refl, ap, ◌∙◌, subst}
-use lib.Dec.{leb, ltb}
-use lib.IntN.{ℤ}
-use lib.ListN.{length}
+use Rattle.std.proofs.Common.{ℕ, ◌-◌, ◌*◌, ◌<◌, ◌≤◌, arith, Bool, true, false, not, leb, ltb, List, [], ◌∷◌, length}
+use Rattle.std.proofs.Common.{ℤ, ◌≡◌, ◌≢◌, refl, ap, ◌∙◌, subst, le-leb, lt-ltb, le-ltb}
+use borrow.Author.Tests.{lt-leb}
 use Rattle.theory.proofs.Calls.CallRefusals.{on_rim_is}
 use Rattle.theory.proofs.Calls.FirstThatHolds.{refuses, carries}
 use Rattle.theory.proofs.Numbers.Decide.{is_same, is_true, is_false, when_true}

@@ -1,10 +1,6 @@
 -- A rim followed side by side until it closes.
-use mathlib.Core.Logic.{◌≢◌}
-use mathlib.Core.Path.{◌≡◌, refl, sym, ap, ◌∙◌}
-use Prim.Native.Nat.{ℕ, zero, suc, ◌+◌, ◌-◌, ◌≤◌, ◌<◌}
+use Rattle.std.proofs.Common.{ℕ, zero, suc, ◌+◌, ◌-◌, ◌<◌, ◌≤◌, arith, length, ◌≡◌, ◌≢◌, refl, sym, ap, ◌∙◌}
 use native.Mathlib.Decide.{dec_lt, ℕ_discrete}
-use native.Mathlib.Omega.{arith}
-use lib.ListN.{length}
 use Rattle.theory.proofs.Links.Manifold.{Manifold}
 use Rattle.theory.proofs.Rims.RimWalk.{along, only_side, side_along, rim_open, rim_closes, rim_short, rim_made}
 use Rattle.rules.specs.Rim.{rim}

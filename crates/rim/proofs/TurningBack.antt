@@ -1,12 +1,6 @@
 -- From one side of a rim to the next: back round the vertex between them.
-use mathlib.Core.Bool.{Bool, true, false, not, ◌&&◌}
-use mathlib.Core.List.{List, []}
-use mathlib.Core.Logic.{◌≢◌, inl, inr}
-use mathlib.Core.Path.{◌≡◌, refl, sym, ap, ◌∙◌, subst}
-use Prim.Native.Nat.{ℕ, zero, suc, ◌/◌, ◌≤◌, ◌<◌}
-use native.Mathlib.Omega.{arith}
-use lib.Dec.{eqb, ltb}
-use lib.ListN.{length, get_or}
+use Rattle.std.proofs.Common.{ℕ, zero, suc, ◌/◌, ◌<◌, ◌≤◌, arith, Bool, true, false, not, ◌&&◌, eqb, ltb, List, []}
+use Rattle.std.proofs.Common.{length, get_or, ◌≡◌, ◌≢◌, refl, sym, ap, ◌∙◌, subst, inl, inr}
 use Rattle.theory.proofs.Links.Manifold.{Manifold}
 use Rattle.theory.proofs.Links.Sides.{next_lt, next_previous}
 use Rattle.theory.proofs.Numbers.Decide.{Decides, is_eq}

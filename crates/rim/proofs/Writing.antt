@@ -1,11 +1,7 @@
 -- The curve of a rim, written vertex by vertex.
-use mathlib.Core.List.{List}
-use mathlib.Core.Path.{◌≡◌, refl, sym, ap, ◌∙◌}
-use Prim.Native.Nat.{ℕ, zero, suc, ◌+◌, ◌-◌, ◌*◌, ◌/◌, ◌%◌, ◌≤◌, ◌<◌}
-use native.Mathlib.Nat.{mod-eq_of_lt, add-mod_right}
-use native.Mathlib.Omega.{arith}
-use lib.IntN.{ℤ}
-use lib.ListN.{length, get_or}
+use Rattle.std.proofs.Common.{ℕ, zero, suc, ◌+◌, ◌-◌, ◌*◌, ◌/◌, ◌%◌, ◌<◌, ◌≤◌, arith, List, length, get_or, ℤ, ◌≡◌}
+use Rattle.std.proofs.Common.{refl, sym, ap, ◌∙◌, mod-eq_of_lt}
+use native.Mathlib.Nat.{add-mod_right}
 use Rattle.theory.proofs.Links.Manifold.{Manifold}
 use Rattle.theory.proofs.Numbers.Fill.{fill_three, length_fill}
 use Rattle.theory.proofs.Rims.Curve.{point_at_lem}

@@ -1,11 +1,5 @@
 -- `reading::point_of` meets its contract.
-use borrow.Author.Tests.{lt-ltb, le-ltb}
-use mathlib.Core.List.{List}
-use mathlib.Core.Path.{◌≡◌, sym, ap, ◌∙◌}
-use Prim.Native.Nat.{ℕ, ◌/◌, ◌≤◌, ◌<◌}
-use native.Mathlib.Omega.{arith}
-use lib.IntN.{ℤ, pos}
-use lib.ListN.{length}
+use Rattle.std.proofs.Common.{ℕ, ◌/◌, ◌<◌, ◌≤◌, arith, List, length, ℤ, pos, ◌≡◌, sym, ap, ◌∙◌, lt-ltb, le-ltb}
 use Rattle.points.specs.declared.Point.{Point}
 use Rattle.tables.specs.Lent.{point_in}
 use Rattle.reading.specs.Answers.{point_if, point_or_zero}

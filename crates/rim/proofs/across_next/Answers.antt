@@ -1,9 +1,5 @@
 -- `rim::across_next` meets its contract.
-use Prim.Native.Nat.{ℕ, ◌+◌, ◌-◌}
-use native.Mathlib.Omega.{arith}
-use mathlib.Core.List.{List}
-use mathlib.Core.Path.{◌≡◌, ap}
-use lib.ListN.{get_or}
+use Rattle.std.proofs.Common.{ℕ, ◌+◌, ◌-◌, arith, List, get_or, ◌≡◌, ap}
 use Rattle.rules.specs.Tables.{next}
 use Rattle.rim.proofs.across_next.Goals as goal
 

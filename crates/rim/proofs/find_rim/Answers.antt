@@ -1,5 +1,5 @@
 -- `rim::find_rim` meets its contract: each test tells a refusal, or what the next ones need.
-use Rattle.std.proofs.Common.{sym, ◌∙◌, arith}
+use Rattle.std.proofs.Common.{arith, sym, ◌∙◌}
 use Rattle.rim.proofs.Finding.{finds_one, finds_seven, finds_eight, first_read, finds_twenty_four, first_on_rim}
 use Rattle.rim.proofs.Finding.{few_on_rim, finds_twenty_five, finds}
 use Rattle.rim.proofs.find_rim.Goals as goal

@@ -1,5 +1,5 @@
 -- `rim::onward` meets its contract: it turns back about the vertex until it is at the boundary.
-use Rattle.std.proofs.Common.{sym, ◌∙◌, arith}
+use Rattle.std.proofs.Common.{arith, sym, ◌∙◌}
 use Rattle.rim.proofs.TurningBack.{begins, side_small, at_read, across_small, sought_at_boundary, at_before}
 use Rattle.rim.proofs.TurningBack.{turns_to_place}
 use Rattle.rim.proofs.onward.Goals as goal

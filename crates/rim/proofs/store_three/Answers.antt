@@ -1,5 +1,5 @@
 -- `rim::store_three` meets its contract.
-use mathlib.Core.Path.{refl}
+use Rattle.std.proofs.Common.{refl}
 use Rattle.rim.proofs.store_three.Goals as goal
 
 pub returns : goal.returns

@@ -1,5 +1,5 @@
 -- `rim::write_curve` meets its contract: each vertex meets what the ones before left of the table.
-use Rattle.std.proofs.Common.{◌≡◌, refl, sym, ◌∙◌, arith}
+use Rattle.std.proofs.Common.{arith, ◌≡◌, refl, sym, ◌∙◌}
 use Rattle.rim.proofs.Writing.{readable, last_on_rim, few, writing_begins, writing_on_rim}
 use Rattle.rim.proofs.Writing.{next_readable, writing_on}
 use Rattle.rim.proofs.write_curve.Goals as goal

@@ -1,6 +1,5 @@
 -- `viewer::store` meets its contract.
-use lib.ListN.{length-set}
-use native.Mathlib.Omega.{arith}
+use Rattle.std.proofs.Common.{arith, length-set}
 use Rattle.viewer.proofs.store.Goals as goal
 
 pub bounds-table-first-2 : goal.bounds-table-first-2

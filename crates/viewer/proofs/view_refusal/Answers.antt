@@ -1,5 +1,5 @@
 -- `viewer::view_refusal` meets its contract.
-use borrow.Author.Tests.{lt-ltb, le-ltb}
+use Rattle.std.proofs.Common.{lt-ltb, le-ltb}
 use Rattle.theory.proofs.Calls.FirstThatHolds.{third_kept, third_holds, third_none}
 use Rattle.rules.specs.Calls.{view_refusal}
 use Rattle.viewer.proofs.view_refusal.Goals as goal

@@ -1,12 +1,6 @@
 -- `viewer::write_corners` meets its contract.
-use Prim.Native.Nat.{ℕ, ◌+◌, ◌*◌, ◌/◌, ◌%◌, ◌<◌}
-use native.Mathlib.Omega.{arith}
-use mathlib.Core.List.{List}
-use mathlib.Core.Path.{◌≡◌, refl, sym, ap, ◌∙◌, subst}
-use lib.Ieee.{Float}
-use lib.IntN.{ℤ, pos}
-use lib.ListN.{length, get_or}
-use borrow.Author.Tests.{lt-ltb}
+use Rattle.std.proofs.Common.{ℕ, ◌+◌, ◌*◌, ◌/◌, ◌%◌, ◌<◌, arith, List, length, get_or, ℤ, pos, ◌≡◌, refl, sym, ap}
+use Rattle.std.proofs.Common.{◌∙◌, subst, Float, lt-ltb}
 use Rattle.points.specs.declared.Point.{Point}
 use Rattle.theory.proofs.Numbers.Fill.{fill_three}
 use Rattle.rules.specs.Below.{fill}

@@ -1,5 +1,5 @@
 -- The corners before h are written.
-use Rattle.std.proofs.Common.{◌≡◌, ◌*◌, length}
+use Rattle.std.proofs.Common.{◌*◌, length, ◌≡◌}
 use Rattle.rules.specs.Below.{fill}
 use Rattle.viewer.specs.View.{entry_of}
 use Rattle.viewer.proofs.write_corners.Given as goal
