@@ -1,7 +1,7 @@
 -- `rim::find_rim` meets its contract: each test tells a refusal, or what the next ones need.
-use Rattle.std.proofs.Common.{arith, sym, ◌∙◌}
+use Rattle.std.proofs.Common.{sym, ◌∙◌}
 use Rattle.rim.proofs.Finding.{finds_one, finds_seven, finds_eight, first_read, finds_twenty_four, first_on_rim}
-use Rattle.rim.proofs.Finding.{few_on_rim, finds_twenty_five, finds}
+use Rattle.rim.proofs.Finding.{finds_twenty_five, finds}
 use Rattle.rim.proofs.find_rim.Goals as goal
 
 pub returns-then-not-tables_agree : goal.returns-then-not-tables_agree
@@ -38,12 +38,6 @@ trace_rim-trace-requires c = (
       c.if-start-eq0.false c.if-counts-v.false c.if-links-first.false,
 )
 
-pub overflow_mul-trace : goal.overflow_mul-trace
-overflow_mul-trace c =
-    let few =
-    few_on_rim c.args.v c.args.room _ (sym (c.tables_agree.ensures _ _ _) ∙ c.if-not-tables_agree.false) c.sound_start-start.ensures
-    c.if-start-eq0.false c.if-counts-v.false c.if-links-first.false (c.trace_rim-trace.ensures _ _ _ _) in
-    omega arith
 
 pub returns-then-room-trace : goal.returns-then-room-trace
 returns-then-room-trace c =

@@ -1,6 +1,6 @@
 -- `rim::onward` meets its contract: it turns back about the vertex until it is at the boundary.
 use Rattle.std.proofs.Common.{arith, sym, ◌∙◌}
-use Rattle.rim.proofs.TurningBack.{begins, side_small, at_read, across_small, sought_at_boundary, at_before}
+use Rattle.rim.proofs.TurningBack.{begins, side_small, at_read, sought_at_boundary, at_before}
 use Rattle.rim.proofs.TurningBack.{turns_to_place}
 use Rattle.rim.proofs.onward.Goals as goal
 
@@ -13,13 +13,6 @@ across_next-across-requires c =
     let A = (c.loop-across.invariant v f p g R).1 in
     (at_read _ R A, side_small _ R A)
 
-pub overflow_cast-k : goal.overflow_cast-k
-overflow_cast-k c =
-    let (v, f, p, g, R) = c.requires in
-    let small =
-    across_small _ R (c.loop-across.invariant v f p g R).1
-    (λ e. c.if-across.false (c.across_next-across.ensures ∙ e)) in
-    omega (arith, c.across_next-across.ensures)
 
 pub loop-across-smaller : goal.loop-across-smaller
 loop-across-smaller c =
@@ -34,10 +27,6 @@ loop-across-preserved c v f p g R =
     let (j, e, B) = at_before _ R i A (λ e. c.if-across.false (c.across_next-across.ensures ∙ e)) in
     rw c.across_next-across.ensures (j, B)
 
-pub next-requires : goal.next-requires
-next-requires c =
-    let (v, f, p, g, R) = c.requires in
-    side_small _ R (c.loop-across.invariant v f p g R).1
 
 pub returns : goal.returns
 returns c v f p g R =

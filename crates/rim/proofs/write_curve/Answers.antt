@@ -1,5 +1,5 @@
 -- `rim::write_curve` meets its contract: each vertex meets what the ones before left of the table.
-use Rattle.std.proofs.Common.{arith, ◌≡◌, refl, sym, ◌∙◌}
+use Rattle.std.proofs.Common.{arith, refl, ◌∙◌}
 use Rattle.rim.proofs.Writing.{readable, last_on_rim, few, writing_begins, writing_on_rim}
 use Rattle.rim.proofs.Writing.{next_readable, writing_on}
 use Rattle.rim.proofs.write_curve.Goals as goal
@@ -13,14 +13,8 @@ bounds-corners-last c = let (n, g, k, W) = c.requires.1 in (readable _ W (last_o
 pub point_in-before-requires : goal.point_in-before-requires
 point_in-before-requires c = let (n, g, k, W) = c.requires.1 in (readable _ W (last_on_rim _ W)).2
 
-pub offset_bounds-corners-first : goal.offset_bounds-corners-first
-offset_bounds-corners-first c = let (n, g, k, W) = c.requires.1 in omega (arith, (readable _ W W.on_rim).0)
 
-pub bounds-corners-first : goal.bounds-corners-first
-bounds-corners-first c = let (n, g, k, W) = c.requires.1 in (readable _ W W.on_rim).1
 
-pub point_in-this-requires : goal.point_in-this-requires
-point_in-this-requires c = let (n, g, k, W) = c.requires.1 in (readable _ W W.on_rim).2
 
 pub loop-j-init : goal.loop-j-init
 loop-j-init c = record {
@@ -64,8 +58,3 @@ loop-j-preserved c = record {
       writing_on _ W (c.loop-j.invariant.written n g k W) (c.onward-h.ensures _ _ _ g) c.loop-j-test.true
       c.point_in-after.ensures c.store_three.ensures;
 }
-
-pub returns : goal.returns
-returns c n g k W =
-    let e : c.loop-j.j ≡ c.args.trace.length = omega (arith, c.loop-j-test.false) in
-    rw (sym e) (c.loop-j.invariant.written n g k W).table

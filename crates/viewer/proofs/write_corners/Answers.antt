@@ -1,6 +1,6 @@
 -- `viewer::write_corners` meets its contract.
-use Rattle.std.proofs.Common.{ℕ, ◌+◌, ◌*◌, ◌/◌, ◌%◌, ◌<◌, arith, List, length, get_or, ℤ, pos, ◌≡◌, refl, sym, ap}
-use Rattle.std.proofs.Common.{◌∙◌, subst, Float, lt-ltb}
+use Rattle.std.proofs.Common.{ℕ, ◌+◌, ◌*◌, ◌/◌, ◌%◌, ◌<◌, arith, List, length, get_or, ℤ, pos, ◌≡◌, refl, ap}
+use Rattle.std.proofs.Common.{◌∙◌, Float, lt-ltb}
 use Rattle.points.specs.declared.Point.{Point}
 use Rattle.theory.proofs.Numbers.Fill.{fill_three}
 use Rattle.rules.specs.Below.{fill}
@@ -8,7 +8,7 @@ use Rattle.rules.specs.Tables.{put_three}
 use Rattle.reading.specs.Answers.{point_if, point_or_zero}
 use Rattle.tables.specs.Lent.{point_in}
 use Rattle.viewer.specs.declared.ViewPoint.{ViewPoint}
-use Rattle.viewer.specs.View.{millimetres, in_millimetres, entry_of, PointInRange}
+use Rattle.viewer.specs.View.{millimetres, in_millimetres, entry_of}
 use Rattle.viewer.proofs.write_corners.Goals as goal
 
 in_table : (table : List ℤ) (v : ℕ) → v < length table / 3 → point_or_zero table v ≡ point_in table v
@@ -37,14 +37,7 @@ pub loop-h-init : goal.loop-h-init
 unfolding fill
 loop-h-init c = record { size = refl; written = refl }
 
-pub view_point-requires : goal.view_point-requires
-view_point-requires c =
-    let e =
-    c.point_of-p.ensures ∙ in_table c.args.positions.now _ (c.requires.0.vertex c.loop-h.h c.loop-h-test.true) in
-    subst PointInRange (sym e) (c.requires.0.in_range c.loop-h.h c.loop-h-test.true)
 
-pub store-requires : goal.store-requires
-store-requires c = omega (arith, c.requires.1, c.loop-h.invariant.size)
 
 pub loop-h-preserved : goal.loop-h-preserved
 loop-h-preserved c = record {
@@ -54,8 +47,3 @@ loop-h-preserved c = record {
       (c.point_of-p.ensures ∙ in_table _ _ (c.requires.0.vertex c.loop-h.h c.loop-h-test.true))
       c.view_point.ensures c.store.ensures;
 }
-
-pub returns : goal.returns
-returns c =
-    let e : c.loop-h.h ≡ c.args.count = omega arith in
-    rw e at c.loop-h.invariant.written
