@@ -3,7 +3,7 @@
 // written.
 #![tactic(auto)]
 
-ghost use Rattle.std.specs.Prelude.{true, false, ◌≡◌, ◌<◌, length, set};
+ghost use Rattle.std.specs.Prelude.{◌≡◌};
 ghost use Rattle.rules.specs.Calls.{load_call, refine_call, whole_step_call, lock_call};
 ghost use Rattle.rules.specs.Notes.{noted_call, take_back_call};
 ghost use Rattle.tables.specs.Answers.{worked_outcome};
@@ -176,19 +176,6 @@ pub fn whole_step(
     whole_step_known(positions, corners, links, generations, locks, counts, bad)
 }
 
-// The lock of slot t set, or cleared.
-fn set_lock(locks: &mut [u8], t: u32, on: bool)
-    requires { t < length locks.old }
-    ensures { locks.new ≡ set locks.old t (elim on [ true ↦ 1 | false ↦ 0 ]) }
-{
-    let slot = t as usize;
-    if on {
-        locks[slot] = 1;
-    } else {
-        locks[slot] = 0;
-    }
-}
-
 // Sets or clears the lock of triangle t of a mesh whose first refusal is known.
 pub fn lock_known(
     positions: &[i32],
@@ -210,7 +197,7 @@ pub fn lock_known(
 {
     let refusal = soundness::slot_refusal(counts.triangles, t, bad);
     if refusal == 0 {
-        set_lock(locks, t, on);
+        locks[t as usize] = on.into();
     }
     Worked {
         refusal,

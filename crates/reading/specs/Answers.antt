@@ -9,6 +9,8 @@ use Rattle.tables.specs.Answers.{table_outcome}
 use Rattle.tables.specs.Lent.{mesh_now, point_in}
 use Rattle.reading.specs.declared.FoundRing.{FoundRing}
 use Rattle.reading.specs.declared.LimitRead.{LimitRead}
+use Rattle.reading.specs.declared.Refusal.{Refusal}
+use Rattle.reading.specs.declared.Refusal.TheVariants.{Tables, Unsound, NotInUse, BufferTooShort}
 use Rattle.reading.specs.declared.RingRead.{RingRead}
 use Rattle.reading.specs.declared.PositionRead.{PositionRead}
 
@@ -23,9 +25,16 @@ ring_outcome a positions corners links generations locks buffer =
     let m = mesh_now a.counts positions corners links generations locks in
     outcome_of (answer_of a.refusal 0 0 a.length zero_point m) m (buffer_room buffer)
 
--- A ring that is refused.
-abbrev pub no_ring : ℕ → FoundRing
-no_ring n = record { refusal = n; first = 0; length = 0 }
+-- The number of a refusal.
+abbrev pub number_of : Refusal → ℕ
+number_of Tables = 1
+number_of Unsound = 7
+number_of NotInUse = 8
+number_of BufferTooShort = 14
+
+-- A ring of v into a buffer with this room is refused with n, or 0 for none.
+pub record Refused (v room n : ℕ) (m : Mesh) : Type 0 where
+  pub first : (buffer : List ℕ) → length buffer ≡ room → n ≡ ring_refusal v buffer m
 
 -- A ring that can be written to a buffer with this room: the walk from its first side gives the ring of v.
 pub record Found (v room : ℕ) (m : Mesh) (a : FoundRing) : Type 0 where
@@ -34,11 +43,7 @@ pub record Found (v room : ℕ) (m : Mesh) (a : FoundRing) : Type 0 where
   pub same : ring m.topology v ≡ ring_from m.topology a.first
   pub entries : a.length ≡ length (ring m.topology v)
   pub fits : length (ring m.topology v) ≤ room
-
--- Its refusal for such a buffer, or the ring where there is none.
-pub record FoundFor (v room : ℕ) (m : Mesh) (a : FoundRing) : Type 0 where
-  pub refused : (buffer : List ℕ) → length buffer ≡ room → a.refusal ≡ ring_refusal v buffer m
-  pub found : a.refusal ≡ 0 → Found v room m a
+  pub accepted : Refused v room 0 m
 
 -- The outcome of a call that reads a position.
 abbrev pub position_outcome : PositionRead → List ℤ → List ℕ → List ℕ → List ℕ → List ℕ → Outcome

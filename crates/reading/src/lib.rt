@@ -1,16 +1,17 @@
 // The calls that read a mesh: limit positions, a ring, a position.
 #![tactic(auto)]
 
-ghost use Rattle.std.specs.Prelude.{◌≡◌};
+ghost use Rattle.std.specs.Prelude.{◌≡◌, MatchResult};
 ghost use Rattle.rules.specs.Calls.{limit_call, ring_call, position_call};
 ghost use Rattle.tables.specs.Lent.{mesh_now};
-ghost use Rattle.reading.specs.Answers.{limit_outcome, no_ring, FoundFor, ring_outcome, position_outcome};
+ghost use Rattle.reading.specs.Answers.{limit_outcome, number_of, Refused, Found, ring_outcome, position_outcome};
 ghost use Rattle.reading.specs.Answers.{point_or_zero};
 
 use points::Point;
 use tables::Counts;
 
 // The answer of ring.
+// Kept: the C interface answers a number, 0 for none.
 #[repr(C)]
 #[derive(Clone, Copy)]
 pub struct RingRead {
@@ -20,6 +21,7 @@ pub struct RingRead {
 }
 
 // The answer of position.
+// Kept: the C interface answers a number, 0 for none.
 #[repr(C)]
 #[derive(Clone, Copy)]
 pub struct PositionRead {
@@ -29,6 +31,7 @@ pub struct PositionRead {
 }
 
 // The answer of limit.
+// Kept: the C interface answers a number, 0 for none.
 #[repr(C)]
 #[derive(Clone, Copy)]
 pub struct LimitRead {
@@ -42,9 +45,10 @@ pub fn point_of(positions: &[i32], v: u32) -> Point
     ensures { result ≡ point_or_zero positions.now v }
 {
     if 3 * (v as usize) + 2 < positions.len() {
-        return tables::point_in(positions, v);
+        tables::point_in(positions, v)
+    } else {
+        Point { x: 0, y: 0, z: 0 }
     }
-    Point { x: 0, y: 0, z: 0 }
 }
 
 // Writes the limit position of each vertex into the table.
@@ -73,23 +77,28 @@ pub fn limit(
     LimitRead { refusal, counts }
 }
 
-// What is known of a ring before it is written: its refusal, or 0 with the side where it starts and its length.
+// What refuses a ring, by its number.
 #[derive(Clone, Copy)]
-struct FoundRing {
-    refusal: u32,
-    first: u32,
-    length: u32,
+enum Refusal {
+    Tables = 1,
+    Unsound = 7,
+    NotInUse = 8,
+    BufferTooShort = 14,
 }
 
-// A ring that is refused.
-fn no_ring(refusal: u32) -> FoundRing
-    ensures { result ≡ no_ring refusal }
-{
-    FoundRing {
-        refusal,
-        first: 0,
-        length: 0,
+impl From<Refusal> for u32 {
+    ghost from_gives = { λ why n. n ≡ number_of why };
+
+    fn from(why: Refusal) -> u32 {
+        why as u32
     }
+}
+
+// What is known of a ring before it is written: the side where it starts and its length.
+#[derive(Clone, Copy)]
+struct FoundRing {
+    first: u32,
+    length: u32,
 }
 
 // Finds the ring of vertex v for a buffer of so many entries.
@@ -102,12 +111,13 @@ fn find_ring(
     counts: Counts,
     v: u32,
     room: usize,
-) -> FoundRing
-    ensures { FoundFor v room (mesh_now counts positions.now corners.now
-        links.now generations.now locks.now) result }
+) -> Result<FoundRing, Refusal>
+    ensures { let m = mesh_now counts positions.now corners.now links.now
+        generations.now locks.now in
+        MatchResult result (λ ring. Found v room m ring) (λ why. Refused v room (number_of why) m) }
 {
     if !soundness::tables_agree(positions, corners, links, generations, locks) {
-        return no_ring(1);
+        return Err(Refusal::Tables);
     }
     let start = soundness::sound_start(
         positions,
@@ -121,21 +131,17 @@ fn find_ring(
         v,
     );
     if start == 0 {
-        return no_ring(7);
+        return Err(Refusal::Unsound);
     }
     if counts.vertices <= v {
-        return no_ring(8);
+        return Err(Refusal::NotInUse);
     }
     let first = start - 1;
     let length = rings::ring_length(links, counts.triangles, first);
     if room < length as usize {
-        return no_ring(14);
+        return Err(Refusal::BufferTooShort);
     }
-    FoundRing {
-        refusal: 0,
-        first,
-        length,
-    }
+    Ok(FoundRing { first, length })
 }
 
 // Reads the ring of vertex v into the front of the buffer.
@@ -154,7 +160,7 @@ pub fn ring(
         ≡ ring_call v buffer.old (mesh_now counts positions.now corners.now
         links.now generations.now locks.now) }
 {
-    let found = find_ring(
+    match find_ring(
         positions,
         corners,
         links,
@@ -163,19 +169,20 @@ pub fn ring(
         counts,
         v,
         buffer.len(),
-    );
-    if found.refusal != 0 {
-        return RingRead {
-            refusal: found.refusal,
+    ) {
+        Ok(found) => {
+            rings::write_ring(corners, links, counts.triangles, found.first, buffer);
+            RingRead {
+                refusal: 0,
+                length: found.length,
+                counts,
+            }
+        }
+        Err(why) => RingRead {
+            refusal: why.into(),
             length: 0,
             counts,
-        };
-    }
-    rings::write_ring(corners, links, counts.triangles, found.first, buffer);
-    RingRead {
-        refusal: 0,
-        length: found.length,
-        counts,
+        },
     }
 }
 

@@ -1,14 +1,14 @@
 // The rim from one of its vertices on, and its curve: three points for each vertex.
 #![tactic(auto)]
 
-ghost use Rattle.std.specs.Prelude.{List, ◌≡◌, ℕ, ◌+◌, ◌*◌, ◌≤◌, ◌<◌, length, get_or};
+ghost use Rattle.std.specs.Prelude.{List, ◌≡◌, ℕ, ◌+◌, ◌*◌, ◌≤◌, ◌<◌, MatchResult, length, get_or};
 ghost use Rattle.rules.specs.Below.{fill};
 ghost use Rattle.rules.specs.Rim.{rim, curve_at, curve_call};
 ghost use Rattle.rules.specs.Ring.{first_side};
 ghost use Rattle.rules.specs.Tables.{next, origin, target, topology_of};
 ghost use Rattle.tables.specs.Lent.{mesh_now};
 ghost use Rattle.tables.specs.declared.Counts.{Counts};
-ghost use Rattle.rim.specs.Traced.{OnRimSide, Closes, Traced, three_points, no_rim, FoundFor, curve_outcome};
+ghost use Rattle.rim.specs.Traced.{OnRimSide, Closes, Traced, three_points, number_of, Refused, Found, curve_outcome};
 
 use points::Point;
 use tables::sides::next;
@@ -23,17 +23,34 @@ pub struct RimRead {
     pub counts: Counts,
 }
 
+// What refuses a curve, by its number.
+#[derive(Clone, Copy)]
+enum Refusal {
+    Tables = 1,
+    Unsound = 7,
+    NotInUse = 8,
+    NotOnRim = 24,
+    TableTooShort = 25,
+}
+
+impl From<Refusal> for u32 {
+    ghost from_gives = { λ why n. n ≡ number_of why };
+
+    fn from(why: Refusal) -> u32 {
+        why as u32
+    }
+}
+
 // A rim from one of its sides on: how many vertices it has, and its side back to the first.
 #[derive(Clone, Copy)]
 struct Trace {
-    length: usize,
+    length: u32,
     last: usize,
 }
 
-// What is known of a rim before its curve is written: its refusal, or 0 with its first side and where it closes.
+// What is known of a rim before its curve is written: its first side and where it closes.
 #[derive(Clone, Copy)]
 struct FoundRim {
-    refusal: u32,
     first: usize,
     trace: Trace,
 }
@@ -75,17 +92,17 @@ fn trace_rim(links: &[u32], first: usize) -> Trace
         let m = topology_of v f c links.now g in
         OnRimSide m first → Closes m first result }
 {
-    let mut n: usize = 1;
+    let mut n: u32 = 1;
     let mut h = first;
-    let trace = loop {
+    // Kept: no plainer: the walk has no end that is known before it comes back.
+    loop {
         let k = onward(links, h);
         if k == first {
-            break Trace { length: n, last: h };
+            return Trace { length: n, last: h };
         }
         n += 1;
         h = k;
-    };
-    trace
+    }
 }
 
 // Stores the three points of a vertex at b, where the one before is at a and the one after at c, from slot i of the
@@ -119,25 +136,12 @@ fn write_curve(
     let mut before = tables::point_in(positions, corners[last]);
     let mut this = tables::point_in(positions, corners[first]);
     let mut h = first;
-    let mut j: u32 = 0;
-    while (j as usize) < trace.length {
+    for j in 0..trace.length {
         h = onward(links, h);
         let after = tables::point_in(positions, corners[h]);
         store_three(table, 3 * j, before, this, after);
         before = this;
         this = after;
-        j += 1;
-    }
-}
-
-// A rim that is refused.
-fn no_rim(refusal: u32) -> FoundRim
-    ensures { result ≡ no_rim refusal }
-{
-    FoundRim {
-        refusal,
-        first: 0,
-        trace: Trace { length: 0, last: 0 },
     }
 }
 
@@ -151,12 +155,13 @@ fn find_rim(
     counts: Counts,
     v: u32,
     room: usize,
-) -> FoundRim
-    ensures { FoundFor v room (mesh_now counts positions.now corners.now
-        links.now generations.now locks.now) result }
+) -> Result<FoundRim, Refusal>
+    ensures { let m = mesh_now counts positions.now corners.now links.now
+        generations.now locks.now in
+        MatchResult result (λ rim. Found v room m rim) (λ why. Refused v room (number_of why) m) }
 {
     if !soundness::tables_agree(positions, corners, links, generations, locks) {
-        return no_rim(1);
+        return Err(Refusal::Tables);
     }
     let start = soundness::sound_start(
         positions,
@@ -170,24 +175,20 @@ fn find_rim(
         v,
     );
     if start == 0 {
-        return no_rim(7);
+        return Err(Refusal::Unsound);
     }
     if counts.vertices <= v {
-        return no_rim(8);
+        return Err(Refusal::NotInUse);
     }
     let first = start as usize - 1;
     if links[first] != BOUNDARY {
-        return no_rim(24);
+        return Err(Refusal::NotOnRim);
     }
     let trace = trace_rim(links, first);
-    if room < 9 * trace.length {
-        return no_rim(25);
+    if room < 9 * (trace.length as usize) {
+        return Err(Refusal::TableTooShort);
     }
-    FoundRim {
-        refusal: 0,
-        first,
-        trace,
-    }
+    Ok(FoundRim { first, trace })
 }
 
 // Writes the curve of the rim of vertex v, from v on, to the front of the table.
@@ -206,7 +207,7 @@ pub fn curve(
         ≡ curve_call v table.old (mesh_now counts positions.now corners.now
         links.now generations.now locks.now) }
 {
-    let found = find_rim(
+    match find_rim(
         positions,
         corners,
         links,
@@ -215,19 +216,19 @@ pub fn curve(
         counts,
         v,
         table.len(),
-    );
-    if found.refusal != 0 {
-        return RimRead {
-            refusal: found.refusal,
+    ) {
+        Ok(rim) => {
+            write_curve(positions, corners, links, rim.first, rim.trace, table);
+            RimRead {
+                refusal: 0,
+                length: rim.trace.length,
+                counts,
+            }
+        }
+        Err(why) => RimRead {
+            refusal: why.into(),
             length: 0,
             counts,
-        };
-    }
-    let rim = found.trace;
-    write_curve(positions, corners, links, found.first, rim, table);
-    RimRead {
-        refusal: 0,
-        length: rim.length as u32,
-        counts,
+        },
     }
 }

@@ -23,6 +23,7 @@ pub struct ViewPoint {
 }
 
 // What is seen of a vertex: its point, or the number of the refusal.
+// Kept: the outline asks for this enum, and `Results.point_carried` names it (docs/DECISIONS.md).
 #[derive(Clone, Copy)]
 pub enum Seen {
     Point(ViewPoint),
@@ -30,6 +31,7 @@ pub enum Seen {
 }
 
 // The answer for all triangles.
+// Kept: the C interface answers a number, 0 for none.
 #[repr(C)]
 #[derive(Clone, Copy)]
 pub struct Shown {
@@ -46,6 +48,7 @@ fn millimetres(x: i32) -> f32
 }
 
 // A point in range in millimetres.
+// Kept: no plainer: a From may not ask for the range, in which alone the cast is exact.
 fn view_point(p: Point) -> ViewPoint
     requires { PointInRange p }
     ensures { result ≡ in_millimetres (p.x, p.y, p.z) }
@@ -97,15 +100,14 @@ fn write_corners(positions: &[i32], corners: &[u32], count: u32, table: &mut [f3
     ensures { table.new
         ≡ fill (3 * count) (entry_of positions.now corners.now) table.old }
 {
-    let mut h: u32 = 0;
-    while h < count {
+    for h in 0..count {
         let p = reading::point_of(positions, corners[h as usize]);
         store(table, h, view_point(p));
-        h += 1;
     }
 }
 
 // The refusal of all triangles into a table of so many numbers, or 0.
+// Kept: the C interface answers this number, and nothing comes with it.
 fn view_refusal(
     positions: &[i32],
     corners: &[u32],

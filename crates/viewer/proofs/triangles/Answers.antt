@@ -1,5 +1,5 @@
 -- `viewer::triangles` meets its contract.
-use native.Mathlib.Omega.{arith}
+use Rattle.std.proofs.Common.{arith}
 use Rattle.viewer.proofs.Viewing.{view_answered, view_kept, view_fits, view_corners, view_shown}
 use Rattle.viewer.proofs.triangles.Goals as goal
 
