@@ -55,9 +55,9 @@ movable {m} {w = w} F R e =
 
 pub move_all-requires : goal.move_all-requires
 move_all-requires c =
-    (_, movable c.requires.0 c.requires.1 c.split_all.ensures)
+    (_, movable c.requires.0 c.requires.1 c.split_all.ensures.split)
 
-pub returns : goal.returns
-returns c =
-    whole_step_steps _ c.requires.0 _ _ c.split_all.ensures
-    (c.move_all.ensures _ (movable c.requires.0 c.requires.1 c.split_all.ensures))
+pub returns-clause-stepped : goal.returns-clause-stepped
+returns-clause-stepped c =
+    whole_step_steps _ c.requires.0 _ _ c.split_all.ensures.split
+    (c.move_all.ensures _ (movable c.requires.0 c.requires.1 c.split_all.ensures.split))

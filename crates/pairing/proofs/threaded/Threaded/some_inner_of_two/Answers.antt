@@ -1,4 +1,4 @@
--- `pairing::fans::some_inner_of_two` meets its contract.
+-- `pairing::threaded::Threaded::some_inner_of_two` meets its contract.
 use borrow.Author.Rules.{rules}
 use native.Mathlib.Omega.{arith}
 use mathlib.Core.Bool.{Bool, true, false}
@@ -13,7 +13,7 @@ use Rattle.std.proofs.lemmas.List.FromFn.{length-range_with_len, get_or-range_wi
 use Rattle.theory.proofs.Numbers.Decide.{Decides, is_true, is_false, when_true, when_false}
 use Rattle.rules.specs.Conditions.{InnerOfTwo}
 use Rattle.rules.specs.Tables.{topology_of}
-use Rattle.pairing.proofs.fans.some_inner_of_two.Goals as goal
+use Rattle.pairing.proofs.threaded.Threaded.some_inner_of_two.Goals as goal
 
 -- What a search among the numbers below n says.
 decided : (P : ℕ → Type 0) (n : ℕ) (r : Bool)
@@ -31,8 +31,8 @@ decided P n false h =
 
 pub returns : goal.returns
 returns c =
-    let two : ℕ → Type 0 = InnerOfTwo (topology_of c.args.vertices c.args.triangles c.args.corners.now c.args.links.now []) in
-    decided two c.args.vertices _
+    let two : ℕ → Type 0 = InnerOfTwo (topology_of c.args.self.now.vertices c.args.self.now.triangles c.args.self.now.corners.now c.args.links.now []) in
+    decided two c.args.self.now.vertices _
     (cases_from_any _ _ _ two (λ v. ¬ two v) c.any.ensures.ran
-    (YieldsList-from_range 0 c.args.vertices c.args.vertices refl (omega arith))
+    (YieldsList-from_range 0 c.args.self.now.vertices c.args.self.now.vertices refl (omega arith))
     (λ v q k. search (rules, when_true)) (λ v q k. search (rules, when_false)))
