@@ -28,7 +28,9 @@ use Rattle.making.specs.Making.{Makes}
 use Rattle.std.proofs.Common.{Result, Ok, Err, IfOk}
 use Rattle.journal.specs.Stops.{IsRecord, ReadsRecord}
 use Rattle.journal.specs.declared.stops.Record.{Record}
+use Rattle.journal.specs.Kinds.{stop_number}
 use Rattle.journal.specs.declared.stops.Stop.{Stop}
+use Rattle.journal.specs.declared.stops.Stop.TheVariants.{End, Torn, Checksum, NoKind, Refused, Slots, Numbers}
 use Rattle.redoing.specs.Replaying.{stop_of, refusal_of, replay_told, Ready, MakesNext, stays, goes}
 use Rattle.journal.specs.Recording.{StopsWith, no_record, too_many, refuses, LentAlike}
 use Rattle.journal.specs.Replay.{call_of, numbers_of, Lent, Replay, stopped, one_more, replay_first, started_at}
@@ -51,6 +53,22 @@ stops_some : {lent : Lent} {bytes : List ℕ} {m : Mesh} {n k : ℕ} → StopsWi
 stops_some (no_record x) e = x e
 stops_some (too_many z l) e = omega arith
 stops_some (refuses z l x) e = omega arith
+
+stop_nonzero : (s : Stop) → stop_number s ≢ 0
+stop_nonzero End e = omega arith
+stop_nonzero Torn e = omega arith
+stop_nonzero Checksum e = omega arith
+stop_nonzero NoKind e = omega arith
+stop_nonzero (Refused n) e = omega arith
+stop_nonzero Slots e = omega arith
+stop_nonzero Numbers e = omega arith
+
+-- A replay that has a reason to stop is told with its number.
+pub stop_told : {x : Result Record Stop} {s : Stop} → x ≡ Err s → stop_of x ≢ 0
+stop_told {s = s} e = rw e (stop_nonzero s)
+
+pub none_told : {x : Result Record Stop} {r : Record} → x ≡ Ok r → stop_of x ≡ 0
+none_told e = rw e refl
 
 -- ---- what is carried out leaves a sound mesh
 
@@ -276,13 +294,13 @@ reached_on L R z s n (goes a b e f l c g) = goes_further L R s n z a b e f l c g
 
 -- It comes nearer to the end, or stops.
 pub comes_nearer : {lent : Lent} {bytes : List ℕ} {r : Replayed} {m : Mesh} {s : Replayed} {n : Mesh}
-    → MakesNext lent bytes r m s n → r.stop ≡ 0 → s.end ≤ length bytes
+    → Ready bytes r → r.stop ≡ 0 → MakesNext lent bytes r m s n
     → length bytes - s.end + (1 - s.stop) < length bytes - r.end + (1 - r.stop)
-comes_nearer {s = s} (stays a b x e) z l =
+comes_nearer {s = s} R z (stays a b x e) =
     let y : s.stop ≢ 0 = stops_some x in
     let i = nonzero s.stop y in
     omega arith
-comes_nearer (goes a b e f k c g) z l = omega arith
+comes_nearer R z (goes a b e f k c g) = let l = room R in omega arith
 
 pub ends : {lent : Lent} {bytes : List ℕ} {m : Mesh} {r : Replayed} {n : Mesh} {bad : ℕ}
     → Reached lent bytes m r n bad → r.stop ≢ 0 → replay_told r n ≡ replay_first (length bytes) lent bytes m
