@@ -26,9 +26,9 @@ use Rattle.journal.specs.Journal.{Entry, loaded, refined, stepped, refined_each,
 use Rattle.journal.specs.Journal.{stop_at, size_at, kind_at, body_at, record_length, is_kind, entry_of, entry_at}
 use Rattle.making.specs.Making.{Makes}
 use Rattle.std.proofs.Common.{Result, Ok, Err, IfOk}
-use Rattle.journal.specs.Stops.{IsRecord, ReadsRecord}
+use Rattle.journal.specs.Stops.{IsRecord, ReadsRecord, StopsAt}
 use Rattle.journal.specs.declared.stops.Record.{Record}
-use Rattle.journal.specs.Kinds.{stop_number}
+use Rattle.journal.specs.Kinds.{stop_number, stop_refusal}
 use Rattle.journal.specs.declared.stops.Stop.{Stop}
 use Rattle.journal.specs.declared.stops.Stop.TheVariants.{End, Torn, Checksum, NoKind, Refused, Slots, Numbers}
 use Rattle.redoing.specs.Replaying.{stop_of, refusal_of, replay_told, Ready, MakesNext, stays, goes}
@@ -323,15 +323,16 @@ ends_below lent bytes start limit m r n b l f =
     let e = ap (λ (x : Replay). x.end) g in
     omega (arith, length-drop start bytes)
 
-pub header_stops : (lent : Lent) (bytes : List ℕ) (at : ℕ) (m : Mesh) (stop : ℕ) → stop ≡ stop_for m bytes → stop ≢ 0
-    → stopped stop 0 m ≡ replay lent bytes at m
-header_stops lent bytes at m stop e x =
-    ap (λ (k : ℕ). stopped k 0 m) e ∙ sym (replay_bad lent bytes at m (λ z. x (e ∙ z)))
+pub header_stops : (lent : Lent) (bytes : List ℕ) (at : ℕ) (m : Mesh) (s : Stop) → StopsAt (stop_for m bytes) s
+    → stopped (stop_number s) (stop_refusal s) m ≡ replay lent bytes at m
+header_stops lent bytes at m s h =
+    let x : stop_for m bytes ≢ 0 = λ z. stop_nonzero s (h.number ∙ z) in
+    rw (h.number, h.refusal) (sym (replay_bad lent bytes at m x))
 
-module _ (lent : Lent) (bytes : List ℕ) (at : ℕ) (m : Mesh) (stop start : ℕ) (e : stop ≡ stop_for m bytes) (z : stop ≡ 0)
+module _ (lent : Lent) (bytes : List ℕ) (at : ℕ) (m : Mesh) (start : ℕ) (z : stop_for m bytes ≡ 0)
     (s : start ≡ max 20 at) where
   replay_from : replay lent bytes at m ≡ started_at start (replay_first (length bytes) lent (drop start bytes) m)
-  replay_from = rw s (replay_good lent bytes at m (sym e ∙ z))
+  replay_from = rw s (replay_good lent bytes at m z)
 
   pub nothing_from : length bytes ≤ start
       → record { records = 0; end = start; stop = 1; refusal = 0; mesh = m } ≡ replay lent bytes at m
