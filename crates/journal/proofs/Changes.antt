@@ -119,11 +119,11 @@ sizes_on S L = record {
   locks = L.locks ∙ sym S.locks;
 }
 
-pub vertex_slots_lem : {m n : Mesh} → SameSlots m n → vertex_slots n ≡ vertex_slots m
-vertex_slots_lem S = ap (λ (k : ℕ). k / 3) S.positions
+pub vertex_slots_stay : {m n : Mesh} → SameSlots m n → vertex_slots n ≡ vertex_slots m
+vertex_slots_stay S = ap (λ (k : ℕ). k / 3) S.positions
 
-pub triangle_slots_lem : {m n : Mesh} → SameSlots m n → triangle_slots n ≡ triangle_slots m
-triangle_slots_lem S = S.generations
+pub triangle_slots_stay : {m n : Mesh} → SameSlots m n → triangle_slots n ≡ triangle_slots m
+triangle_slots_stay S = S.generations
 
 -- ---- room that is lent
 

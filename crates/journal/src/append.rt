@@ -1,5 +1,6 @@
 // Writes the header of a journal, and its records, to the front of a lent buffer. Each answers the length, or 0 where
 // it does not fit; then the buffer stands.
+// Kept: the C interface answers a number.
 ghost use Rattle.std.specs.Prelude.{◌++◌, ◌≡◌, ◌+◌, ◌-◌, ◌*◌, ◌≤◌, length, take, drop};
 ghost use Rattle.crc.specs.Crc.{crc32};
 ghost use Rattle.points.specs.Axes.{box_of};

@@ -12,6 +12,7 @@ use tables::Counts;
 
 // The answer of a replay: the counts, why it stopped, what the next record's call is refused with, how many records
 // were replayed, and where the next one starts.
+// Kept: the C interface answers numbers.
 #[repr(C)]
 #[derive(Clone, Copy)]
 pub struct Replayed {
