@@ -98,11 +98,10 @@ fn handle_all(
         links.new generations.new locks.new)
         × Told (refine_each list.now m).work.report report.old report.new 0 }
 {
-    let mut at: usize = 0;
     let mut splits: u32 = 0;
     let mut flips: u32 = 0;
     let mut reached = counts;
-    while at < list.len() {
+    for (at, t) in list.iter().enumerate() {
         let done = handle(
             positions,
             corners,
@@ -110,7 +109,7 @@ fn handle_all(
             generations,
             locks,
             reached,
-            list[at],
+            *t,
             counts.triangles,
             start,
             report,
@@ -128,13 +127,12 @@ fn handle_all(
         }
         splits += done.splits;
         flips += done.flips;
-        at += 1;
     }
     Batch {
         refusal: 0,
         splits,
         flips,
-        handled: at,
+        handled: list.len(),
         counts: reached,
     }
 }

@@ -8,6 +8,7 @@ use native.Mathlib.Decide.{ℕ_discrete, dec_lt}
 use native.Mathlib.Omega.{arith}
 use lib.ListN.{length, get_or, set, take, drop}
 use lib.Seq.{get_or-set_same, get_or-set_other, get_or-take, get_or-drop}
+use Rattle.std.proofs.lemmas.List.{length-take-le}
 use Rattle.theory.proofs.Calls.Carried.{found_young}
 use Rattle.theory.proofs.Chains.Altering.{place_altered, end_altered, met_altered, beside}
 use Rattle.theory.proofs.Chains.Chain.{path_odd, path_meets, path_next}
@@ -54,6 +55,32 @@ module _ (links l : List ℕ) {slots : List ℕ} {n : ℕ} where
 
       from : (y : ℕ) → NearOne links l (i + 1) y → NearOne links l i y ⊎ Near links (get_or l i 0) y
       from y (j, b, N) = here y j b N (ℕ_discrete j i)
+
+-- The front of a list has what its first entries have.
+module _ (links l : List ℕ) (n : ℕ) (h : n ≤ length l) where
+  pub front_size : length (take n l) ≡ n
+  front_size = length-take-le n l h
+
+  front_entry : (i : ℕ) → i < length (take n l) → get_or (take n l) i 0 ≡ get_or l i 0
+  front_entry i b = get_or-take n l i 0 (omega (arith, front_size))
+
+  pub front_near : {slots k : List ℕ} {a r : ℕ} → Adds slots a (NearOne links (take n l) (length (take n l))) k r
+      → Adds slots a (NearOne links l n) k r
+  front_near = adds_as to from
+    where
+      to : (y : ℕ) → NearOne links (take n l) (length (take n l)) y → NearOne links l n y
+      to y (i, b, N) =
+          (i, omega (arith, front_size), subst (λ (x : ℕ). Near links x y) (front_entry i b) N)
+
+      from : (y : ℕ) → NearOne links l n y → NearOne links (take n l) (length (take n l)) y
+      from y (i, b, N) =
+          let q : i < length (take n l) = omega (arith, front_size) in
+          (i, q, subst (λ (x : ℕ). Near links x y) (sym (front_entry i q)) N)
+
+  pub front_sides : Sides links l n → Sides links (take n l) (length (take n l))
+  front_sides S i b =
+      let (x, y) = S i (omega (arith, front_size)) in
+      (omega (arith, front_entry i b, x), omega (arith, front_entry i b, y))
 
 -- ---- triangles put behind others
 

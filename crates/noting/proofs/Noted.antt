@@ -1,5 +1,6 @@
 -- A refine with a note: the note that is written, and the outcome.
-use mathlib.Core.Path.{◌≡◌, refl, sym, ap, ap₂, ◌∙◌}
+use Rattle.std.specs.Prelude.{Result, Ok, Err}
+use mathlib.Core.Path.{◌≡◌, refl, sym, ap, ap₂, subst, ◌∙◌}
 use mathlib.Core.Bool.{Bool, true, false, not}
 use mathlib.Core.List.{List, [], ◌∷◌, ◌++◌}
 use mathlib.Core.Logic.{◌≢◌, ◌⊎◌, inl, inr}
@@ -17,8 +18,17 @@ use Rattle.rules.specs.Notes.{note_of, nines_of, changed_slots, refined, note_re
 use Rattle.rules.specs.Notes.{noted_call}
 use Rattle.rules.specs.Reports.{with_note, reported_call}
 use Rattle.rules.specs.Split.{at_first, refine}
+use Rattle.rules.specs.Spares.{Spares}
 use Rattle.rules.specs.Tables.{Mesh}
+use Rattle.tables.specs.Lent.{mesh_with}
+use Rattle.tables.specs.declared.Counts.{Counts}
+use Rattle.split.specs.declared.Chain.{Chain}
+use Rattle.refining.specs.Finding.{Goes}
 use Rattle.reporting.specs.Told.{Told}
+use Rattle.tables.specs.Refusals.{number}
+use Rattle.tables.specs.declared.refusals.Refusal.{Refusal}
+use Rattle.tables.specs.declared.refusals.Refusal.TheVariants.{NoteShort, ReportShort}
+use Rattle.tables.proofs.Refusing.{number_some}
 use Rattle.refining.proofs.Telling.{told_all, as_refused, as_short, as_written}
 use Rattle.noting.specs.Changed.{FrontIs}
 use Rattle.noting.specs.Noting.{Notes, head_of}
@@ -40,31 +50,31 @@ module _ (t : ℕ) (m : Mesh) {slots : List ℕ} {k : ℕ} (H : FrontIs (changed
   by_tests lent a b fits p q = ap₂ (λ (x y : Bool). first_of (22 if x ∷ 23 if not y ∷ [])) (sym p) (sym q)
 
   -- It is too long for what is lent.
-  pub too_short_lem : (lent : List ℕ) {fits : Bool} → length lent < 4 + 9 * k → Notes t m lent fits 22 lent
-  too_short_lem lent {fits} b =
+  pub too_short : (lent : List ℕ) {fits : Bool} → length lent < 4 + 9 * k → Notes t m lent fits (Err NoteShort) lent
+  too_short lent {fits} b =
       let e = lt-ltb (length lent) (length (note_of t m (refined t m))) (omega (arith, note_length)) in record {
         refusal = by_tests lent true fits fits e refl;
-        short = λ _. refl;
-        written = λ z. absurd (omega arith);
+        short = refl;
+        written = tt;
       }
 
   -- It is not, but the report does not fit.
-  pub no_report : (lent : List ℕ) {fits : Bool} → 4 + 9 * k ≤ length lent → fits ≡ false → Notes t m lent fits 23 lent
+  pub no_report : (lent : List ℕ) {fits : Bool} → 4 + 9 * k ≤ length lent → fits ≡ false → Notes t m lent fits (Err ReportShort) lent
   no_report lent {fits} b f =
       let e = le-ltb (length lent) (length (note_of t m (refined t m))) (omega (arith, note_length)) in record {
         refusal = by_tests lent false false fits e f;
-        short = λ _. refl;
-        written = λ z. absurd (omega arith);
+        short = refl;
+        written = tt;
       }
 
   -- It is written.
   pub long_enough : (lent : List ℕ) {left : List ℕ} {fits : Bool} → 4 + 9 * k ≤ length lent → fits ≡ true
-      → left ≡ fill (4 + 9 * k) (λ i. get_or (note_with k) i 0) lent → Notes t m lent fits 0 left
+      → left ≡ fill (4 + 9 * k) (λ i. get_or (note_with k) i 0) lent → Notes t m lent fits (Ok tt) left
   long_enough lent {fits = fits} b f w =
       let e = le-ltb (length lent) (length (note_of t m (refined t m))) (omega (arith, note_length)) in record {
         refusal = by_tests lent false true fits e f;
-        short = λ z. absurd (z refl);
-        written = λ _.
+        short = tt;
+        written =
             w
             ∙ ap (λ (q : ℕ). fill (4 + 9 * k) (λ i. get_or (note_with q) i 0) lent) (sym H.size)
             ∙ ap (λ (q : ℕ). fill q (λ i. get_or (note_of t m (refined t m)) i 0) lent) (sym note_length);
@@ -158,29 +168,39 @@ module _ (t : ℕ) (note : List ℕ) (m : Mesh) (buffer : List ℕ) where
         ap (λ (n : ℕ). with_report buffer 0 (refused_with n m (buffer_room note))) e
         ∙ as_short told buffer (noted_call t note m) short (none q) i
 
-    module _ (r : ℕ) {fits : Bool} {left : List ℕ} (N : Notes t m note fits r left)
-        (f : fits ≡ leb (length told) (length buffer)) where
-      abbrev test : Bool
-      test = ltb (length note) (length (note_of t m (refined t m)))
+    abbrev test : Bool
+    test = ltb (length note) (length (note_of t m (refined t m)))
 
-      pub reported_short : r ≢ 0
-          → with_report buffer 0 (refused_with r m (buffer_room left)) ≡ reported_call (with_note t note) buffer m
-      reported_short x =
-          ap (λ (l : List ℕ). with_report buffer 0 (refused_with r m (buffer_room l))) (N.short x)
-          ∙ go (which_refused test fits N.refusal x)
+    module _ {fits : Bool} {left : List ℕ} (f : fits ≡ leb (length told) (length buffer)) where
+      pub reported_short : (r : Refusal) → Notes t m note fits (Err r) left
+          → with_report buffer 0 (refused_with (number r) m (buffer_room left)) ≡ reported_call (with_note t note) buffer m
+      reported_short r N =
+          ap (λ (l : List ℕ). with_report buffer 0 (refused_with (number r) m (buffer_room l))) N.short
+          ∙ go (which_refused test fits N.refusal (number_some r))
         where
-          go : (r ≡ note_refusal t note m) ⊎ ((r ≡ 23) × (0 ≡ note_refusal t note m) × (fits ≡ false))
-              → with_report buffer 0 (refused_with r m (buffer_room note)) ≡ reported_call (with_note t note) buffer m
-          go (inl q) = as_plain x (noted_short t note m r z q x refl)
+          go : (number r ≡ note_refusal t note m) ⊎ ((number r ≡ 23) × (0 ≡ note_refusal t note m) × (fits ≡ false))
+              → with_report buffer 0 (refused_with (number r) m (buffer_room note))
+              ≡ reported_call (with_note t note) buffer m
+          go (inl q) = as_plain (number_some r) (noted_short t note m (number r) z q (number_some r) refl)
           go (inr (p, q, e)) = as_unfit p q (leb-false (length told) (length buffer) (sym f ∙ e))
 
-      pub reported_written : {n : ℕ} {after : List ℕ} (o : Outcome) → o ≡ worked (refine t (at_first m)) → r ≡ 0
-          → n ≡ length told → Told told buffer after 0
+      pub reported_written : {n : ℕ} {after : List ℕ} (o : Outcome) → Notes t m note fits (Ok tt) left
+          → o ≡ worked (refine t (at_first m)) → n ≡ length told → Told told buffer after 0
           → with_report after n (outcome_of o.answer o.mesh (buffer_room left))
           ≡ reported_call (with_note t note) buffer m
       unfolding reported_call
-      reported_written {n} {after} o p x e T =
-          let F = none_refused test fits N.refusal x in
+      reported_written {n} {after} o N p e T =
+          let F = none_refused test fits N.refusal refl in
           let j = leb-true (length told) (length buffer) (sym f ∙ F.1) in
-          ap (with_report after n) (noted_carried t note m r z F.0 o p x (N.written x))
-          ∙ rw (e, told_all T j) (as_written told buffer (noted_call t note m) short (none (sym x ∙ F.0)) j)
+          ap (with_report after n) (noted_carried t note m 0 z F.0 o p refl N.written)
+          ∙ rw (e, told_all T j) (as_written told buffer (noted_call t note m) short (none F.0) j)
+
+-- ---- what is known of the tables as they were seen
+
+module _ (n : Counts) {seen lent : Spares} (e : seen ≡ lent) {t : ℕ} where
+  pub goes_seen : {c : Chain} → Goes t (mesh_with n lent) c → Goes t (mesh_with n seen) c
+  goes_seen {c} G = subst (λ (s : Spares). Goes t (mesh_with n s) c) (sym e) G
+
+  pub notes_seen : {note left : List ℕ} {fits : Bool} (r : Result (Unit {0}) Refusal)
+      → Notes t (mesh_with n seen) note fits r left → Notes t (mesh_with n lent) note fits r left
+  notes_seen {note} {left} {fits} r N = subst (λ (s : Spares). Notes t (mesh_with n s) note fits r left) e N

@@ -95,11 +95,11 @@ unfolding fill
 head_written t v f k l = refl
 
 -- All slots after the head.
-pub note_written_lem : (t v f : ℕ) (m : Mesh) (list l : List ℕ) (n : ℕ) {k j : List ℕ}
+pub note_written : (t v f : ℕ) (m : Mesh) (list l : List ℕ) (n : ℕ) {k j : List ℕ}
     → k ≡ fill 4 (λ i. get_or (head_of t v f n) i 0) l
     → j ≡ write_from 4 (9 * n) (λ h. get_or (nines_of m list) h 0) k
     → j ≡ fill (4 + 9 * n) (λ i. get_or (head_of t v f n ++ nines_of m list) i 0) l
-note_written_lem t v f m list l n p q =
+note_written t v f m list l n p q =
     q
     ∙ rw (
       p,

@@ -1,7 +1,7 @@
 // The old slots that a refine changes, listed before the work, in rising order.
 ghost use Rattle.std.specs.Prelude.{List, ◌≡◌, ℕ, ◌+◌, ◌-◌, ◌*◌, ◌≤◌, ◌<◌, ℤ, length, get_or, drop};
 ghost use Rattle.rules.specs.Notes.{changed_slots, refined};
-ghost use Rattle.tables.specs.Lent.{mesh_now};
+ghost use Rattle.tables.specs.Lent.{seen, mesh_with};
 ghost use Rattle.tables.specs.declared.Counts.{Counts};
 ghost use Rattle.noting.specs.Rising.{Rising, Adds};
 ghost use Rattle.noting.specs.Changed.{Meets, Near, NearOne, NearMet, NearMets, AllMeet, Unmet, Beside, Met};
@@ -10,8 +10,10 @@ ghost use Rattle.refining.specs.Finding.{Goes};
 
 use crate::rising::insert;
 use split::Chain;
+use tables::View;
 
 // Puts the triangle whose base meets side h behind the first n of these, if there is one.
+// Kept: no heap; the room of the odd ones is fixed, with their number beside it.
 fn add_met(links: &[u32], generations: &[u8], odd: &mut [u32], n: usize, h: usize) -> usize
     requires { (n < length odd.old) × Met links.now generations.now h }
     ensures { Joins links.now odd.old n (NearMet links.now generations.now h)
@@ -52,17 +54,15 @@ fn list_near(links: &[u32], slots: &mut [u32], from: usize, x: u32) -> usize
     insert(slots, own, across / 3)
 }
 
-// Lists the first n of these, and the triangles across their sides 1.
-fn list_all(links: &[u32], odd: &[u32], n: usize, slots: &mut [u32], from: usize) -> usize
-    requires { Rising slots.old from × (n ≤ length odd.now) × (2 * n + 4 ≤ from) × Sides links.now odd.now n }
-    ensures { Adds slots.old from (NearOne links.now odd.now n) slots.new result
-        × (from ≤ result + 2 * n) }
+// Lists these, and the triangles across their sides 1.
+fn list_all(links: &[u32], odd: &[u32], slots: &mut [u32], from: usize) -> usize
+    requires { Rising slots.old from × (2 * length odd.now + 4 ≤ from) × Sides links.now odd.now (length odd.now) }
+    ensures { Adds slots.old from (NearOne links.now odd.now (length odd.now)) slots.new result
+        × (from ≤ result + 2 * length odd.now) }
 {
-    let mut i: usize = 0;
     let mut at = from;
-    while i < n {
-        at = list_near(links, slots, at, odd[i]);
-        i += 1;
+    for x in odd {
+        at = list_near(links, slots, at, *x);
     }
     at
 }
@@ -94,31 +94,22 @@ fn list_beside(links: &[u32], generations: &[u8], slots: &mut [u32], from: usize
     list_unmet(links, generations, slots, second, first + 2)
 }
 
-// How many triangles a chain has before its last odd one.
-fn before_last(odd: u32) -> usize
-    ensures { result ≡ odd - 1 }
-{
-    if odd == 0 {
-        return 0;
-    }
-    odd as usize - 1
-}
-
 // Lists the slots in use that a refine along this chain changes, in rising order, behind the place that is answered: the
 // odd triangles of the chain before its last and those whose bases meet its end, all with those across their sides 1;
 // and its end with those beside it. (The last odd one meets the end, or is the end.)
-pub fn list_changed(links: &[u32], generations: &[u8], chain: Chain, slots: &mut [u32]) -> usize
+pub fn list_changed(view: &View, chain: Chain, slots: &mut [u32]) -> usize
     requires { Rising slots.old 32
-        × ((t : ℕ) × (n : Counts) × (p : List ℤ) × (c : List ℕ) × (k : List ℕ) ×
-        Goes t (mesh_now n p c links.now generations.now k) chain) }
-    ensures { (result ≤ 32) × ((t : ℕ) (n : Counts) (p : List ℤ) (c k : List ℕ) →
-        let m = mesh_now n p c links.now generations.now k in
+        × ((t : ℕ) × (n : Counts) × Goes t (mesh_with n (seen view.now)) chain) }
+    ensures { (result ≤ 32) × ((t : ℕ) (n : Counts) →
+        let m = mesh_with n (seen view.now) in
         Goes t m chain → FrontIs (changed_slots m (refined t m)) (drop (result + 1) slots.new) (32 - result)) }
 {
+    let links = view.links;
+    let generations = view.generations;
     let mut odd = chain.slots;
-    let before = before_last(chain.odd);
+    let before = chain.odd.saturating_sub(1) as usize;
     let n = add_mets(links, generations, &mut odd, before, chain.end);
-    let near = list_all(links, &odd, n, slots, 32);
+    let near = list_all(links, &odd[..n], slots, 32);
     let own = insert(slots, near, chain.end);
     if n == before + 3 {
         return own;

@@ -6,7 +6,9 @@ use Prim.Native.Nat.{ℕ, zero, suc, ◌+◌, ◌*◌, ◌/◌, ◌%◌, ◌≤�
 use native.Mathlib.Decide.{dec_lt}
 use native.Mathlib.Numerals.{add-one}
 use native.Mathlib.Omega.{arith}
-use lib.ListN.{length, get_or, get_or-eq_default}
+use lib.Dec.{eqb}
+use lib.ListN.{length, get_or, get_or-eq_default, take}
+use Rattle.std.proofs.lemmas.List.{get_or-take, length-take-le}
 use Rattle.theory.proofs.Chains.Altering.{place_altered, end_altered}
 use Rattle.theory.proofs.Chains.Chain.{path_use}
 use Rattle.theory.proofs.Chains.Refine.{chain_path, chain_bound}
@@ -19,6 +21,7 @@ use Rattle.rules.specs.Split.{chain_end, chain_odd, chain_at}
 use Rattle.rules.specs.Tables.{Mesh, link, is_base, locked}
 use Rattle.split.specs.Made.{BaseChain}
 use Rattle.split.specs.declared.Chain.{Chain}
+use Rattle.tables.specs.Lent.{spares_now}
 use Rattle.refining.specs.Locked.{Follows}
 
 -- ---- the chain
@@ -35,7 +38,7 @@ module _ {t : ℕ} {m : Mesh} (S : Sound m) (l : t < m.topology.triangles) where
   few_odd = omega (arith, chain_bound t m S l, S.generations t l)
 
   pub follows : {c : Chain} → BaseChain m.topology t c
-      → Follows c m.topology.links m.topology.generations m.locks
+      → Follows c (spares_now m.positions m.topology.corners m.topology.links m.topology.generations m.locks)
   follows C =
       let L = S.tables.locks in record {
         few = omega (arith, C.odd, few_odd);
@@ -60,6 +63,15 @@ any_same : (n : ℕ) (p q : ℕ → Bool) → ((i : ℕ) → i < n → p i ≡ q
 any_same zero p q e = any_none p ∙ sym (any_none q)
 any_same (suc n) p q e =
     rw (← add-one n, any_more n p, any_more n q, any_same n p q (λ i b. e i (omega arith)), e n (omega arith))
+
+-- The front of a list has what its first entries have.
+pub front_locked : (n : ℕ) (slots locks : List ℕ) → n ≤ length slots
+    → any (length (take n slots)) (λ i. eqb (get_or locks (get_or (take n slots) i 0) 0) 1)
+    ≡ any n (λ i. eqb (get_or locks (get_or slots i 0) 0) 1)
+front_locked n slots locks h =
+    rw (length-take-le n slots h)
+    (any_same n (λ i. eqb (get_or locks (get_or (take n slots) i 0) 0) 1) (λ i. eqb (get_or locks (get_or slots i 0) 0) 1)
+    (λ i b. ap (λ (x : ℕ). eqb (get_or locks x 0) 1) (get_or-take n slots i 0 b)))
 
 -- By the answers of the tests. A test that was not made stands for itself.
 module _ (t : ℕ) (m : Mesh) {c : Chain} (C : BaseChain m.topology t c) where

@@ -1,12 +1,13 @@
 -- The first refusal of a refine, found test by test.
-use borrow.Author.Tests.{leb-false, eq-eqb, ne_eqb}
+use borrow.Author.Tests.{leb-false}
+use Rattle.std.specs.Prelude.{Result, Ok}
 use mathlib.Core.Bool.{Bool, true, false, not}
 use mathlib.Core.List.{List, [], ◌∷◌}
 use mathlib.Core.Logic.{◌≢◌}
-use mathlib.Core.Path.{◌≡◌, refl, sym, ap₂, ◌∙◌}
-use Prim.Native.Nat.{ℕ, ◌*◌, ◌≤◌, ◌<◌}
+use mathlib.Core.Path.{◌≡◌, refl, sym, ap₂, subst, ◌∙◌}
+use Prim.Native.Nat.{ℕ, ◌≤◌, ◌<◌}
 use native.Mathlib.Omega.{arith}
-use lib.Dec.{eqb, leb}
+use lib.Dec.{leb}
 use Rattle.theory.proofs.Numbers.Decide.{Decides}
 use Rattle.theory.proofs.Calls.Carried.{refine_found}
 use Rattle.theory.proofs.Calls.FirstThatHolds.{two_kept, two_passed, refuses, carries}
@@ -15,10 +16,14 @@ use Rattle.rules.specs.Calls.{Test, ◌if◌, first_of, no_room, refused_with, r
 use Rattle.rules.specs.Calls.{vertices_of, triangles_of, too_old, alters_locked}
 use Rattle.rules.specs.Sound.{Sound, is_sound}
 use Rattle.rules.specs.Split.{at_first, refine}
-use Rattle.rules.specs.Tables.{Mesh, tables_agree, generation, Topology, boundary, link}
+use Rattle.rules.specs.Tables.{Mesh, tables_agree, generation}
 use Rattle.refining.specs.Finding.{Finds, Goes}
+use Rattle.rules.specs.Spares.{Spares}
+use Rattle.tables.specs.Lent.{mesh_with}
 use Rattle.tables.specs.Standing.{standing}
-use Rattle.refining.specs.declared.Found.{Found}
+use Rattle.tables.specs.declared.Counts.{Counts}
+use Rattle.tables.specs.declared.refusals.Refusal.{Refusal}
+use Rattle.split.specs.declared.Chain.{Chain}
 
 -- Four tests before the rest.
 four_kept : (a b d e : Bool) (rest : List Test) (r : ℕ) → r ≡ first_of (1 if a ∷ 7 if b ∷ 8 if d ∷ 9 if e ∷ []) → r ≢ 0
@@ -49,10 +54,11 @@ module _ (t : ℕ) (m : Mesh) where
       ∷ []
       )
 
-  pub triangle_standing : (r : ℕ) → r ≡ standing m → r ≢ 0 → r ≡ triangle_refusal
-  triangle_standing r =
+  -- The mesh's own refusal comes first.
+  pub triangle_stands : (r : ℕ) → r ≡ standing m → r ≢ 0 → r ≡ triangle_refusal
+  triangle_stands =
       two_kept (not (tables_agree m)) (not (is_sound m))
-      (8 if leb m.topology.triangles t ∷ 9 if too_old m.topology t ∷ []) r
+      (8 if leb m.topology.triangles t ∷ 9 if too_old m.topology t ∷ [])
 
   -- The refusal by the answers of the tests. A test that was not made stands for itself.
   module _ (r : ℕ) (s : r ≡ standing m) (z : r ≡ 0) where
@@ -114,18 +120,6 @@ module _ (t : ℕ) (m : Mesh) where
       pub refine_young : generation m.topology t ≤ 20
       refine_young = refine_stands.0.generations t refine_stands.1
 
--- The answers of the test of age, by the generation g and what the base links to.
-module _ (m : Topology) (t g : ℕ) (e : g ≡ generation m t) where
-  pub old_twenty : g ≡ 20 → eqb g 20 ≡ too_old m t
-  old_twenty q = eq-eqb _ _ q ∙ rw (eq-eqb _ _ (sym e ∙ q), too_old)
-
-  pub old_none : g ≢ 20 → g ≢ 19 → eqb g 19 ≡ too_old m t
-  old_none n k = ne_eqb _ _ k ∙ rw (ne_eqb _ _ (λ q. n (e ∙ q)), ne_eqb _ _ (λ q. k (e ∙ q)), too_old)
-
-pub old_nineteen : (m : Topology) (t g h : ℕ) → g ≡ generation m t → g ≢ 20 → g ≡ 19 → h ≡ link m (3 * t)
-    → eqb h boundary ≡ too_old m t
-old_nineteen m t g h e n q l = rw (l, ne_eqb _ _ (λ z. n (e ∙ z)), eq-eqb _ _ (sym e ∙ q), too_old)
-
 -- The answers of the tests by a chain. A test that was not made stands for itself.
 pub chain_by_tests : (t v f : ℕ) (m : Mesh) {a b : Bool} → alters_locked t m ≡ a → room_for v f m ≡ b
     → first_of (19 if a ∷ 11 if not b ∷ []) ≡ first_of (19 if alters_locked t m ∷ 11 if not (room_for v f m) ∷ [])
@@ -143,5 +137,13 @@ module _ (t : ℕ) (m : Mesh) (r : ℕ) (e : r ≡ refine_refusal t m) where
   refine_carried = carries m no_room (worked (refine t (at_first m))) (refine_refusal t m) r e
 
 -- Where nothing is found to refuse, the refine is carried out.
-pub finds_goes : {t : ℕ} {m : Mesh} {f : Found} → Finds t m f → f.refusal ≡ 0 → Goes t m f.chain
-finds_goes {t} {m} F z = record { found = refine_found t m (sym F.refusal ∙ z); chain = F.chain z }
+pub finds_goes : {t : ℕ} {m : Mesh} {c : Chain} → Finds t m (Ok c) → Goes t m c
+finds_goes {t} {m} F = record { found = refine_found t m (sym F.0); chain = F.1 }
+
+-- What is known of the tables as they were seen is known of them as they are lent.
+module _ (n : Counts) {seen lent : Spares} (e : seen ≡ lent) where
+  pub stands_seen : {r : ℕ} → r ≡ standing (mesh_with n lent) → r ≡ standing (mesh_with n seen)
+  stands_seen {r} s = subst (λ (x : Spares). r ≡ standing (mesh_with n x)) (sym e) s
+
+  pub found_seen : (t : ℕ) (r : Result Chain Refusal) → Finds t (mesh_with n seen) r → Finds t (mesh_with n lent) r
+  found_seen t r F = subst (λ (x : Spares). Finds t (mesh_with n x) r) e F

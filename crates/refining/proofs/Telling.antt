@@ -16,8 +16,6 @@ use Rattle.rules.specs.Calls.{Outcome, with_report, worked, no_room, refused_wit
 use Rattle.rules.specs.Reports.{one, report_in, reported_as, reported_call}
 use Rattle.rules.specs.Split.{at_first, refine}
 use Rattle.rules.specs.Tables.{Mesh}
-use Rattle.refining.specs.Batches.{fit_if, fit_in}
-use Rattle.refining.specs.declared.spares.Batch.{Batch}
 use Rattle.refining.proofs.Refusing.{refine_refused, refine_carried}
 
 pub told_refused : (n : ℕ) (l : List ℕ) {b : List ℕ} {at : ℕ} → n ≢ 0 → Told (told_unless n l) b b at
@@ -108,19 +106,3 @@ module _ (t : ℕ) (m : Mesh) (buffer : List ℕ) (r : ℕ) (e : r ≡ refine_re
         let j : length l ≤ length buffer = omega arith in
         rw (p ∙ carried, q, told_all T j)
         (as_written l buffer (refine_call t m) (refused_with 23 m no_room) none j)
-
--- ---- work in spare tables
-
-pub fit_refused : (n : ℕ) (r : Batch) → r.refusal ≢ 0 → r ≡ fit_in n r
-fit_refused n r x = go r.refusal x
-  where
-    go : (k : ℕ) → k ≢ 0 → r ≡ fit_if k (ltb n (3 * r.splits + 2 * r.flips)) r
-    go zero x = absurd (x refl)
-    go (suc k) x = refl
-
-pub fit_fits : (n : ℕ) (r : Batch) → r.refusal ≡ 0 → 3 * r.splits + 2 * r.flips ≤ n → r ≡ fit_in n r
-fit_fits n r z i = rw (z, le-ltb _ _ i) refl
-
-pub fit_short : (n : ℕ) (r : Batch) → r.refusal ≡ 0 → n < 3 * r.splits + 2 * r.flips
-    → record { refusal = 23; splits = r.splits; flips = r.flips; handled = r.handled; counts = r.counts } ≡ fit_in n r
-fit_short n r z i = rw (z, lt-ltb _ _ i) refl

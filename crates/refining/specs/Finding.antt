@@ -1,18 +1,18 @@
 -- What a refine finds before its work.
-use Rattle.std.specs.Prelude.{ℕ, ◌≡◌}
+use Rattle.std.specs.Prelude.{ℕ, ◌≡◌, Result, IfOk}
 use Rattle.theory.proofs.Calls.Carried.{RefineFound}
 use Rattle.rules.specs.Calls.{refine_refusal}
 use Rattle.rules.specs.Tables.{Mesh}
 use Rattle.split.specs.Made.{BaseChain}
 use Rattle.split.specs.declared.Chain.{Chain}
+use Rattle.tables.specs.Refusals.{refused}
 use Rattle.tables.specs.declared.Counts.{Counts}
-use Rattle.refining.specs.declared.Found.{Found}
+use Rattle.tables.specs.declared.refusals.Refusal.{Refusal}
 use Rattle.refining.specs.declared.Reported.{Reported}
 
--- The refusal of the refine of t, and the base chain of t where there is none.
-pub record Finds (t : ℕ) (m : Mesh) (f : Found) : Type 0 where
-  pub refusal : f.refusal ≡ refine_refusal t m
-  pub chain : f.refusal ≡ 0 → BaseChain m.topology t f.chain
+-- The base chain of t where nothing refuses its refine, or the refusal.
+abbrev pub Finds : ℕ → Mesh → Result Chain Refusal → Type 0
+Finds t m r = (refused r ≡ refine_refusal t m) × IfOk r (BaseChain m.topology t)
 
 -- The refine of t is carried out, along this base chain.
 pub record Goes (t : ℕ) (m : Mesh) (c : Chain) : Type 0 where

@@ -19,6 +19,9 @@ use Rattle.rules.specs.Below.{fill}
 use Rattle.rules.specs.Reports.{report_in}
 use Rattle.rules.specs.Split.{at_first, refine}
 use Rattle.rules.specs.Tables.{Topology, Mesh}
+use Rattle.rules.specs.Spares.{Spares}
+use Rattle.tables.specs.Lent.{mesh_with, topology_with}
+use Rattle.tables.specs.declared.Counts.{Counts}
 use Rattle.split.specs.declared.Chain.{Chain}
 use Rattle.split.specs.Made.{BaseChain}
 use Rattle.reporting.specs.Told.{Tells}
@@ -99,10 +102,6 @@ room_then {m} n T r =
     let e = length-append m n in
     omega (arith, T.size, (T.told (omega arith)).0)
 
--- A child that was flipped takes two entries.
-pub flip_room : (l : List ℕ) (c at n : ℕ) {b : Bool} → b ≡ true → at + length (flip_after l b c) ≤ n → at + 2 ≤ n
-flip_room l c at n e = subst (λ (b : Bool). at + length (flip_after l b c) ≤ n) e
-
 pub tells_split : (l g : List ℕ) (t f : ℕ) {a b c d e : List ℕ} {at i j k end : ℕ}
     → Tells (t ∷ f ∷ (f + 1) ∷ []) a b at i
     → Tells (flip_after l (is_flipped g t) t) b c i j → Tells (flip_after l (is_second_flipped l g t f) f) c d j k
@@ -162,3 +161,13 @@ pub tells_if : {b : Bool} {l r s : List ℕ} {at told : ℕ} → (b ≡ true →
 tells_if {b = true} T e q = T refl
 tells_if {b = false} {l} {r} {s} {at} {told} T e q =
     tells_not l r s at told q (omega (arith, leb-false (length l) (length r - at) (sym e)))
+
+-- Whether the report fits, by the tables as they were seen.
+pub fits_seen : (t : ℕ) (n : Counts) (chain : Chain) {seen lent : Spares} {b : Bool} (entries : ℕ) → seen ≡ lent
+    → (RefineFound t (mesh_with n seen) → BaseChain (topology_with n seen) t chain
+    → b ≡ leb (length (refine t (at_first (mesh_with n seen))).report) entries)
+    → RefineFound t (mesh_with n lent) → BaseChain (topology_with n lent) t chain
+    → b ≡ leb (length (refine t (at_first (mesh_with n lent))).report) entries
+fits_seen t n chain {b = b} entries e f =
+    subst (λ (s : Spares). RefineFound t (mesh_with n s) → BaseChain (topology_with n s) t chain
+    → b ≡ leb (length (refine t (at_first (mesh_with n s))).report) entries) e f

@@ -9,7 +9,7 @@ use native.Mathlib.Decide.{dec_lt}
 use native.Mathlib.Nat.{add-zero}
 use native.Mathlib.Omega.{arith}
 use lib.Dec.{T}
-use lib.ListN.{length, get_or, replicate, length-replicate}
+use lib.ListN.{length, get_or, replicate, length-replicate, take}
 use Rattle.marks.proofs.Tables.{levels_begin, none_marked, zeros}
 use Rattle.marks.specs.Marks.{marked}
 use Rattle.points.specs.Axes.{box_of}
@@ -17,7 +17,7 @@ use Rattle.points.specs.declared.Point.{Point}
 use Rattle.theory.proofs.Boxes.Staying.{wanted_stays}
 use Rattle.theory.proofs.Boxes.Wanting.{wanted_is}
 use Rattle.theory.proofs.Calls.CallRefusals.{refine_judged}
-use Rattle.theory.proofs.Calls.Carried.{refine_found, found_refined}
+use Rattle.theory.proofs.Calls.Carried.{RefineFound, refine_found, found_refined}
 use Rattle.theory.proofs.Calls.FirstThatHolds.{judged_carried}
 use Rattle.theory.proofs.Chains.Altering.{AlteredAt, on_chain, is_end, beside_end}
 use Rattle.theory.proofs.Numbers.Decide.{Lowest, lowest_is}
@@ -32,6 +32,8 @@ use Rattle.rules.specs.Tables.{Topology, Mesh, vertex_slots, coordinate, link}
 use Rattle.split.specs.Made.{BaseChain}
 use Rattle.split.specs.declared.Chain.{Chain}
 use Rattle.wanting.specs.Wanting.{Seen, SeenFrom, Right, MarksFit, Marking, Unseen, Unmarked, Refines}
+use Rattle.std.proofs.lemmas.List.{get_or-take, length-take-le}
+use Rattle.refining.proofs.Locking.{few_odd}
 use Rattle.wanting.specs.Wanting.{nearby, Stale, MarkedFrom, Mended}
 use Rattle.wanting.proofs.Marking.{fit_as}
 
@@ -59,9 +61,9 @@ pub none_past : {b : Box} {m : Mesh} {bits words : List ℕ} → Marking b m bit
     → m.topology.triangles ≤ j → marked bits j ≡ false
 none_past {b} {m} M j l = M.right j ∙ rw (le-ltb j m.topology.triangles l) refl
 
-module _ {t : ℕ} {b : Box} {x y : Mesh} {odd : ℕ} {slots near bits one two three words w₁ w₂ w₃ : List ℕ}
-    (X : Stale b t x y odd slots near bits words) (A : MarkedFrom x.topology.triangles b y bits one w₁)
-    (B : Mended 4 near b y one two w₂) (D : Mended odd slots b y two three w₃) where
+module _ {t : ℕ} {b : Box} {x y : Mesh} {odd near bits one two three words w₁ w₂ w₃ : List ℕ}
+    (X : Stale b t x y odd near bits words) (A : MarkedFrom x.topology.triangles b y bits one w₁)
+    (B : Mended 4 near b y one two w₂) (D : Mended (length odd) odd b y two three w₃) where
   abbrev R : Refines t x y
   R = X.refines
 
@@ -88,7 +90,7 @@ module _ {t : ℕ} {b : Box} {x y : Mesh} {odd : ℕ} {slots near bits one two t
       stays j (A.stay j l ∙ X.marks.right j ∙ rw (u, v, q) refl)
   old_right j l (inl (on_chain i d e)) =
       let u : j < y.topology.triangles = omega (arith, grown R) in
-      let q : get_or slots i 0 ≡ j = X.slots_are i (omega (arith, X.odd_is)) ∙ sym e in
+      let q : get_or odd i 0 ≡ j = X.slots_are i (omega (arith, X.odd_is)) ∙ sym e in
       subst (Right b y three) q
       (D.right i (omega (arith, X.odd_is)) (subst (λ (k : ℕ). k < y.topology.triangles) (sym q) u))
   old_right j l (inl (is_end e)) = listed 0 (omega arith) (rw X.near_is (sym e)) (omega (arith, grown R))
@@ -156,17 +158,24 @@ seen_all U A = record {
 
 -- ---- what is read before the refine
 
+-- The chain has no more odd triangles than slots.
+pub odd_inside : {t : ℕ} {x : Mesh} {chain : Chain} → RefineFound t x → BaseChain x.topology t chain
+    → chain.odd ≤ length chain.slots
+odd_inside F C = omega (arith, few_odd F.sound F.in_use, C.odd, C.room)
+
 pub stale : {b : Box} {t : ℕ} {x y : Mesh} {chain : Chain} {near bits words : List ℕ} → Refines t x y
     → BaseChain x.topology t chain → near ≡ nearby x.topology chain.end → Marking b x bits words
-    → Stale b t x y chain.odd chain.slots near bits words
-stale {x = x} R C e M = record {
-  refines = R;
-  odd_is = C.odd;
-  slots_are = C.slots;
-  room = C.room;
-  near_is = e ∙ ap (nearby x.topology) C.end;
-  marks = M;
-}
+    → Stale b t x y (take chain.odd chain.slots) near bits words
+stale {x = x} {chain = chain} R C e M =
+    let size = length-take-le chain.odd chain.slots (odd_inside R.found C) in record {
+      refines = R;
+      odd_is = size ∙ C.odd;
+      slots_are = λ i l.
+          let b : i < chain.odd = omega (arith, size) in
+          get_or-take chain.odd chain.slots i 0 b ∙ C.slots i b;
+      near_is = e ∙ ap (nearby x.topology) C.end;
+      marks = M;
+    }
 
 -- A triangle and those beside it are four.
 pub near_long : {near : List ℕ} (m : Topology) (v : ℕ) → near ≡ nearby m v → 4 ≤ length near

@@ -81,11 +81,10 @@ nearby m v = v ∷ (link m (3 * v) / 3) ∷ (link m (3 * v + 1) / 3) ∷ (link m
 
 -- A refine of t made y of x. The marks are still those of x; the odd triangles of the base chain of t, and its end with
 -- the triangles beside it, were read before.
-pub record Stale (b : Box) (t : ℕ) (x y : Mesh) (odd : ℕ) (slots near bits words : List ℕ) : Type 0 where
+pub record Stale (b : Box) (t : ℕ) (x y : Mesh) (odd near bits words : List ℕ) : Type 0 where
   pub refines : Refines t x y
-  pub odd_is : odd ≡ chain_odd x.topology t
-  pub slots_are : (i : ℕ) → i < odd → get_or slots i 0 ≡ chain_at i x.topology t
-  pub room : length slots ≡ 20
+  pub odd_is : length odd ≡ chain_odd x.topology t
+  pub slots_are : (i : ℕ) → i < length odd → get_or odd i 0 ≡ chain_at i x.topology t
   pub near_is : near ≡ nearby x.topology (chain_end x.topology t)
   pub marks : Marking b x bits words
 

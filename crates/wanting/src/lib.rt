@@ -13,7 +13,7 @@ ghost use Rattle.rules.specs.Split.{at_first, refine};
 ghost use Rattle.rules.specs.Tables.{Mesh};
 ghost use Rattle.tables.specs.Answers.{worked_outcome};
 ghost use Rattle.tables.specs.declared.Counts.{Counts};
-ghost use Rattle.tables.specs.Lent.{topology_now, mesh_now, point_in};
+ghost use Rattle.tables.specs.Lent.{topology_now, mesh_with, held, SameTables, point_in};
 ghost use Rattle.reporting.specs.Told.{Told, told_unless};
 ghost use Rattle.refining.specs.Batches.{Begins};
 ghost use Rattle.wanting.specs.Wanting.{Looks, SeenFrom, MarksFit, Marking, Stale, nearby, MarkedFrom};
@@ -21,7 +21,7 @@ ghost use Rattle.wanting.specs.Wanting.{Mended, Marked, Unmarked, Unseen, Boxes}
 
 use points::Point;
 use refining::spares::Batch;
-use tables::{Counts, Worked};
+use tables::{Counts, Tables, Worked};
 
 // Whether vertex v lies in the box, its faces included.
 fn in_box(positions: &[i32], v: u32, low: Point, high: Point) -> bool
@@ -45,12 +45,10 @@ fn mark_inside(
         × ((v : ℕ) → from ≤ v → marked inside.old v ≡ false) }
     ensures { SeenFrom from vertices low high positions.now inside.old inside.new }
 {
-    let mut v = from;
-    while v < vertices {
+    for v in from..vertices {
         if in_box(positions, v, low, high) {
             marks::put(inside, v, true);
         }
-        v += 1;
     }
 }
 
@@ -63,13 +61,9 @@ fn has_marked_corner(corners: &[u32], inside: &[u64], t: u32) -> bool
         || marked inside.now (get_or corners.now (3 * t + 2) 0)) }
 {
     let i = 3 * (t as usize);
-    if marks::is_marked(inside, corners[i]) {
-        return true;
-    }
-    if marks::is_marked(inside, corners[i + 1]) {
-        return true;
-    }
-    marks::is_marked(inside, corners[i + 2])
+    marks::is_marked(inside, corners[i])
+        || marks::is_marked(inside, corners[i + 1])
+        || marks::is_marked(inside, corners[i + 2])
 }
 
 // Whether triangle t is below the generation and has a corner in the box.
@@ -106,44 +100,37 @@ fn mark_from(
         → triangles ≡ m.topology.triangles
         → MarkedFrom from b m bits.old bits.new words.new }
 {
-    let mut t = from;
-    while t < triangles {
+    for t in from..triangles {
         if is_wanted(corners, generations, inside, t, below) {
             marks::mark(bits, words, t, true);
         }
-        t += 1;
     }
 }
 
-// Puts the marks of so many listed slots right.
+// Puts the marks of listed slots right.
 fn mend(
     corners: &[u32],
     generations: &[u8],
     inside: &[u64],
     triangles: u32,
     slots: &[u32],
-    count: usize,
     below: u32,
     bits: &mut [u64],
     words: &mut [u64],
 )
-    requires { ((b : Box) × (m : Mesh) ×
+    requires { (b : Box) × (m : Mesh) ×
         Looks b m corners.now generations.now inside.now below
-        × MarksFit m bits.old words.old × (triangles ≡ m.topology.triangles))
-        × (count ≤ length slots.now) }
+        × MarksFit m bits.old words.old × (triangles ≡ m.topology.triangles) }
     ensures { (b : Box) (m : Mesh) →
         Looks b m corners.now generations.now inside.now below
         → triangles ≡ m.topology.triangles
-        → Mended count slots.now b m bits.old bits.new words.new }
+        → Mended (length slots.now) slots.now b m bits.old bits.new words.new }
 {
-    let mut i: usize = 0;
-    while i < count {
-        let t = slots[i];
-        if t < triangles {
-            let on = is_wanted(corners, generations, inside, t, below);
-            marks::mark(bits, words, t, on);
+    for t in slots {
+        if *t < triangles {
+            let on = is_wanted(corners, generations, inside, *t, below);
+            marks::mark(bits, words, *t, on);
         }
-        i += 1;
     }
 }
 
@@ -164,19 +151,18 @@ fn mend_after(
     inside: &[u64],
     before: u32,
     triangles: u32,
-    odd: u32,
-    slots: &[u32; 20],
-    near: &[u32; 4],
+    odd: &[u32],
+    beside: &[u32; 4],
     below: u32,
     bits: &mut [u64],
     words: &mut [u64],
 )
     requires { (b : Box) × (t : ℕ) × (x : Mesh) × (y : Mesh) ×
-        Stale b t x y odd slots.now near.now bits.old words.old
+        Stale b t x y odd.now beside.now bits.old words.old
         × Looks b y corners.now generations.now inside.now below
         × (before ≡ x.topology.triangles) × (triangles ≡ y.topology.triangles) }
     ensures { (b : Box) (t : ℕ) (x y : Mesh) →
-        Stale b t x y odd slots.now near.now bits.old words.old
+        Stale b t x y odd.now beside.now bits.old words.old
         → Looks b y corners.now generations.now inside.now below
         → before ≡ x.topology.triangles → triangles ≡ y.topology.triangles
         → Marking b y bits.new words.new }
@@ -196,8 +182,7 @@ fn mend_after(
         generations,
         inside,
         triangles,
-        near,
-        4,
+        beside,
         below,
         bits,
         words,
@@ -207,8 +192,7 @@ fn mend_after(
         generations,
         inside,
         triangles,
-        slots,
-        odd as usize,
+        odd,
         below,
         bits,
         words,
@@ -217,11 +201,7 @@ fn mend_after(
 
 // Refines triangle t of a sound mesh, told from place `at` of the report on, and puts the marks right.
 fn refine_marked(
-    positions: &mut [i32],
-    corners: &mut [u32],
-    links: &mut [u32],
-    generations: &mut [u8],
-    locks: &mut [u8],
+    tables: &mut Tables,
     counts: Counts,
     t: u32,
     low: Point,
@@ -234,40 +214,28 @@ fn refine_marked(
     at: usize,
 ) -> Worked
     requires { Marked (box_of low high below)
-        (mesh_now counts positions.old corners.old links.old generations.old locks.old)
+        (mesh_with counts (held tables.old))
         inside.old bits.old words.old
-        × Sound (mesh_now counts positions.old corners.old links.old generations.old locks.old)
+        × Sound (mesh_with counts (held tables.old))
         × (t < counts.triangles) }
-    ensures locks_after { worked_outcome result positions.new corners.new links.new generations.new
-        locks.new
-        ≡ refine_call t (mesh_now counts positions.old corners.old links.old
-        generations.old locks.old) }
+    ensures refined { worked_outcome result (held tables.new)
+        ≡ refine_call t (mesh_with counts (held tables.old)) }
     ensures marked { result.refusal ≡ 0 → Marked (box_of low high below)
-        (mesh_now result.counts positions.new corners.new links.new
-        generations.new locks.new) inside.new bits.new words.new }
-    ensures told { Told (told_unless result.refusal (refine t (at_first (mesh_now counts positions.old
-        corners.old links.old generations.old locks.old))).report)
+        (mesh_with result.counts (held tables.new)) inside.new bits.new words.new }
+    ensures told { Told (told_unless result.refusal (refine t (at_first (mesh_with counts (held tables.old)))).report)
         report.old report.new at }
+    ensures lent { SameTables tables.new tables.old }
 {
-    let chain = split::base_chain(links, generations, t);
+    let before = tables.view();
+    let chain = split::base_chain(&before, t);
     let slots = chain.slots;
-    let near = with_neighbours(links, chain.end);
-    let done = refining::refine(
-        positions,
-        corners,
-        links,
-        generations,
-        locks,
-        counts,
-        t,
-        0,
-        report,
-        at,
-    );
+    let near = with_neighbours(before.links, chain.end);
+    let done = refining::refine(tables, counts, t, Ok(()), report, at);
     if done.refusal == 0 {
         let reached = done.counts;
+        let after = tables.view();
         mark_inside(
-            positions,
+            after.positions,
             counts.vertices,
             reached.vertices,
             low,
@@ -275,13 +243,12 @@ fn refine_marked(
             inside,
         );
         mend_after(
-            corners,
-            generations,
+            after.corners,
+            after.generations,
             inside,
             counts.triangles,
             reached.triangles,
-            chain.odd,
-            &slots,
+            &slots[..chain.odd as usize],
             &near,
             below,
             bits,
@@ -293,12 +260,9 @@ fn refine_marked(
 
 // Refines the lowest wanted triangle until none is left, in tables that hold the mesh. Nothing is marked at first. The
 // turns are told where the report has room.
+// Kept: no plainer: the next triangle is the lowest mark that a refine leaves, and its number says whether there is one.
 pub fn refine_wanted(
-    positions: &mut [i32],
-    corners: &mut [u32],
-    links: &mut [u32],
-    generations: &mut [u8],
-    locks: &mut [u8],
+    tables: &mut Tables,
     counts: Counts,
     low: Point,
     high: Point,
@@ -310,20 +274,20 @@ pub fn refine_wanted(
 ) -> Batch
     requires { ((m : Mesh) × (s : Spares) ×
         Begins m s m.topology.generations
-        (mesh_now counts positions.old corners.old links.old generations.old locks.old))
-        × Unmarked (length generations.old) bits.old words.old
-        × Unseen (length positions.old / 3) inside.old }
-    ensures { (m : Mesh) (s : Spares) →
-        Begins m s m.topology.generations (mesh_now counts positions.old corners.old
-        links.old generations.old locks.old)
-        → Boxes (box_of low high below) m s result (mesh_now result.counts positions.new corners.new
-        links.new generations.new locks.new)
+        (mesh_with counts (held tables.old)))
+        × Unmarked (length tables.old.generations.now) bits.old words.old
+        × Unseen (length tables.old.positions.now / 3) inside.old }
+    ensures boxed { (m : Mesh) (s : Spares) →
+        Begins m s m.topology.generations (mesh_with counts (held tables.old))
+        → Boxes (box_of low high below) m s result (mesh_with result.counts (held tables.new))
         × Told (refine_in_box (box_of low high below) m).work.report report.old report.new 0 }
+    ensures lent { SameTables tables.new tables.old }
 {
-    mark_inside(positions, 0, counts.vertices, low, high, inside);
+    let first = tables.view();
+    mark_inside(first.positions, 0, counts.vertices, low, high, inside);
     mark_from(
-        corners,
-        generations,
+        first.corners,
+        first.generations,
         inside,
         0,
         counts.triangles,
@@ -338,11 +302,7 @@ pub fn refine_wanted(
     let mut t = marks::lowest(bits, words);
     while t < reached.triangles {
         let done = refine_marked(
-            positions,
-            corners,
-            links,
-            generations,
-            locks,
+            tables,
             reached,
             t,
             low,

@@ -6,6 +6,6 @@ pub carry_back-requires : goal.carry_back-requires
 carry_back-requires c =
     (_, _, box_made _ c.requires c.work_in_spares-made.ensures.0)
 
-pub returns : goal.returns
-returns c =
+pub returns-clause-done : goal.returns-clause-done
+returns-clause-done c =
     c.carry_back.ensures _ _ (box_made _ c.requires c.work_in_spares-made.ensures.0)

@@ -1,58 +1,51 @@
 -- `noting::refine_noted` meets its contract.
-use mathlib.Core.Bool.{true}
-use mathlib.Core.Path.{sym, ◌∙◌}
-use native.Mathlib.Omega.{arith}
+use mathlib.Core.Path.{refl, sym}
+use Rattle.std.specs.Prelude.{Ok, Err}
 use Rattle.rules.specs.Tables.{Mesh}
-use Rattle.tables.specs.Lent.{mesh_now}
-use Rattle.noting.specs.Noting.{Notes}
-use Rattle.noting.proofs.Noted.{noted_refused, noted_short, noted_carried}
-use Rattle.refining.proofs.Refusing.{finds_goes}
+use Rattle.tables.specs.Lent.{held, mesh_with}
+use Rattle.tables.proofs.Refusing.{number_some}
+use Rattle.noting.proofs.Noted.{noted_refused, noted_short, noted_carried, notes_seen, goes_seen}
+use Rattle.refining.proofs.Refusing.{finds_goes, stands_seen, found_seen}
 use Rattle.refining.specs.Finding.{Finds}
+use Rattle.noting.proofs.refine_noted.Goals.{After-find, In-Ok}
 use Rattle.noting.proofs.refine_noted.Goals as goal
 
-pub returns-then-found-ne0 : goal.returns-then-found-ne0
-returns-then-found-ne0 c =
-    let mesh_of : Mesh = mesh_now c.args.counts c.args.positions.now c.args.corners.now c.args.links.now c.args.generations.now
-    c.args.locks.now in
-    let finds : Finds c.args.t mesh_of c.find-found.result = c.find-found.ensures c.args.corners.now c.requires in
-    noted_refused c.args.t c.args.note.now mesh_of _ finds.refusal
-    (omega (arith, c.if-found-ne0.true))
+abbrev mesh_of : After-find → Mesh
+mesh_of c = mesh_with c.args.counts (held c.args.tables.now)
 
-pub note_changes-refusal-requires : goal.note_changes-refusal-requires
-note_changes-refusal-requires c =
-    let mesh_of : Mesh = mesh_now c.args.counts c.args.positions.now c.args.corners.now c.args.links.now c.args.generations.now
-    c.args.locks.now in
-    let finds : Finds c.args.t mesh_of c.find-found.result = c.find-found.ensures c.args.corners.now c.requires in
-    (c.args.positions.now, finds_goes finds c.if-found-ne0.false)
+found : (c : In-Ok) → Finds c.args.t (mesh_with c.args.counts (held c.args.tables.now)) (Ok c.in-Ok.chain)
+found c = found_seen c.args.counts c.view.ensures.same c.args.t (Ok c.in-Ok.chain) c.in-Ok.ensures
 
-pub returns-then-refusal-ne0 : goal.returns-then-refusal-ne0
-returns-then-refusal-ne0 c =
-    let mesh_of : Mesh = mesh_now c.args.counts c.args.positions.now c.args.corners.now c.args.links.now c.args.generations.now
-    c.args.locks.now in
-    let finds : Finds c.args.t mesh_of c.find-found.result = c.find-found.ensures c.args.corners.now c.requires in
-    let noted : Notes c.args.t mesh_of c.args.note.now true
-    c.note_changes-refusal.result c.note_changes-refusal.new.note = c.note_changes-refusal.ensures c.args.positions.now
-    (finds_goes finds c.if-found-ne0.false) in
-    let N = noted in
-    noted_short c.args.t c.args.note.now mesh_of _
-    (sym finds.refusal ∙ c.if-found-ne0.false) N.refusal c.if-refusal-ne0.true (N.short c.if-refusal-ne0.true)
+pub find-requires : goal.find-requires
+find-requires c = stands_seen c.args.counts c.view.ensures.same c.requires
+
+pub returns-in-Err-clause-refined : goal.returns-in-Err-clause-refined
+returns-in-Err-clause-refined c =
+    let F = found_seen c.args.counts c.view.ensures.same c.args.t (Err c.in-Err.refusal) c.in-Err.ensures in
+    rw c.refused.ensures
+    (noted_refused c.args.t c.args.note.now (mesh_of (goal.at.returns-in-Err-clause-refined c).After-find) _ F.0
+    (number_some c.in-Err.refusal))
+
+pub note_changes-requires : goal.note_changes-requires
+note_changes-requires c =
+    goes_seen c.args.counts c.view-2.ensures.same (finds_goes (found (goal.at.note_changes-requires c).In-Ok))
 
 pub carry_out-requires : goal.carry_out-requires
-carry_out-requires c =
-    let mesh_of : Mesh = mesh_now c.args.counts c.args.positions.now c.args.corners.now c.args.links.now c.args.generations.now
-    c.args.locks.now in
-    let finds : Finds c.args.t mesh_of c.find-found.result = c.find-found.ensures c.args.corners.now c.requires in
-    finds_goes finds c.if-found-ne0.false
+carry_out-requires c = finds_goes (found (goal.at.carry_out-requires c).In-Ok)
 
-pub returns : goal.returns
-returns c =
-    let mesh_of : Mesh = mesh_now c.args.counts c.args.positions.now c.args.corners.now c.args.links.now c.args.generations.now
-    c.args.locks.now in
-    let finds : Finds c.args.t mesh_of c.find-found.result = c.find-found.ensures c.args.corners.now c.requires in
-    let noted : Notes c.args.t mesh_of c.args.note.now true
-    c.note_changes-refusal.result c.note_changes-refusal.new.note = c.note_changes-refusal.ensures c.args.positions.now
-    (finds_goes finds c.if-found-ne0.false) in
-    let N = noted in
-    noted_carried c.args.t c.args.note.now mesh_of _
-    (sym finds.refusal ∙ c.if-found-ne0.false) N.refusal _ c.carry_out.ensures.locks_after c.if-refusal-ne0.false
-    (N.written c.if-refusal-ne0.false)
+pub returns-in-Ok-note_changes-clause-refined : goal.returns-in-Ok-note_changes-clause-refined
+returns-in-Ok-note_changes-clause-refined c =
+    let F = found (goal.at.returns-in-Ok-note_changes-clause-refined c).In-Ok in
+    let N =
+    notes_seen c.args.counts c.view-2.ensures.same (Ok c.in-Ok-note_changes.field-0) c.in-Ok-note_changes.ensures in
+    noted_carried c.args.t c.args.note.now (mesh_of (goal.at.returns-in-Ok-note_changes-clause-refined c).After-find) 0
+    (sym F.0) N.refusal _ c.carry_out.ensures.refined refl N.written
+
+pub returns-in-Err-note_changes-clause-refined : goal.returns-in-Err-note_changes-clause-refined
+returns-in-Err-note_changes-clause-refined c =
+    let F = found (goal.at.returns-in-Err-note_changes-clause-refined c).In-Ok in
+    let N =
+    notes_seen c.args.counts c.view-2.ensures.same (Err c.in-Err-note_changes.refusal) c.in-Err-note_changes.ensures in
+    rw c.refused-in-Err-note_changes.ensures
+    (noted_short c.args.t c.args.note.now (mesh_of (goal.at.returns-in-Err-note_changes-clause-refined c).After-find) _
+    (sym F.0) N.refusal (number_some c.in-Err-note_changes.refusal) N.short)

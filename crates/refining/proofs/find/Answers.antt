@@ -1,50 +1,52 @@
 -- `refining::find` meets its contract.
-use mathlib.Core.Path.{◌≡◌}
+use mathlib.Core.Path.{◌≡◌, refl}
 use Rattle.rules.specs.Tables.{Mesh}
-use Rattle.tables.specs.Lent.{mesh_now}
+use Rattle.std.proofs.lemmas.Result.{err_from_is_err_and}
+use Rattle.tables.specs.Lent.{seen, mesh_with}
+use Rattle.tables.proofs.Refusing.{number_some}
 use Rattle.refining.proofs.Locking.{follows}
 use Rattle.refining.proofs.Refusing.{triangle_refusal, refine_triangle, refine_chain, refine_stands, refine_young}
+use Rattle.refining.proofs.find.Goals.{After-check_triangle, In_ok-check_triangle}
 use Rattle.refining.proofs.find.Goals as goal
 
-pub returns-then-refused-ne0 : goal.returns-then-refused-ne0
-returns-then-refused-ne0 c corners e =
-    let mesh : Mesh =
-    mesh_now c.args.counts c.args.positions.now corners c.args.links.now c.args.generations.now c.args.locks.now in
-    let triangle_is : c.triangle_refusal-refused.result ≡ triangle_refusal c.args.t mesh =
-    c.triangle_refusal-refused.ensures mesh.positions corners mesh.locks e in
-    record {
-      refusal = refine_triangle c.args.t mesh _ triangle_is c.if-refused-ne0.true;
-      chain = λ z. absurd (c.if-refused-ne0.true z);
-    }
+abbrev mesh_of : After-check_triangle → Mesh
+mesh_of c = mesh_with c.args.counts (seen c.args.view.now)
+
+-- Nothing refuses the triangle.
+passed : (c : In_ok-check_triangle)
+    → 0 ≡ triangle_refusal c.args.t (mesh_with c.args.counts (seen c.args.view.now))
+passed c = c.in_ok-check_triangle.ensures c.requires
+
+pub returns-in_err-check_triangle : goal.returns-in_err-check_triangle
+returns-in_err-check_triangle c =
+    let m = mesh_of (goal.at.returns-in_err-check_triangle c).After-check_triangle in
+    let (r, e, f) = err_from_is_err_and c.from_residual.result c.from_residual.ensures.1 in
+    rw (e, f) (refine_triangle c.args.t m _ (c.in_err-check_triangle.ensures c.requires) (number_some _), tt)
 
 pub base_chain-chain-requires : goal.base_chain-chain-requires
 base_chain-chain-requires c =
-    let (corners, e) = c.requires in
-    let mesh : Mesh =
-    mesh_now c.args.counts c.args.positions.now corners c.args.links.now c.args.generations.now c.args.locks.now in
-    let triangle_is : c.triangle_refusal-refused.result ≡ triangle_refusal c.args.t mesh =
-    c.triangle_refusal-refused.ensures mesh.positions corners mesh.locks e in
-    refine_young c.args.t mesh _ triangle_is c.if-refused-ne0.false
+    let m = mesh_of (goal.at.base_chain-chain-requires c).After-check_triangle in
+    refine_young c.args.t m 0 (passed (goal.at.base_chain-chain-requires c).In_ok-check_triangle) refl
 
-pub chain_refusal-refusal-requires : goal.chain_refusal-refusal-requires
-chain_refusal-refusal-requires c =
-    let (corners, e) = c.requires in
-    let mesh : Mesh =
-    mesh_now c.args.counts c.args.positions.now corners c.args.links.now c.args.generations.now c.args.locks.now in
-    let triangle_is : c.triangle_refusal-refused.result ≡ triangle_refusal c.args.t mesh =
-    c.triangle_refusal-refused.ensures mesh.positions corners mesh.locks e in
-    let (S, l) = refine_stands c.args.t mesh _ triangle_is c.if-refused-ne0.false in
-    follows S l (c.base_chain-chain.ensures c.args.counts corners)
+pub check_chain-requires : goal.check_chain-requires
+check_chain-requires c =
+    let m = mesh_of (goal.at.check_chain-requires c).After-check_triangle in
+    let (S, l) = refine_stands c.args.t m 0 (passed (goal.at.check_chain-requires c).In_ok-check_triangle) refl in
+    follows S l (c.base_chain-chain.ensures c.args.counts)
+
+pub returns-in_err-check_chain : goal.returns-in_err-check_chain
+returns-in_err-check_chain c =
+    let m = mesh_of (goal.at.returns-in_err-check_chain c).After-check_triangle in
+    let C = c.base_chain-chain.ensures c.args.counts in
+    let q = c.in_err-check_chain.ensures c.args.t C in
+    let p = passed (goal.at.returns-in_err-check_chain c).In_ok-check_triangle in
+    let (r, e, f) = err_from_is_err_and c.from_residual-in_err-check_chain.result c.from_residual-in_err-check_chain.ensures.1 in
+    rw (e, f) (refine_chain c.args.t m 0 p refl _ (rw (← C.odd, ← C.rim) q), tt)
 
 pub returns : goal.returns
-returns c corners e =
-    let mesh : Mesh =
-    mesh_now c.args.counts c.args.positions.now corners c.args.links.now c.args.generations.now c.args.locks.now in
-    let triangle_is : c.triangle_refusal-refused.result ≡ triangle_refusal c.args.t mesh =
-    c.triangle_refusal-refused.ensures mesh.positions corners mesh.locks e in
-    let C = c.base_chain-chain.ensures c.args.counts corners in record {
-      refusal =
-          refine_chain c.args.t mesh _ triangle_is c.if-refused-ne0.false _
-          (rw (← C.odd, ← C.rim) (c.chain_refusal-refusal.ensures c.args.t corners C));
-      chain = λ _. C;
-    }
+returns c =
+    let m = mesh_of (goal.at.returns c).After-check_triangle in
+    let C = c.base_chain-chain.ensures c.args.counts in
+    let q = c.in_ok-check_chain.ensures c.args.t C in
+    let p = passed (goal.at.returns c).In_ok-check_triangle in
+    (refine_chain c.args.t m 0 p refl 0 (rw (← C.odd, ← C.rim) q), C)

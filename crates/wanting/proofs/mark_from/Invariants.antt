@@ -1,5 +1,4 @@
 use mathlib.Core.Path.{◌≡◌}
-use Prim.Native.Nat.{◌-◌}
 use Rattle.rules.specs.Boxes.{Box}
 use Rattle.rules.specs.Tables.{Mesh}
 use Rattle.wanting.specs.Wanting.{Looks}
@@ -10,6 +9,3 @@ abbrev pub invariant-loop-t : goal.invariant-loop-t
 invariant-loop-t l =
     (b : Box) (m : Mesh) → Looks b m l.corners l.generations l.inside l.below → l.triangles ≡ m.topology.triangles
     → MarkedTo l.from l.t b m l.initial.bits l.bits l.words
-
-abbrev pub decreases-loop-t : goal.decreases-loop-t
-decreases-loop-t l = l.triangles - l.t

@@ -1,4 +1,4 @@
-use Prim.Native.Nat.{◌-◌, ◌≤◌, ◌<◌}
+use Prim.Native.Nat.{◌≤◌, ◌<◌}
 use Rattle.wanting.specs.Wanting.{SeenFrom}
 use Rattle.wanting.proofs.mark_inside.Given as goal
 
@@ -7,6 +7,3 @@ invariant-loop-v l =
     (l.from ≤ l.v)
     × (l.vertices < l.v → l.v ≤ l.from)
     × SeenFrom l.from l.v l.low l.high l.positions l.initial.inside l.inside
-
-abbrev pub decreases-loop-v : goal.decreases-loop-v
-decreases-loop-v l = l.vertices - l.v

@@ -5,25 +5,25 @@ use Rattle.wanting.proofs.Marking.{mended_begins, mended_on, mended_past, mended
 use Rattle.wanting.proofs.mend.Goals as goal
 use Rattle.wanting.proofs.mend.Goals.{then-t-triangles, else-t-triangles}
 
-pub loop-i-init : goal.loop-i-init
-loop-i-init c =
-    let ((_, _, Y, F, _), _) = c.requires in
+pub loop-t-init : goal.loop-t-init
+loop-t-init c =
+    let (_, _, Y, F, _) = c.requires in
     λ b m X e. mended_begins (fit_for X Y F)
 
 pub is_wanted-on-requires : goal.is_wanted-on-requires
 is_wanted-on-requires c =
-    let ((b, m, X, _, e), _) = c.requires in
+    let (b, m, X, _, e) = c.requires in
     (b, m, X, omega (arith, c.if-t-triangles.true))
 
 pub mark-requires : goal.mark-requires
 mark-requires c =
-    let ((b, m, X, _, e), _) = c.requires in
-    let F = (c.loop-i.invariant b m X e).fit in
+    let (b, m, X, _, e) = c.requires in
+    let F = (c.loop-t.invariant b m X e).fit in
     (F.levels, has_mark X F (omega (arith, c.if-t-triangles.true)))
 
-pub loop-i-preserved : goal.loop-i-preserved
-loop-i-preserved c b m X e =
-    let M = c.loop-i.invariant b m X e in
+pub loop-t-preserved : goal.loop-t-preserved
+loop-t-preserved c b m X e =
+    let M = c.loop-t.invariant b m X e in
     elim c.if-t-triangles.branch [
       | then-t-triangles w ↦
           let u = slot_used e w.if-t-triangles.true in
@@ -35,4 +35,4 @@ loop-i-preserved c b m X e =
 
 pub returns : goal.returns
 returns c b m X e =
-    mended_ends (c.loop-i.invariant b m X e) c.loop-i-test.false
+    mended_ends (c.loop-t.invariant b m X e) c.loop-t-test.false

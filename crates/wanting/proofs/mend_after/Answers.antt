@@ -1,8 +1,7 @@
 -- `wanting::mend_after` meets its contract: the new slots first, then those that were in use.
 use mathlib.Core.Path.{subst}
 use Prim.Native.Nat.{ℕ, ◌≤◌}
-use native.Mathlib.Omega.{arith}
-use Rattle.refining.proofs.Locking.{few_odd}
+use Rattle.wanting.proofs.Marking.{mended_ends}
 use Rattle.wanting.proofs.Turn.{none_past, marks_right, fit_after, near_long}
 use Rattle.wanting.proofs.mend_after.Goals as goal
 
@@ -16,17 +15,15 @@ mark_from-requires c =
 pub mend-requires : goal.mend-requires
 mend-requires c =
     let (b, t, x, y, X, K, e, f) = c.requires in
-    ((b, y, K, (c.mark_from.ensures b y K f).fit, f), near_long x.topology _ X.near_is)
+    (b, y, K, (c.mark_from.ensures b y K f).fit, f)
 
 pub mend-requires-2 : goal.mend-requires-2
 mend-requires-2 c =
     let (b, t, x, y, X, K, e, f) = c.requires in
-    let F = X.refines.found in (
-      (b, y, K, (c.mend.ensures b y K f).fit, f),
-      omega (arith, few_odd F.sound F.in_use, X.odd_is, X.room),
-    )
+    (b, y, K, (c.mend.ensures b y K f).fit, f)
 
 pub returns : goal.returns
 returns c b t x y X K e f =
     let A = c.mark_from.ensures b y K f in
-    marks_right X (rw e at A) (c.mend.ensures b y K f) (c.mend-2.ensures b y K f)
+    let near = mended_ends (c.mend.ensures b y K f) (near_long x.topology _ X.near_is) in
+    marks_right X (rw e at A) near (c.mend-2.ensures b y K f)
