@@ -19,6 +19,7 @@ use tables::{Counts, View};
 mod surface;
 
 // Whether the tables agree in their slots and keep to the maxima. The counts do not matter.
+#[tactic(auto, unfolding(rules::specs::Tables::tables_agree))]
 pub fn tables_agree(view: &View) -> bool
     ensures { (n : Counts) → result ≡ tables_agree (mesh_with n (seen view.now)) }
 {
@@ -89,6 +90,7 @@ fn locks_fit(locks: &[u8], n: usize) -> bool
 
 // The side where the ring of v starts, or the number of sides, where v has no ring; none where the tables are not
 // sound.
+#[tactic(auto, using(crate::proofs::Parts::parts))]
 pub fn sound_start(view: &View, counts: Counts, v: u32) -> Option<u32>
     ensures { let m = mesh_with counts (seen view.now) in result ≡ start_if (is_sound m) m.topology v }
 {

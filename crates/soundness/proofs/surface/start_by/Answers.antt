@@ -70,21 +70,6 @@ module _ (m : Topology) (few : sides m < boundary) (fitted : all m.triangles (tr
   glued : Glued m
   glued = sides_glued m few triangles
 
-pub returns-then-not-triangles_fit : goal.returns-then-not-triangles_fit
-returns-then-not-triangles_fit c =
-    let none = sym c.triangles_fit.ensures.value ∙ c.if-not-triangles_fit.true in rw none refl
-
-pub fans-requires : goal.fans-requires
-fans-requires c =
-    let A = c.triangles_fit.ensures.all_kept c.if-not-triangles_fit.false in
-    record {
-      few_vertices = c.requires.room.1;
-      few_triangles = omega (arith, c.requires.room.0.few_slots, c.requires.room.0.triangle_room);
-      link_room = omega (arith, c.requires.room.0.link_room, c.requires.room.0.triangle_room);
-      start_room = A.size;
-      in_use = λ v l. (A.each v l).begun.in_use;
-    }
-
 pub returns-then-not-fans : goal.returns-then-not-fans
 returns-then-not-fans c =
     let m : Topology = topology_with c.args.counts (seen c.args.view.now) in
