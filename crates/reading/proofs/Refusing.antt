@@ -1,5 +1,5 @@
 -- The first refusal of a call that reads, found test by test.
-use Rattle.std.proofs.Common.{ℕ, ◌*◌, ◌<◌, ◌≤◌, Bool, true, false, not, eqb, leb, ltb, List, [], ◌∷◌, length, ℤ, ◌≡◌}
+use Rattle.std.proofs.Common.{Result, Err, ℕ, ◌*◌, ◌<◌, ◌≤◌, Bool, true, false, not, eqb, leb, ltb, List, [], ◌∷◌, length, ℤ, ◌≡◌}
 use Rattle.std.proofs.Common.{◌≢◌, refl, sym, ap, ◌∙◌, le-leb, lt-ltb, le-ltb}
 use borrow.Author.Tests.{lt-leb}
 use Rattle.theory.proofs.Calls.CallRefusals.{position_refusal_first}
@@ -14,7 +14,13 @@ use Rattle.rules.specs.Calls.{position_read, position_call}
 use Rattle.rules.specs.Ring.{ring}
 use Rattle.rules.specs.Sound.{is_sound}
 use Rattle.rules.specs.Tables.{Mesh, TablesAgree, tables_agree}
+use Rattle.std.specs.Result.{IsErrAnd}
+use Rattle.std.proofs.lemmas.Result.{err_from_is_err_and}
 use Rattle.tables.specs.Lent.{point_in}
+use Rattle.tables.specs.Refusals.{number, refused}
+use Rattle.tables.specs.declared.refusals.Refusal.{Refusal}
+use Rattle.tables.proofs.Refusing.{number_some}
+use Rattle.reading.specs.Answers.{point_outcome}
 use Rattle.tables.specs.Standing.{standing, slot_refusal}
 
 pub limit_standing : (table : List ℤ) (m : Mesh) (r : ℕ) → r ≡ standing m → r ≢ 0 → r ≡ limit_refusal table m
@@ -85,3 +91,10 @@ module _ (v : ℕ) (m : Mesh) (r : ℕ) (e : r ≡ slot_refusal m.topology.verti
 
     pub position_agrees : TablesAgree m
     position_agrees = stable (tables_agree_is m) (none_hold (position_refusal_first v m) (sym of_position ∙ z) tt).0
+
+-- A refusal that is passed on.
+pub position_passed : (v : ℕ) (m : Mesh) (r : Result Point Refusal) {s : Result (Unit {0}) Refusal} {x : Refusal} → s ≡ Err x
+    → IsErrAnd r (λ y. y ≡ x) → refused s ≡ slot_refusal m.topology.vertices v m → point_outcome r m ≡ position_call v m
+position_passed v m r was q e =
+    let (y, is, same) = err_from_is_err_and r q in
+    rw is (position_refused v m (number y) (ap number same ∙ sym (ap refused was) ∙ e) (number_some y))

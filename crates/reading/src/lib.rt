@@ -3,12 +3,15 @@
 
 ghost use Rattle.std.specs.Prelude.{◌≡◌, MatchResult};
 ghost use Rattle.rules.specs.Calls.{limit_call, ring_call, position_call};
-ghost use Rattle.tables.specs.Lent.{mesh_now};
-ghost use Rattle.reading.specs.Answers.{limit_outcome, number_of, Refused, Found, ring_outcome, position_outcome};
+ghost use Rattle.tables.specs.Answers.{table_outcome};
+ghost use Rattle.tables.specs.Lent.{seen, mesh_with};
+ghost use Rattle.tables.specs.Refusals.{number, refused};
+ghost use Rattle.reading.specs.Answers.{limit_outcome, Refused, Found, ring_outcome, position_outcome, point_outcome};
 ghost use Rattle.reading.specs.Answers.{point_or_zero};
 
 use points::Point;
-use tables::Counts;
+use tables::refusals::Refusal;
+use tables::{Counts, View};
 
 // The answer of ring.
 // Kept: the C interface answers a number, 0 for none.
@@ -51,46 +54,26 @@ pub fn point_of(positions: &[i32], v: u32) -> Point
     }
 }
 
-// Writes the limit position of each vertex into the table.
-pub fn limit(
-    positions: &[i32],
-    corners: &[u32],
-    links: &[u32],
-    generations: &[u8],
-    locks: &[u8],
-    counts: Counts,
-    table: &mut [i32],
-) -> LimitRead
-    ensures { limit_outcome result positions.now corners.now links.now
-        generations.now locks.now table.new
-        ≡ limit_call table.old (mesh_now counts positions.now corners.now
-        links.now generations.now locks.now) }
+// Writes the limit position of each vertex into the table, unless that is refused.
+fn write_limits(view: &View, counts: Counts, table: &mut [i32]) -> Result<(), Refusal>
+    ensures { let m = mesh_with counts (seen view.now) in
+        table_outcome (refused result) m table.new ≡ limit_call table.old m }
 {
-    let bad = soundness::first_refusal(positions, corners, links, generations, locks, counts);
-    if bad != 0 {
-        return LimitRead {
-            refusal: bad,
+    soundness::first_refusal(view, counts)?;
+    limits::limit_positions(view, counts, table)
+}
+
+// Writes the limit position of each vertex into the table.
+pub fn limit(view: &View, counts: Counts, table: &mut [i32]) -> LimitRead
+    ensures { limit_outcome result (seen view.now) table.new
+        ≡ limit_call table.old (mesh_with counts (seen view.now)) }
+{
+    match write_limits(view, counts, table) {
+        Ok(()) => LimitRead { refusal: 0, counts },
+        Err(refusal) => LimitRead {
+            refusal: refusal.number(),
             counts,
-        };
-    }
-    let refusal = limits::limit_positions(positions, corners, links, generations, counts, table);
-    LimitRead { refusal, counts }
-}
-
-// What refuses a ring, by its number.
-#[derive(Clone, Copy)]
-enum Refusal {
-    Tables = 1,
-    Unsound = 7,
-    NotInUse = 8,
-    BufferTooShort = 14,
-}
-
-impl From<Refusal> for u32 {
-    ghost from_gives = { λ why n. n ≡ number_of why };
-
-    fn from(why: Refusal) -> u32 {
-        why as u32
+        },
     }
 }
 
@@ -102,117 +85,78 @@ struct FoundRing {
 }
 
 // Finds the ring of vertex v for a buffer of so many entries.
-fn find_ring(
-    positions: &[i32],
-    corners: &[u32],
-    links: &[u32],
-    generations: &[u8],
-    locks: &[u8],
-    counts: Counts,
-    v: u32,
-    room: usize,
-) -> Result<FoundRing, Refusal>
-    ensures { let m = mesh_now counts positions.now corners.now links.now
-        generations.now locks.now in
-        MatchResult result (λ ring. Found v room m ring) (λ why. Refused v room (number_of why) m) }
+fn find_ring(view: &View, counts: Counts, v: u32, room: usize) -> Result<FoundRing, Refusal>
+    ensures { let m = mesh_with counts (seen view.now) in
+        MatchResult result (λ ring. Found v room m ring) (λ refusal. Refused v room (number refusal) m) }
 {
-    if !soundness::tables_agree(positions, corners, links, generations, locks) {
-        return Err(Refusal::Tables);
+    if !soundness::tables_agree(view) {
+        return Err(Refusal::TablesDisagree);
     }
-    let start = soundness::sound_start(
-        positions,
-        corners,
-        links,
-        generations,
-        locks,
-        counts.vertices,
-        counts.triangles,
-        counts.rule,
-        v,
-    );
-    if start == 0 {
-        return Err(Refusal::Unsound);
-    }
+    let Some(first) = soundness::sound_start(view, counts, v) else {
+        return Err(Refusal::NotSound);
+    };
     if counts.vertices <= v {
         return Err(Refusal::NotInUse);
     }
-    let first = start - 1;
-    let length = rings::ring_length(links, counts.triangles, first);
+    let length = rings::ring_length(view.links, counts.triangles, first);
     if room < length as usize {
-        return Err(Refusal::BufferTooShort);
+        return Err(Refusal::BufferShort);
     }
     Ok(FoundRing { first, length })
 }
 
 // Reads the ring of vertex v into the front of the buffer.
-pub fn ring(
-    positions: &[i32],
-    corners: &[u32],
-    links: &[u32],
-    generations: &[u8],
-    locks: &[u8],
-    counts: Counts,
-    v: u32,
-    buffer: &mut [u32],
-) -> RingRead
-    ensures { ring_outcome result positions.now corners.now links.now
-        generations.now locks.now buffer.new
-        ≡ ring_call v buffer.old (mesh_now counts positions.now corners.now
-        links.now generations.now locks.now) }
+pub fn ring(view: &View, counts: Counts, v: u32, buffer: &mut [u32]) -> RingRead
+    ensures { ring_outcome result (seen view.now) buffer.new
+        ≡ ring_call v buffer.old (mesh_with counts (seen view.now)) }
 {
-    match find_ring(
-        positions,
-        corners,
-        links,
-        generations,
-        locks,
-        counts,
-        v,
-        buffer.len(),
-    ) {
+    match find_ring(view, counts, v, buffer.len()) {
         Ok(found) => {
-            rings::write_ring(corners, links, counts.triangles, found.first, buffer);
+            rings::write_ring(
+                view.corners,
+                view.links,
+                counts.triangles,
+                found.first,
+                buffer,
+            );
             RingRead {
                 refusal: 0,
                 length: found.length,
                 counts,
             }
         }
-        Err(why) => RingRead {
-            refusal: why.into(),
+        Err(refusal) => RingRead {
+            refusal: refusal.number(),
             length: 0,
             counts,
         },
     }
 }
 
-// Reads the position of vertex v.
-pub fn position(
-    positions: &[i32],
-    corners: &[u32],
-    links: &[u32],
-    generations: &[u8],
-    locks: &[u8],
-    counts: Counts,
-    v: u32,
-) -> PositionRead
-    ensures { position_outcome result positions.now corners.now links.now
-        generations.now locks.now
-        ≡ position_call v (mesh_now counts positions.now corners.now links.now
-        generations.now locks.now) }
+// Finds the position of vertex v.
+fn find_position(view: &View, counts: Counts, v: u32) -> Result<Point, Refusal>
+    ensures { let m = mesh_with counts (seen view.now) in point_outcome result m ≡ position_call v m }
 {
-    let bad = soundness::first_refusal(positions, corners, links, generations, locks, counts);
-    let refusal = soundness::slot_refusal(counts.vertices, v, bad);
-    if refusal != 0 {
-        return PositionRead {
-            refusal,
+    let stands = soundness::first_refusal(view, counts);
+    soundness::slot_refusal(counts.vertices, v, stands)?;
+    Ok(tables::point_at(view.positions, v))
+}
+
+// Reads the position of vertex v.
+pub fn position(view: &View, counts: Counts, v: u32) -> PositionRead
+    ensures { position_outcome result (seen view.now)
+        ≡ position_call v (mesh_with counts (seen view.now)) }
+{
+    match find_position(view, counts, v) {
+        Ok(point) => PositionRead {
+            refusal: 0,
+            point,
+            counts,
+        },
+        Err(refusal) => PositionRead {
+            refusal: refusal.number(),
             point: Point { x: 0, y: 0, z: 0 },
             counts,
-        };
-    }
-    PositionRead {
-        refusal: 0,
-        point: tables::point_at(positions, v),
-        counts,
+        },
     }
 }

@@ -1,5 +1,5 @@
 -- The rim of a vertex is found: what each test tells; and the outcome of its curve.
-use Rattle.std.proofs.Common.{ℕ, ◌-◌, ◌*◌, ◌<◌, ◌≤◌, arith, Bool, true, false, not, leb, ltb, List, [], ◌∷◌, length}
+use Rattle.std.proofs.Common.{Some, None, ℕ, ◌*◌, ◌<◌, ◌≤◌, arith, Bool, true, false, not, leb, ltb, List, [], ◌∷◌, length}
 use Rattle.std.proofs.Common.{ℤ, ◌≡◌, ◌≢◌, refl, ap, ◌∙◌, subst, le-leb, lt-ltb, le-ltb}
 use borrow.Author.Tests.{lt-leb}
 use Rattle.theory.proofs.Calls.CallRefusals.{on_rim_is}
@@ -15,14 +15,22 @@ use Rattle.rules.specs.Rim.{on_rim, rim, curve_at, curve_refusal, curve_read, cu
 use Rattle.rules.specs.Ring.{first_side}
 use Rattle.rules.specs.Sound.{Sound, is_sound}
 use Rattle.rules.specs.Tables.{Topology, Mesh, tables_agree, sides, origin, boundary, link}
-use Rattle.soundness.proofs.Answers.{start_none, start_some}
 use Rattle.soundness.specs.Parts.{start_if}
 use Rattle.rim.proofs.Writing.{few}
-use Rattle.rim.specs.Traced.{OnRimSide, Closes, Traced, number_of, Refused, Found}
+use Rattle.tables.specs.Refusals.{number}
+use Rattle.tables.specs.declared.refusals.Refusal.{Refusal}
+use Rattle.tables.proofs.Refusing.{number_some}
+use Rattle.rim.specs.Traced.{OnRimSide, Closes, Traced, Refused, Found}
 use Rattle.rim.specs.declared.FoundRim.{FoundRim}
-use Rattle.rim.specs.declared.Refusal.{Refusal}
-use Rattle.rim.specs.declared.Refusal.TheVariants.{Tables, Unsound, NotInUse, NotOnRim, TableTooShort}
 use Rattle.rim.specs.declared.Trace.{Trace}
+
+start_none : (b : Bool) (m : Topology) (v : ℕ) → None ≡ start_if b m v → b ≡ false
+start_none true m v e = cc
+start_none false m v e = refl
+
+start_some : (b : Bool) (m : Topology) (v : ℕ) {k : ℕ} → Some k ≡ start_if b m v → (b ≡ true) × (k ≡ first_side m v)
+start_some true m v e = (refl, cc)
+start_some false m v e = cc
 
 module _ (v room : ℕ) (m : Mesh) where
   abbrev t : Topology
@@ -38,17 +46,17 @@ module _ (v room : ℕ) (m : Mesh) where
   pub finds_one : tables_agree m ≡ false → Refused v room 1 m
   finds_one a = record { first = λ b _. by_tests b a refl refl refl refl }
 
-  module _ (a : tables_agree m ≡ true) {start : ℕ} (s : start ≡ start_if (is_sound m) t v) where
-    pub finds_seven : start ≡ 0 → Refused v room 7 m
-    finds_seven z =
-        record { first = λ b _. by_tests b a (start_none (is_sound m) t v s z) refl refl refl }
+  module _ (a : tables_agree m ≡ true) where
+    pub finds_seven : None ≡ start_if (is_sound m) t v → Refused v room 7 m
+    finds_seven s =
+        record { first = λ b _. by_tests b a (start_none (is_sound m) t v s) refl refl refl }
 
-    module _ (some : start ≢ 0) where
+    module _ {start : ℕ} (s : Some start ≡ start_if (is_sound m) t v) where
       sound : is_sound m ≡ true
-      sound = (start_some (is_sound m) t v s some).0
+      sound = (start_some (is_sound m) t v s).0
 
-      first : start - 1 ≡ first_side t v
-      first = let e = (start_some (is_sound m) t v s some).1 in omega arith
+      first : start ≡ first_side t v
+      first = (start_some (is_sound m) t v s).1
 
       pub finds_eight : t.vertices ≤ v → Refused v room 8 m
       finds_eight l =
@@ -61,35 +69,35 @@ module _ (v room : ℕ) (m : Mesh) where
         R : RingMakes t v
         R = ring_makes S v l
 
-        first_in_use : start - 1 < sides t
+        first_in_use : start < sides t
         first_in_use = rw first (subst (λ (h : ℕ). h < sides t) R.first (R.in_use 0 R.some))
 
-        pub first_read : start - 1 < length t.links
+        pub first_read : start < length t.links
         first_read = omega (arith, first_in_use, S.tables.links, S.triangle_room)
 
-        pub finds_twenty_four : link t (start - 1) ≢ boundary → Refused v room 24 m
+        pub finds_twenty_four : link t start ≢ boundary → Refused v room 24 m
         finds_twenty_four n =
             let off = is_same (on_rim_is t v) (is_false (λ x. n (ap (λ (h : ℕ). link t h) first ∙ R.start.0 x))) in
             record { first = λ b _. by_tests b a sound (lt-leb _ _ l) off refl }
 
-        module _ (e : link t (start - 1) ≡ boundary) where
-          out : origin t (start - 1) ≡ v
+        module _ (e : link t start ≡ boundary) where
+          out : origin t start ≡ v
           out = ap (λ (h : ℕ). origin t h) first ∙ R.starts_out
 
           on : on_rim t v ≡ true
-          on = is_same (on_rim_is t v) (is_true (start - 1, first_in_use, out, e))
+          on = is_same (on_rim_is t v) (is_true (start, first_in_use, out, e))
 
-          pub first_on_rim : OnRimSide t (start - 1)
+          pub first_on_rim : OnRimSide t start
           first_on_rim = record {
             manifold = sound_manifold S;
             side = record { in_use = first_in_use; out = refl; edge = e };
           }
 
-          module _ {trace : Trace} (follows : OnRimSide t (start - 1) → Closes t (start - 1) trace) where
-            C : Closes t (start - 1) trace
+          module _ {trace : Trace} (follows : OnRimSide t start → Closes t start trace) where
+            C : Closes t start trace
             C = follows first_on_rim
 
-            traced : Traced m (start - 1) trace
+            traced : Traced m start trace
             traced = record { sound = S; on_rim = first_on_rim; closes = C }
 
             pub few_on_rim : trace.length ≤ 32768
@@ -105,7 +113,7 @@ module _ (v room : ℕ) (m : Mesh) where
                       by_tests b a sound (lt-leb _ _ l) on (lt-ltb (length b) (9 * length (rim t v)) (omega (arith, size)));
                 }
 
-            pub finds : 9 * trace.length ≤ room → Found v room m (record { first = start - 1; trace = trace })
+            pub finds : 9 * trace.length ≤ room → Found v room m (record { first = start; trace = trace })
             finds k = record {
               traced = traced;
               from = out;
@@ -116,20 +124,13 @@ module _ (v room : ℕ) (m : Mesh) where
               };
             }
 
-some : (e : Refusal) → number_of e ≢ 0
-some Tables z = omega arith
-some Unsound z = omega arith
-some NotInUse z = omega arith
-some NotOnRim z = omega arith
-some TableTooShort z = omega arith
-
 module _ (v : ℕ) (table : List ℤ) (m : Mesh) where
-  pub curve_refused : (e : Refusal) → Refused v (length table) (number_of e) m
-      → refused_with (number_of e) m (table_room table) ≡ curve_call v table m
+  pub curve_refused : (e : Refusal) → Refused v (length table) (number e) m
+      → refused_with (number e) m (table_room table) ≡ curve_call v table m
   unfolding curve_call
   curve_refused e R =
-      refuses m (table_room table) (curve_read v table m) (curve_refusal v table m) (number_of e) (R.first table refl)
-      (some e)
+      refuses m (table_room table) (curve_read v table m) (curve_refusal v table m) (number e) (R.first table refl)
+      (number_some e)
 
   -- The curve as it is written and answered, from its first side.
   pub curve_carried : {a : FoundRim} {after : List ℤ} → Found v (length table) m a

@@ -6,13 +6,15 @@ ghost use Rattle.rules.specs.Below.{fill};
 ghost use Rattle.rules.specs.Rim.{rim, curve_at, curve_call};
 ghost use Rattle.rules.specs.Ring.{first_side};
 ghost use Rattle.rules.specs.Tables.{next, origin, target, topology_of};
-ghost use Rattle.tables.specs.Lent.{mesh_now};
+ghost use Rattle.tables.specs.Lent.{seen, mesh_with};
+ghost use Rattle.tables.specs.Refusals.{number};
 ghost use Rattle.tables.specs.declared.Counts.{Counts};
-ghost use Rattle.rim.specs.Traced.{OnRimSide, Closes, Traced, three_points, number_of, Refused, Found, curve_outcome};
+ghost use Rattle.rim.specs.Traced.{OnRimSide, Closes, Traced, three_points, Refused, Found, curve_outcome};
 
 use points::Point;
+use tables::refusals::Refusal;
 use tables::sides::next;
-use tables::{BOUNDARY, Counts};
+use tables::{BOUNDARY, Counts, View};
 
 // The answer of curve: how many vertices the rim has.
 #[repr(C)]
@@ -21,24 +23,6 @@ pub struct RimRead {
     pub refusal: u32,
     pub length: u32,
     pub counts: Counts,
-}
-
-// What refuses a curve, by its number.
-#[derive(Clone, Copy)]
-enum Refusal {
-    Tables = 1,
-    Unsound = 7,
-    NotInUse = 8,
-    NotOnRim = 24,
-    TableTooShort = 25,
-}
-
-impl From<Refusal> for u32 {
-    ghost from_gives = { λ why n. n ≡ number_of why };
-
-    fn from(why: Refusal) -> u32 {
-        why as u32
-    }
 }
 
 // A rim from one of its sides on: how many vertices it has, and its side back to the first.
@@ -117,21 +101,20 @@ fn store_three(table: &mut [i32], i: u32, a: Point, b: Point, c: Point)
 }
 
 // Writes the curve of the rim from its side `first` on to the front of the table.
-fn write_curve(
-    positions: &[i32],
-    corners: &[u32],
-    links: &[u32],
-    first: usize,
-    trace: Trace,
-    table: &mut [i32],
-)
-    requires { (9 * trace.length ≤ length table.old) × ((n : Counts) × (g k : List ℕ) ×
-        Traced (mesh_now n positions.now corners.now links.now g k) first trace) }
-    ensures { (n : Counts) (g k : List ℕ) →
-        let m = mesh_now n positions.now corners.now links.now g k in
+fn write_curve(view: &View, first: usize, trace: Trace, table: &mut [i32])
+    requires { (9 * trace.length ≤ length table.old)
+        × ((n : Counts) × Traced (mesh_with n (seen view.now)) first trace) }
+    ensures { (n : Counts) →
+        let m = mesh_with n (seen view.now) in
         Traced m first trace → table.new
         ≡ fill (9 * trace.length) (curve_at m (rim m.topology (origin m.topology first))) table.old }
 {
+    let View {
+        positions,
+        corners,
+        links,
+        ..
+    } = *view;
     let last = trace.last;
     let mut before = tables::point_in(positions, corners[last]);
     let mut this = tables::point_in(positions, corners[first]);
@@ -146,87 +129,46 @@ fn write_curve(
 }
 
 // Finds the rim of vertex v for a table of so many entries.
-fn find_rim(
-    positions: &[i32],
-    corners: &[u32],
-    links: &[u32],
-    generations: &[u8],
-    locks: &[u8],
-    counts: Counts,
-    v: u32,
-    room: usize,
-) -> Result<FoundRim, Refusal>
-    ensures { let m = mesh_now counts positions.now corners.now links.now
-        generations.now locks.now in
-        MatchResult result (λ rim. Found v room m rim) (λ why. Refused v room (number_of why) m) }
+fn find_rim(view: &View, counts: Counts, v: u32, room: usize) -> Result<FoundRim, Refusal>
+    ensures { let m = mesh_with counts (seen view.now) in
+        MatchResult result (λ rim. Found v room m rim) (λ refusal. Refused v room (number refusal) m) }
 {
-    if !soundness::tables_agree(positions, corners, links, generations, locks) {
-        return Err(Refusal::Tables);
+    if !soundness::tables_agree(view) {
+        return Err(Refusal::TablesDisagree);
     }
-    let start = soundness::sound_start(
-        positions,
-        corners,
-        links,
-        generations,
-        locks,
-        counts.vertices,
-        counts.triangles,
-        counts.rule,
-        v,
-    );
-    if start == 0 {
-        return Err(Refusal::Unsound);
-    }
+    let Some(start) = soundness::sound_start(view, counts, v) else {
+        return Err(Refusal::NotSound);
+    };
     if counts.vertices <= v {
         return Err(Refusal::NotInUse);
     }
-    let first = start as usize - 1;
-    if links[first] != BOUNDARY {
+    let first = start as usize;
+    if view.links[first] != BOUNDARY {
         return Err(Refusal::NotOnRim);
     }
-    let trace = trace_rim(links, first);
+    let trace = trace_rim(view.links, first);
     if room < 9 * (trace.length as usize) {
-        return Err(Refusal::TableTooShort);
+        return Err(Refusal::CurveShort);
     }
     Ok(FoundRim { first, trace })
 }
 
 // Writes the curve of the rim of vertex v, from v on, to the front of the table.
-pub fn curve(
-    positions: &[i32],
-    corners: &[u32],
-    links: &[u32],
-    generations: &[u8],
-    locks: &[u8],
-    counts: Counts,
-    v: u32,
-    table: &mut [i32],
-) -> RimRead
-    ensures { curve_outcome result positions.now corners.now links.now
-        generations.now locks.now table.new
-        ≡ curve_call v table.old (mesh_now counts positions.now corners.now
-        links.now generations.now locks.now) }
+pub fn curve(view: &View, counts: Counts, v: u32, table: &mut [i32]) -> RimRead
+    ensures { curve_outcome result (seen view.now) table.new
+        ≡ curve_call v table.old (mesh_with counts (seen view.now)) }
 {
-    match find_rim(
-        positions,
-        corners,
-        links,
-        generations,
-        locks,
-        counts,
-        v,
-        table.len(),
-    ) {
+    match find_rim(view, counts, v, table.len()) {
         Ok(rim) => {
-            write_curve(positions, corners, links, rim.first, rim.trace, table);
+            write_curve(view, rim.first, rim.trace, table);
             RimRead {
                 refusal: 0,
                 length: rim.trace.length,
                 counts,
             }
         }
-        Err(why) => RimRead {
-            refusal: why.into(),
+        Err(refusal) => RimRead {
+            refusal: refusal.number(),
             length: 0,
             counts,
         },

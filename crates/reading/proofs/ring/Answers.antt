@@ -2,10 +2,9 @@
 use Rattle.reading.proofs.FindRing.{written, refused}
 use Rattle.reading.proofs.ring.Goals as goal
 
-
 pub returns-in-Ok : goal.returns-in-Ok
 returns-in-Ok c =
-    written _ _ _ _ _ c.in-Ok.ensures (c.write_ring.ensures c.args.counts.vertices c.args.generations.now)
+    written _ _ _ _ _ c.in-Ok.ensures (c.write_ring.ensures c.args.counts.vertices c.args.view.now.generations.now)
 
 pub returns-in-Err : goal.returns-in-Err
-returns-in-Err c = rw c.into.ensures (refused _ _ _ c.in-Err.why c.in-Err.ensures)
+returns-in-Err c = rw c.number.ensures (refused _ _ _ c.in-Err.refusal c.in-Err.ensures)

@@ -4,9 +4,7 @@ use Rattle.rim.proofs.curve.Goals as goal
 
 pub returns-in-Ok : goal.returns-in-Ok
 returns-in-Ok c =
-    let F = c.in-Ok.ensures in
-    let w = c.write_curve.ensures c.args.counts c.args.generations.now c.args.locks.now F.traced in
-    curve_carried _ _ _ F w
+    curve_carried _ _ _ c.in-Ok.ensures (c.write_curve.ensures c.args.counts c.in-Ok.ensures.traced)
 
 pub returns-in-Err : goal.returns-in-Err
-returns-in-Err c = rw c.into.ensures (curve_refused _ _ _ c.in-Err.why c.in-Err.ensures)
+returns-in-Err c = rw c.number.ensures (curve_refused _ _ _ c.in-Err.refusal c.in-Err.ensures)

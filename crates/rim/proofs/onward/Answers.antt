@@ -13,7 +13,6 @@ across_next-across-requires c =
     let A = (c.loop-across.invariant v f p g R).1 in
     (at_read _ R A, side_small _ R A)
 
-
 pub loop-across-smaller : goal.loop-across-smaller
 loop-across-smaller c =
     let (v, f, p, g, R) = c.requires in
@@ -26,7 +25,6 @@ loop-across-preserved c v f p g R =
     let (i, A) = c.loop-across.invariant v f p g R in
     let (j, e, B) = at_before _ R i A (λ e. c.if-across.false (c.across_next-across.ensures ∙ e)) in
     rw c.across_next-across.ensures (j, B)
-
 
 pub returns : goal.returns
 returns c v f p g R =

@@ -4,7 +4,6 @@ use mir.Facts.{to_z-of_z}
 use Rattle.viewer.specs.View.{millimetres}
 use Rattle.viewer.proofs.millimetres.Goals as goal
 
-
 pub returns : goal.returns
 unfolding millimetres of_bits
 returns c =

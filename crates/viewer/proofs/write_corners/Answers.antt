@@ -37,8 +37,6 @@ pub loop-h-init : goal.loop-h-init
 unfolding fill
 loop-h-init c = record { size = refl; written = refl }
 
-
-
 pub loop-h-preserved : goal.loop-h-preserved
 loop-h-preserved c = record {
   size = c.store.auto.table ∙ c.loop-h.invariant.size;
