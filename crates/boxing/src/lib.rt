@@ -98,8 +98,7 @@ fn work_reported(
         ≡ report_left (refine_in_box (box_of low high below) (mesh_with counts (seen view.now))) report.old }
     ensures spares_lent { SameTables spares.new spares.old }
 {
-    let mut none = [0u32; 1];
-    let first = work_in_spares(view, counts, low, high, below, &mut none, spares);
+    let first = work_in_spares(view, counts, low, high, below, &mut [], spares);
     let fitted = refining::spares::fit(first, report.len());
     if fitted.refusal != 0 {
         return fitted;
@@ -123,8 +122,7 @@ pub fn refine_box(
     ensures lent { SameTables tables.new tables.old }
     ensures spares_lent { SameTables spares.new spares.old }
 {
-    let mut none = [0u32; 1];
-    let made = work_in_spares(&tables.view(), counts, low, high, below, &mut none, spares);
+    let made = work_in_spares(&tables.view(), counts, low, high, below, &mut [], spares);
     refining::spares::carry_back(tables, counts, made, &spares.view())
 }
 
