@@ -109,12 +109,9 @@ pub fn carry_back(
     let reached = made.counts;
     if made.refusal != 0 {
         return BatchWorked {
-            refusal: made.refusal,
-            splits: 0,
-            flips: 0,
-            counts,
             handled: made.handled,
             spares: reached,
+            ..BatchWorked::refused(made.refusal, counts)
         };
     }
     tables::copies::copy_mesh(

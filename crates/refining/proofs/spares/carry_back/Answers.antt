@@ -5,7 +5,7 @@ use Rattle.refining.proofs.spares.carry_back.Goals as goal
 
 pub returns-then-made-ne0 : goal.returns-then-made-ne0
 returns-then-made-ne0 c p s M =
-    failed_is _ M.done c.if-made-ne0.true
+    rw c.refused.ensures (failed_is _ M.done c.if-made-ne0.true)
 
 pub copy_mesh-requires : goal.copy_mesh-requires
 copy_mesh-requires c =
