@@ -98,15 +98,7 @@ fn write_note(
 {
     write_head(counts, t, slots.len(), note);
     for (i, slot) in slots.iter().enumerate() {
-        write_nine(
-            corners,
-            links,
-            generations,
-            locks,
-            *slot,
-            note,
-            4 + 9 * i,
-        );
+        write_nine(corners, links, generations, locks, *slot, note, 4 + 9 * i);
     }
 }
 
@@ -139,16 +131,7 @@ fn note_changes(
     if !report_fits {
         return Err(23);
     }
-    write_note(
-        corners,
-        links,
-        generations,
-        locks,
-        counts,
-        t,
-        listed,
-        note,
-    );
+    write_note(corners, links, generations, locks, counts, t, listed, note);
     Ok(())
 }
 

@@ -177,8 +177,26 @@ fn mend_after(
         bits,
         words,
     );
-    mend(corners, generations, inside, triangles, near, below, bits, words);
-    mend(corners, generations, inside, triangles, odd, below, bits, words);
+    mend(
+        corners,
+        generations,
+        inside,
+        triangles,
+        near,
+        below,
+        bits,
+        words,
+    );
+    mend(
+        corners,
+        generations,
+        inside,
+        triangles,
+        odd,
+        below,
+        bits,
+        words,
+    );
 }
 
 // Refines triangle t of a sound mesh, told from place `at` of the report on, and puts the marks right.

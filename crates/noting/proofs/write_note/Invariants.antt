@@ -17,4 +17,3 @@ invariant-loop-i l =
     × ((n : Counts) (p : List ℤ) (list : List ℕ) → FrontIs list l.slots (length l.slots)
     → l.note
     ≡ write_from 4 (9 * l.i) (λ h. get_or (nines_of (mesh_now n p l.corners l.links l.generations l.locks) list) h 0) l.initial.note)
-
