@@ -1,5 +1,4 @@
 -- Calls that work in spare tables: their first refusal, found test by test, and what comes of them.
-use borrow.Author.Tests.{not-true, not-false}
 use mathlib.Core.Bool.{Bool, true, false, not}
 use mathlib.Core.List.{List, [], ◌∷◌}
 use mathlib.Core.Logic.{◌≢◌}
@@ -49,17 +48,17 @@ module _ (s : Spares) (m : Mesh) (fits : Bool) where
       agree = tables_pass (tables_agree m) (is_sound m) bad e x
 
       module _ (q : Bool) (b : q ≡ same_sizes s m) where
-        pub work_seventeen : not q ≡ true → 17 ≡ work_refusal fits s m
-        work_seventeen y = by_tests agree (sym b ∙ not-true q y) refl refl
+        pub work_seventeen : q ≡ false → 17 ≡ work_refusal fits s m
+        work_seventeen y = by_tests agree (sym b ∙ y) refl refl
 
-        module _ (y : not q ≡ false) where
-          pub work_eighteen : not fits ≡ true → 18 ≡ work_refusal fits s m
-          work_eighteen z = by_tests agree (sym b ∙ not-false q y) (not-true fits z) refl
+        module _ (y : q ≡ true) where
+          pub work_eighteen : fits ≡ false → 18 ≡ work_refusal fits s m
+          work_eighteen z = by_tests agree (sym b ∙ y) z refl
 
-          pub work_sound : not fits ≡ false → bad ≡ work_refusal fits s m
+          pub work_sound : fits ≡ true → bad ≡ work_refusal fits s m
           work_sound z =
               e ∙ sound_alone (tables_agree m) (is_sound m) agree
-              ∙ by_tests agree (sym b ∙ not-false q y) (not-false fits z) refl
+              ∙ by_tests agree (sym b ∙ y) z refl
 
 -- ---- before the work of a box
 
