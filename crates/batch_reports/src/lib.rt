@@ -6,56 +6,31 @@ ghost use Rattle.std.specs.Prelude.{◌≡◌};
 ghost use Rattle.points.specs.Axes.{box_of};
 ghost use Rattle.rules.specs.Calls.{with_report};
 ghost use Rattle.rules.specs.Reports.{in_box, reported_call, report_foreseen};
-ghost use Rattle.tables.specs.Lent.{mesh_now, spares_now};
+ghost use Rattle.tables.specs.Lent.{mesh_with, held, seen, SameTables};
 ghost use Rattle.refining.specs.Batches.{batch_outcome};
 ghost use Rattle.foreseeing.specs.Foreseen.{foreseen_outcome};
 
 use foreseeing::{BatchForeseen, ForeseenReported};
 use points::Point;
 use refining::spares::{BatchReported, BatchWorked};
-use tables::Counts;
+use tables::{Counts, Tables, View};
 
 // Foresees what refine_list would answer, leave in the spare tables and report. The mesh is only read.
 pub fn preview(
-    positions: &[i32],
-    corners: &[u32],
-    links: &[u32],
-    generations: &[u8],
-    locks: &[u8],
+    view: &View,
     counts: Counts,
     list: &[u32],
     report: &mut [u32],
-    spare_positions: &mut [i32],
-    spare_corners: &mut [u32],
-    spare_links: &mut [u32],
-    spare_generations: &mut [u8],
-    spare_locks: &mut [u8],
+    spares: &mut Tables,
 ) -> ForeseenReported
-    ensures { let m = mesh_now counts positions.now corners.now links.now
-        generations.now locks.now in
-        with_report report.new result.reported (foreseen_outcome result.foreseen m
-        (spares_now spare_positions.new spare_corners.new spare_links.new
-        spare_generations.new spare_locks.new))
-        ≡ report_foreseen list.now (spares_now spare_positions.old spare_corners.old spare_links.old
-        spare_generations.old spare_locks.old)
+    ensures done { let m = mesh_with counts (seen view.now) in
+        with_report report.new result.reported (foreseen_outcome result.foreseen m (held spares.new))
+        ≡ report_foreseen list.now (held spares.old)
         report.old m }
+    ensures spares_lent { SameTables spares.new spares.old }
 {
-    let bad = soundness::first_refusal(positions, corners, links, generations, locks, counts);
-    let refusal = lending::refusal(
-        positions,
-        corners,
-        links,
-        generations,
-        locks,
-        counts,
-        bad,
-        true,
-        spare_positions,
-        spare_corners,
-        spare_links,
-        spare_generations,
-        spare_locks,
-    );
+    let bad = soundness::first_refusal(view, counts);
+    let refusal = lending::refusal(view, counts, bad, true, spares);
     if refusal != 0 {
         let foreseen = BatchForeseen::refused(refusal, counts);
         return ForeseenReported {
@@ -63,66 +38,33 @@ pub fn preview(
             reported: 0,
         };
     }
-    foreseeing::preview_reported(
-        positions,
-        corners,
-        links,
-        generations,
-        locks,
-        counts,
-        list,
-        report,
-        spare_positions,
-        spare_corners,
-        spare_links,
-        spare_generations,
-        spare_locks,
-    )
+    foreseeing::preview_reported(view, counts, list, report, spares)
 }
 
 // Refines the triangles that have a corner in the box, the lowest slot first, until none of them is below the
 // generation: all of it, or nothing of the mesh. The work is done in the spare tables.
 pub fn refine_box(
-    positions: &mut [i32],
-    corners: &mut [u32],
-    links: &mut [u32],
-    generations: &mut [u8],
-    locks: &mut [u8],
+    tables: &mut Tables,
     counts: Counts,
     low: Point,
     high: Point,
     below: u32,
     report: &mut [u32],
-    spare_positions: &mut [i32],
-    spare_corners: &mut [u32],
-    spare_links: &mut [u32],
-    spare_generations: &mut [u8],
-    spare_locks: &mut [u8],
+    spares: &mut Tables,
 ) -> BatchReported
-    ensures { with_report report.new result.reported (batch_outcome result.worked positions.new corners.new links.new
-        generations.new locks.new
-        (spares_now spare_positions.new spare_corners.new spare_links.new
-        spare_generations.new spare_locks.new))
-        ≡ reported_call (in_box (box_of low high below) (spares_now spare_positions.old spare_corners.old spare_links.old
-        spare_generations.old spare_locks.old))
-        report.old (mesh_now counts positions.old corners.old
-        links.old generations.old locks.old) }
+    ensures done { with_report report.new result.reported (batch_outcome result.worked (held tables.new) (held spares.new))
+        ≡ reported_call (in_box (box_of low high below) (held spares.old))
+        report.old (mesh_with counts (held tables.old)) }
+    ensures lent { SameTables tables.new tables.old }
+    ensures spares_lent { SameTables spares.new spares.old }
 {
-    let bad = soundness::first_refusal(positions, corners, links, generations, locks, counts);
+    let bad = soundness::first_refusal(tables, counts);
     let refusal = lending::refusal(
-        positions,
-        corners,
-        links,
-        generations,
-        locks,
+        tables,
         counts,
         bad,
         points::box_fits(low, high, below),
-        spare_positions,
-        spare_corners,
-        spare_links,
-        spare_generations,
-        spare_locks,
+        spares,
     );
     if refusal != 0 {
         let worked = BatchWorked::refused(refusal, counts);
@@ -131,21 +73,5 @@ pub fn refine_box(
             reported: 0,
         };
     }
-    boxing::refine_box_reported(
-        positions,
-        corners,
-        links,
-        generations,
-        locks,
-        counts,
-        low,
-        high,
-        below,
-        report,
-        spare_positions,
-        spare_corners,
-        spare_links,
-        spare_generations,
-        spare_locks,
-    )
+    boxing::refine_box_reported(tables, counts, low, high, below, report, spares)
 }

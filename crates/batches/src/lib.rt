@@ -4,172 +4,66 @@
 
 ghost use Rattle.std.specs.Prelude.{◌≡◌};
 ghost use Rattle.rules.specs.Lists.{list_call, preview_call};
-ghost use Rattle.tables.specs.Lent.{mesh_now, spares_now};
+ghost use Rattle.tables.specs.Lent.{mesh_with, held, seen, SameTables};
 ghost use Rattle.refining.specs.Batches.{batch_outcome};
 ghost use Rattle.foreseeing.specs.Foreseen.{foreseen_outcome};
 ghost use Rattle.tables.specs.Standing.{standing};
 
 use foreseeing::BatchForeseen;
 use refining::spares::BatchWorked;
-use tables::Counts;
+use tables::{Counts, Tables, View};
 
 // The same as refine_list, on a mesh whose first refusal is known.
 pub fn refine_list_known(
-    positions: &mut [i32],
-    corners: &mut [u32],
-    links: &mut [u32],
-    generations: &mut [u8],
-    locks: &mut [u8],
+    tables: &mut Tables,
     counts: Counts,
     list: &[u32],
-    spare_positions: &mut [i32],
-    spare_corners: &mut [u32],
-    spare_links: &mut [u32],
-    spare_generations: &mut [u8],
-    spare_locks: &mut [u8],
+    spares: &mut Tables,
     bad: u32,
 ) -> BatchWorked
-    requires { bad ≡ standing (mesh_now counts positions.old corners.old links.old generations.old
-        locks.old) }
-    ensures { batch_outcome result positions.new corners.new links.new generations.new
-        locks.new
-        (spares_now spare_positions.new spare_corners.new spare_links.new
-        spare_generations.new spare_locks.new)
-        ≡ list_call list.now (spares_now spare_positions.old spare_corners.old
-        spare_links.old spare_generations.old spare_locks.old)
-        (mesh_now counts positions.old corners.old links.old
-        generations.old locks.old) }
+    requires { bad ≡ standing (mesh_with counts (held tables.old)) }
+    ensures done { batch_outcome result (held tables.new) (held spares.new)
+        ≡ list_call list.now (held spares.old)
+        (mesh_with counts (held tables.old)) }
+    ensures lent { SameTables tables.new tables.old }
+    ensures spares_lent { SameTables spares.new spares.old }
 {
-    let refusal = lending::refusal(
-        positions,
-        corners,
-        links,
-        generations,
-        locks,
-        counts,
-        bad,
-        true,
-        spare_positions,
-        spare_corners,
-        spare_links,
-        spare_generations,
-        spare_locks,
-    );
+    let refusal = lending::refusal(tables, counts, bad, true, spares);
     if refusal != 0 {
         return BatchWorked::refused(refusal, counts);
     }
-    listing::refine_list(
-        positions,
-        corners,
-        links,
-        generations,
-        locks,
-        counts,
-        list,
-        spare_positions,
-        spare_corners,
-        spare_links,
-        spare_generations,
-        spare_locks,
-    )
+    listing::refine_list(tables, counts, list, spares)
 }
 
 // Refines the triangles of a list, in its order: all of them, or none of the mesh. The work is done in the spare
 // tables.
 pub fn refine_list(
-    positions: &mut [i32],
-    corners: &mut [u32],
-    links: &mut [u32],
-    generations: &mut [u8],
-    locks: &mut [u8],
+    tables: &mut Tables,
     counts: Counts,
     list: &[u32],
-    spare_positions: &mut [i32],
-    spare_corners: &mut [u32],
-    spare_links: &mut [u32],
-    spare_generations: &mut [u8],
-    spare_locks: &mut [u8],
+    spares: &mut Tables,
 ) -> BatchWorked
-    ensures { batch_outcome result positions.new corners.new links.new generations.new
-        locks.new
-        (spares_now spare_positions.new spare_corners.new spare_links.new
-        spare_generations.new spare_locks.new)
-        ≡ list_call list.now (spares_now spare_positions.old spare_corners.old
-        spare_links.old spare_generations.old spare_locks.old)
-        (mesh_now counts positions.old corners.old links.old
-        generations.old locks.old) }
+    ensures done { batch_outcome result (held tables.new) (held spares.new)
+        ≡ list_call list.now (held spares.old)
+        (mesh_with counts (held tables.old)) }
+    ensures lent { SameTables tables.new tables.old }
+    ensures spares_lent { SameTables spares.new spares.old }
 {
-    let bad = soundness::first_refusal(positions, corners, links, generations, locks, counts);
-    refine_list_known(
-        positions,
-        corners,
-        links,
-        generations,
-        locks,
-        counts,
-        list,
-        spare_positions,
-        spare_corners,
-        spare_links,
-        spare_generations,
-        spare_locks,
-        bad,
-    )
+    let bad = soundness::first_refusal(tables, counts);
+    refine_list_known(tables, counts, list, spares, bad)
 }
 
 // Foresees what refine_list would answer and leave in the spare tables. The mesh is only read.
-pub fn preview(
-    positions: &[i32],
-    corners: &[u32],
-    links: &[u32],
-    generations: &[u8],
-    locks: &[u8],
-    counts: Counts,
-    list: &[u32],
-    spare_positions: &mut [i32],
-    spare_corners: &mut [u32],
-    spare_links: &mut [u32],
-    spare_generations: &mut [u8],
-    spare_locks: &mut [u8],
-) -> BatchForeseen
-    ensures { let m = mesh_now counts positions.now corners.now links.now
-        generations.now locks.now in
-        foreseen_outcome result m (spares_now spare_positions.new spare_corners.new
-        spare_links.new spare_generations.new spare_locks.new)
-        ≡ preview_call list.now (spares_now spare_positions.old spare_corners.old
-        spare_links.old spare_generations.old spare_locks.old) m }
+pub fn preview(view: &View, counts: Counts, list: &[u32], spares: &mut Tables) -> BatchForeseen
+    ensures done { let m = mesh_with counts (seen view.now) in
+        foreseen_outcome result m (held spares.new)
+        ≡ preview_call list.now (held spares.old) m }
+    ensures spares_lent { SameTables spares.new spares.old }
 {
-    let bad = soundness::first_refusal(positions, corners, links, generations, locks, counts);
-    let refusal = lending::refusal(
-        positions,
-        corners,
-        links,
-        generations,
-        locks,
-        counts,
-        bad,
-        true,
-        spare_positions,
-        spare_corners,
-        spare_links,
-        spare_generations,
-        spare_locks,
-    );
+    let bad = soundness::first_refusal(view, counts);
+    let refusal = lending::refusal(view, counts, bad, true, spares);
     if refusal != 0 {
         return BatchForeseen::refused(refusal, counts);
     }
-    foreseeing::preview(
-        positions,
-        corners,
-        links,
-        generations,
-        locks,
-        counts,
-        list,
-        spare_positions,
-        spare_corners,
-        spare_links,
-        spare_generations,
-        spare_locks,
-    )
+    foreseeing::preview(view, counts, list, spares)
 }

@@ -4,80 +4,58 @@
 ghost use Rattle.std.specs.Prelude.{◌≡◌};
 ghost use Rattle.rules.specs.Cage.{cage_of};
 ghost use Rattle.rules.specs.Calls.{load_refusal, load_call};
+ghost use Rattle.tables.specs.declared.Counts.{Counts};
 ghost use Rattle.tables.specs.Answers.{worked_outcome};
-ghost use Rattle.tables.specs.Lent.{mesh_now};
-ghost use Rattle.judging.specs.Answers.{SidesLeft};
+ghost use Rattle.tables.specs.Lent.{held, mesh_with, SameTables};
+ghost use Rattle.tables.specs.Refusals.{refused};
+ghost use Rattle.cage.specs.Sides.{SidesLoaded};
 
-use tables::{Counts, Worked};
+use tables::refusals::Refusal;
+use tables::{Counts, Tables, Worked};
 
-// The refusal of a cage, with the conditions 1, 16 and 2. Where it is 0 its corners and links are written.
-fn load_sides(
-    positions: &[i32],
-    corners: &mut [u32],
-    links: &mut [u32],
-    generations: &[u8],
-    locks: &[u8],
-    rule: u32,
-    cage: &[u8],
-) -> u32
-    ensures value { (n : Counts) → result ≡ load_refusal rule cage.now (mesh_now n positions.now
-        corners.old links.old generations.now locks.now) }
-    ensures sides_left { SidesLeft (cage_of cage.now) result corners.old links.old
-        corners.new links.new }
+// Judges a cage, by the conditions 1, 16 and 2 too. Where it is not refused, its corners and links are written.
+fn load_sides(tables: &mut Tables, rule: u32, cage: &[u8]) -> Result<(), Refusal>
+    ensures value { (n : Counts) → refused result ≡ load_refusal rule cage.now (mesh_with n (held tables.old)) }
+    ensures sides { SidesLoaded (cage_of cage.now) (refused result) (held tables.old) (held tables.new) }
+    ensures lent { SameTables tables.new tables.old }
 {
-    if !soundness::tables_agree(positions, corners, links, generations, locks) {
-        return 1;
+    let view = tables.view();
+    if !soundness::tables_agree(&view) {
+        return Err(Refusal::TablesDisagree);
     }
     if !points::known_rule(rule) {
-        return 16;
+        return Err(Refusal::Rule);
     }
-    if !decoding::sizes_fit(cage, positions, generations) {
-        return 2;
+    if !decoding::sizes_fit(cage, &view) {
+        return Err(Refusal::Sizes);
     }
     let v = points::number_at(cage, 0);
     let f = points::number_at(cage, 4);
-    rooms::load_in_room(corners, links, cage, v, f)
+    rooms::load_in_room(tables.corners, tables.links, cage, v, f)
 }
 
 // Loads the cage, to be rounded by this rule. A refusal leaves the tables and the counts.
-pub fn load(
-    positions: &mut [i32],
-    corners: &mut [u32],
-    links: &mut [u32],
-    generations: &mut [u8],
-    locks: &mut [u8],
-    counts: Counts,
-    rule: u32,
-    cage: &[u8],
-) -> Worked
-    ensures { worked_outcome result positions.new corners.new links.new generations.new
-        locks.new
-        ≡ load_call rule cage.now (mesh_now counts positions.old corners.old
-        links.old generations.old locks.old) }
+pub fn load(tables: &mut Tables, counts: Counts, rule: u32, cage: &[u8]) -> Worked
+    ensures loaded { worked_outcome result (held tables.new) ≡ load_call rule cage.now
+        (mesh_with counts (held tables.old)) }
+    ensures lent { SameTables tables.new tables.old }
 {
-    let refusal = load_sides(positions, corners, links, generations, locks, rule, cage);
-    if refusal == 0 {
-        let v = points::number_at(cage, 0);
-        let f = points::number_at(cage, 4);
-        decoding::writing::place(cage, 3 * (v as usize), positions);
-        decoding::writing::clear(f as usize, generations);
-        decoding::writing::clear(f as usize, locks);
-        let loaded = Counts {
+    if let Err(refusal) = load_sides(tables, rule, cage) {
+        return Worked::refused(refusal, counts);
+    }
+    let v = points::number_at(cage, 0);
+    let f = points::number_at(cage, 4);
+    decoding::writing::place(cage, 3 * (v as usize), tables.positions);
+    decoding::writing::clear(f as usize, tables.generations);
+    decoding::writing::clear(f as usize, tables.locks);
+    Worked {
+        refusal: 0,
+        splits: 0,
+        flips: 0,
+        counts: Counts {
             vertices: v,
             triangles: f,
             rule,
-        };
-        return Worked {
-            refusal,
-            splits: 0,
-            flips: 0,
-            counts: loaded,
-        };
-    }
-    Worked {
-        refusal,
-        splits: 0,
-        flips: 0,
-        counts,
+        },
     }
 }

@@ -13,7 +13,7 @@ use lib.ListN.{length, get_or, drop, drop_of_length-le}
 use lib.Seq.{drop-cons}
 use Rattle.crc.specs.Crc.{crc_bit, crc_byte, crc_from}
 use Rattle.crc.specs.Table.{ByteTable}
-use Rattle.crc.proofs.Bits.{xor_assoc}
+use Rattle.std.specs.Int.Bits.{xor_assoc}
 
 -- Some bits shifted out.
 unfoldable pub shifts : ℕ → ℕ → ℕ

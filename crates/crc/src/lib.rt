@@ -47,10 +47,8 @@ fn taken_in(table: &[u32; 256], bytes: &[u8]) -> u32
     ensures { result ≡ crc_from 4294967295 bytes.now }
 {
     let mut c: u32 = 4294967295;
-    let mut i: usize = 0;
-    while i < bytes.len() {
-        c = (c / 256) ^ table[((c ^ (bytes[i] as u32)) % 256) as usize];
-        i += 1;
+    for byte in bytes {
+        c = (c / 256) ^ table[((c ^ u32::from(*byte)) % 256) as usize];
     }
     c
 }

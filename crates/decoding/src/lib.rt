@@ -1,44 +1,38 @@
 // The bytes of a cage: their corners decoded, and the tests that need no links.
 #![tactic(auto)]
 
-ghost use Rattle.std.specs.Prelude.{◌≡◌, List, ℕ, ◌+◌, ◌*◌, ◌<◌, ◌≤◌, length};
+ghost use Rattle.std.specs.Prelude.{◌≡◌, ◌+◌, ◌*◌, ◌<◌, ◌≤◌, length};
 ghost use Rattle.rules.specs.Below.{all, fill};
 ghost use Rattle.rules.specs.Cage.{sizes_fit, corners_fit};
 ghost use Rattle.rules.specs.Numbers.{number_at, signed, in_range};
 ghost use Rattle.tables.specs.declared.Counts.{Counts};
-ghost use Rattle.tables.specs.Lent.{mesh_now};
+ghost use Rattle.tables.specs.Lent.{mesh_with, seen};
 ghost use Rattle.decoding.specs.Decoded.{decoded, triangle_fits};
+
+use tables::View;
 
 pub mod writing;
 
-// The same number, as wide as an index.
-pub fn wide(x: u32) -> usize
-    ensures { result ≡ x }
-{
-    x as usize
-}
-
 // Whether the cage is as long as its sizes say, and these are at least 1 and within the slots.
 // In 64 bits nothing wraps.
-pub fn sizes_fit(cage: &[u8], positions: &[i32], generations: &[u8]) -> bool
-    ensures { (n : Counts) (c l k : List ℕ)
-        → result ≡ sizes_fit cage.now (mesh_now n positions.now c l generations.now k) }
+pub fn sizes_fit(cage: &[u8], view: &View) -> bool
+    ensures { (n : Counts) → result ≡ sizes_fit cage.now (mesh_with n (seen view.now)) }
 {
     if cage.len() < 8 {
         return false;
     }
-    let v = wide(points::number_at(cage, 0));
-    let f = wide(points::number_at(cage, 4));
+    let v = points::number_at(cage, 0) as usize;
+    let f = points::number_at(cage, 4) as usize;
     if v < 1 {
         return false;
     }
     if f < 1 {
         return false;
     }
-    if positions.len() / 3 < v {
+    if view.positions.len() / 3 < v {
         return false;
     }
-    if generations.len() < f {
+    if view.generations.len() < f {
         return false;
     }
     if cage.len() != 8 + 12 * (v + f) {
@@ -49,14 +43,12 @@ pub fn sizes_fit(cage: &[u8], positions: &[i32], generations: &[u8]) -> bool
 
 // Writes the numbers of the bytes, from place `from` on, into the first entries.
 pub fn decode(cage: &[u8], from: usize, count: usize, corners: &mut [u32])
-    requires count_in_bounds { from + 4 * count ≤ length cage.now }
-    requires count_in_bounds_2 { count ≤ length corners.old }
+    requires numbers_in_cage { from + 4 * count ≤ length cage.now }
+    requires corner_room { count ≤ length corners.old }
     ensures { corners.new ≡ fill count (λ i. number_at cage.now (from + 4 * i)) corners.old }
 {
-    let mut i: usize = 0;
-    while i < count {
+    for i in 0..count {
         corners[i] = points::number_at(cage, from + 4 * i);
-        i += 1;
     }
 }
 
@@ -77,10 +69,8 @@ pub fn corners_fit(corners: &[u32], triangles: usize, vertices: u32) -> bool
     ensures { result ≡ corners_fit (decoded vertices triangles corners.now) }
 {
     let mut fit = true;
-    let mut t: usize = 0;
-    while t < triangles {
-        fit = fit & triangle_fits(corners, triangles, vertices, t);
-        t += 1;
+    for t in 0..triangles {
+        fit &= triangle_fits(corners, triangles, vertices, t);
     }
     fit
 }
@@ -91,10 +81,8 @@ pub fn coordinates_fit(cage: &[u8], count: usize) -> bool
     ensures { result ≡ all count (λ i. in_range (signed (number_at cage.now (8 + 4 * i)))) }
 {
     let mut fit = true;
-    let mut i: usize = 0;
-    while i < count {
-        fit = fit & points::in_range(points::signed_at(cage, 8 + 4 * i));
-        i += 1;
+    for i in 0..count {
+        fit &= points::in_range(points::signed_at(cage, 8 + 4 * i));
     }
     fit
 }

@@ -5,15 +5,13 @@ ghost use Rattle.rules.specs.Numbers.{number_at, signed};
 
 // The first coordinates of the cage into the positions.
 pub fn place(cage: &[u8], count: usize, positions: &mut [i32])
-    requires count_in_bounds { 8 + 4 * count ≤ length cage.now }
-    requires count_in_bounds_2 { count ≤ length positions.old }
+    requires coordinates_in_cage { 8 + 4 * count ≤ length cage.now }
+    requires position_room { count ≤ length positions.old }
     ensures { positions.new
         ≡ fill count (λ i. signed (number_at cage.now (8 + 4 * i))) positions.old }
 {
-    let mut i: usize = 0;
-    while i < count {
+    for i in 0..count {
         positions[i] = points::signed_at(cage, 8 + 4 * i);
-        i += 1;
     }
 }
 
@@ -22,9 +20,5 @@ pub fn clear(count: usize, table: &mut [u8])
     requires { count ≤ length table.old }
     ensures { table.new ≡ fill count (λ i. 0) table.old }
 {
-    let mut i: usize = 0;
-    while i < count {
-        table[i] = 0;
-        i += 1;
-    }
+    table[..count].fill(0);
 }

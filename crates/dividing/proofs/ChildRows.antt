@@ -102,11 +102,11 @@ module _ (d : Topology) (t : ℕ) (more : t < d.triangles) where
     same_link : (h : ℕ) → h / 3 ≡ t → link now h ≡ link d h
     same_link = still (child_links d) d.links el
 
-    pub same_corners_lem : (h : ℕ) → h / 3 ≡ t → child_corners now h ≡ child_corners d h
-    same_corners_lem h e = rw (still (child_corners d) d.corners ec h e, same_link h e)
+    pub same_corners : (h : ℕ) → h / 3 ≡ t → child_corners now h ≡ child_corners d h
+    same_corners h e = rw (still (child_corners d) d.corners ec h e, same_link h e)
 
-    pub same_links_lem : (h : ℕ) → h / 3 ≡ t → child_links now h ≡ child_links d h
-    same_links_lem h e = rw (same_link h e, same_link (previous h) (omega arith))
+    pub same_links : (h : ℕ) → h / 3 ≡ t → child_links now h ≡ child_links d h
+    same_links h e = rw (same_link h e, same_link (previous h) (omega arith))
 
 -- ---- the new vertices
 
@@ -120,29 +120,29 @@ module _ (m : Mesh) (R : StepFound m) where
   abbrev d : Topology
   d = m.topology
 
-  pub few_vertices_lem : d.vertices + d.triangles ≤ 32768
-  few_vertices_lem = omega (arith, R.room.vertices, R.sound.tables.few_vertices)
+  pub few_vertices : d.vertices + d.triangles ≤ 32768
+  few_vertices = omega (arith, R.room.vertices, R.sound.tables.few_vertices)
 
-  pub few_triangles_lem : 3 * d.triangles ≤ 65536
-  few_triangles_lem = omega (arith, R.room.triangles, R.sound.tables.few_triangles)
+  pub few_triangles : 3 * d.triangles ≤ 65536
+  few_triangles = omega (arith, R.room.triangles, R.sound.tables.few_triangles)
 
-  pub corner_room_lem : 9 * d.triangles ≤ length d.corners
-  corner_room_lem = omega (arith, R.room.triangles, R.sound.tables.corners)
+  pub corner_room : 9 * d.triangles ≤ length d.corners
+  corner_room = omega (arith, R.room.triangles, R.sound.tables.corners)
 
   module _ (n : Counts) (v : n.vertices ≡ d.vertices) (f : n.triangles ≡ d.triangles) (t : ℕ)
       (l : t < d.triangles) {corners links : List ℕ}
       (ec : corners ≡ put_rows (3 * t) (child_of d) (child_corners d) d.corners)
       (el : links ≡ put_rows (3 * t) (child_of d) (child_links d) d.links) where
-    in_use_lem : (k : ℕ) → k / 3 ≡ t → get_or links k 0 < 3 * n.triangles
-    in_use_lem k e = rw (same_link d t l ec el k e, f) ((mates m R).in_use k (omega arith))
+    in_use : (k : ℕ) → k / 3 ≡ t → get_or links k 0 < 3 * n.triangles
+    in_use k e = rw (same_link d t l ec el k e, f) ((mates m R).in_use k (omega arith))
 
     pub next_fits : Fits n t corners links
     next_fits = record {
-      few_vertices = rw (v, f) few_vertices_lem;
-      few_triangles = rw f few_triangles_lem;
+      few_vertices = rw (v, f) few_vertices;
+      few_triangles = rw f few_triangles;
       in_use = rw f l;
       corner_room =
-          omega (arith, f, corner_room_lem, ap length ec, length_rows 0 (child_of d) (child_corners d) d.corners (3 * t));
+          omega (arith, f, corner_room, ap length ec, length_rows 0 (child_of d) (child_corners d) d.corners (3 * t));
       link_room = omega (
         arith,
         f,
@@ -151,7 +151,7 @@ module _ (m : Mesh) (R : StepFound m) where
         ap length el,
         length_rows 0 (child_of d) (child_links d) d.links (3 * t),
       );
-      first = in_use_lem (3 * t) (omega arith);
-      second = in_use_lem (3 * t + 1) (omega arith);
-      third = in_use_lem (3 * t + 2) (omega arith);
+      first = in_use (3 * t) (omega arith);
+      second = in_use (3 * t + 1) (omega arith);
+      third = in_use (3 * t + 2) (omega arith);
     }

@@ -117,11 +117,8 @@ pub fn write_all(corners: &mut [u32], links: &mut [u32], counts: Counts)
         (corners.new ≡ put_rows (sides d) (child_of d) (child_corners d) corners.old)
         × (links.new ≡ put_rows (sides d) (child_of d) (child_links d) links.old) }
 {
-    let f = counts.triangles;
-    let mut t: u32 = 0;
-    while t < f {
+    for t in 0..counts.triangles {
         write_children(corners, links, counts, t);
-        t += 1;
     }
 }
 
@@ -130,11 +127,7 @@ pub fn set_generations(generations: &mut [u8], n: usize, g: u8)
     requires { n ≤ length generations.old }
     ensures { generations.new ≡ fill n (λ _. g) generations.old }
 {
-    let mut t: usize = 0;
-    while t < n {
-        generations[t] = g;
-        t += 1;
-    }
+    generations[..n].fill(g);
 }
 
 // The locks of the new slots of all f old triangles cleared.
@@ -142,10 +135,8 @@ pub fn unlock_new(locks: &mut [u8], f: u32)
     requires { (3 * f ≤ 65536) × (3 * f ≤ length locks.old) }
     ensures { locks.new ≡ unlocked_new f f locks.old }
 {
-    let mut t: u32 = 0;
-    while t < f {
+    for t in 0..f {
         tables::unlock_two(locks, f + 2 * t);
-        t += 1;
     }
 }
 
@@ -170,12 +161,9 @@ pub fn place_centres(positions: &mut [i32], corners: &[u32], counts: Counts)
     ensures { (l g k : List ℕ) → positions.new
         ≡ with_centres counts.triangles (mesh_now counts positions.old corners.now l g k) }
 {
-    let f = counts.triangles;
     let v = counts.vertices;
-    let mut t: u32 = 0;
-    while t < f {
+    for t in 0..counts.triangles {
         let p = centre_in(positions, corners, t);
         tables::store_point(positions, v + t, p);
-        t += 1;
     }
 }

@@ -53,9 +53,13 @@ fn foresee(counts: Counts, made: Batch) -> BatchForeseen
     let reached = made.counts;
     if made.refusal != 0 {
         return BatchForeseen {
+            refusal: made.refusal,
+            splits: 0,
+            flips: 0,
+            foreseen_vertices: counts.vertices,
+            foreseen_triangles: counts.triangles,
             handled: made.handled,
             spares: reached,
-            ..BatchForeseen::refused(made.refusal, counts)
         };
     }
     BatchForeseen {

@@ -101,6 +101,15 @@ decode_read {bytes} {v} {f} before Z room e =
       };
     }
 
+-- It is neither, as two tests say.
+pub decode_fits : {bytes : List ℕ} {v f : ℕ} (before : List ℕ) {origins : List ℕ} {a b : Bool} → Sized bytes v f
+    → 3 * f ≤ length before
+    → origins ≡ fill (3 * f) (λ i. number_at bytes (8 + 12 * v + 4 * i)) before
+    → a ≡ corners_fit (decoded v f origins) → a ≡ true → b ≡ all (3 * v) (coordinate_fits bytes) → b ≡ true
+    → Fits bytes v f origins
+decode_fits before Z room e k c r d =
+    record { read = decode_read before Z room e; corners = sym k ∙ c; coordinates = sym r ∙ d }
+
 agrees : {m : Mesh} → TablesAgree m → tables_agree m ≡ true
 agrees {m} A = is_same (tables_agree_is m) (is_true A)
 

@@ -1,7 +1,6 @@
 -- What a load leaves of the tables of corners and links.
-use mathlib.Core.Path.{◌≡◌, refl}
+use mathlib.Core.Path.{◌≡◌}
 use mathlib.Core.List.{List}
-use mathlib.Core.Logic.{◌≢◌}
 use Prim.Native.Nat.{ℕ, ◌*◌}
 use lib.ListN.{get_or}
 use Rattle.theory.proofs.Numbers.Fill.{fill_same}
@@ -10,11 +9,7 @@ use Rattle.rules.specs.Cage.{Cage}
 use Rattle.judging.specs.Answers.{SidesLeft}
 use Rattle.judging.specs.Loading.{Holds}
 
--- Where it is refused, they stand.
-pub stand : {c : Cage} {r : ℕ} {corners links : List ℕ} → r ≢ 0 → SidesLeft c r corners links corners links
-stand n = record { refused = λ _. (refl, refl); written = λ e. absurd (n e) }
-
--- Where it is not, they hold what is copied, the origins and partners of the cage.
+-- Where it is not refused, they hold what is copied, the origins and partners of the cage.
 pub hold : {c : Cage} {r f : ℕ} {origins partners : List ℕ} (corners links : List ℕ) {corners' links' : List ℕ} → r ≡ 0
     → c.triangles ≡ f → Holds c origins partners
     → corners' ≡ fill (3 * f) (λ i. get_or origins i 0) corners

@@ -2,56 +2,35 @@
 #![tactic(auto)]
 
 ghost use Rattle.std.specs.Prelude.{◌≡◌};
-ghost use Rattle.tables.specs.Lent.{mesh_now, spares_now};
+ghost use Rattle.tables.specs.Lent.{seen, mesh_with};
+ghost use Rattle.tables.specs.Refusals.{refused};
 ghost use Rattle.tables.specs.Standing.{standing};
+ghost use Rattle.tables.specs.declared.Counts.{Counts};
 ghost use Rattle.lending.specs.Working.{work_refusal};
 
-use tables::Counts;
+use tables::View;
+use tables::refusals::Refusal;
 
-// The first refusal of a call that works in spare tables: 1, 17, 18 where its arguments do not fit, 7 or none. The
-// mesh's own, 1, 7 or none, is `bad`.
+// What refuses a call that works in spare tables: tables that disagree, spare tables of other sizes, arguments that do not
+// fit, or a mesh that is not sound. The mesh stands or is refused itself.
 pub fn refusal(
-    positions: &[i32],
-    corners: &[u32],
-    links: &[u32],
-    generations: &[u8],
-    locks: &[u8],
-    counts: Counts,
-    bad: u32,
+    view: &View,
+    stands: Result<(), Refusal>,
     fits: bool,
-    spare_positions: &[i32],
-    spare_corners: &[u32],
-    spare_links: &[u32],
-    spare_generations: &[u8],
-    spare_locks: &[u8],
-) -> u32
-    requires { bad ≡ standing (mesh_now counts positions.now corners.now links.now generations.now
-        locks.now) }
-    ensures { result ≡ work_refusal fits (spares_now spare_positions.now spare_corners.now
-        spare_links.now spare_generations.now spare_locks.now)
-        (mesh_now counts positions.now corners.now links.now
-        generations.now locks.now) }
+    spares: &View,
+) -> Result<(), Refusal>
+    ensures { (n : Counts) →
+        let m = mesh_with n (seen view.now) in
+        refused stands ≡ standing m → refused result ≡ work_refusal fits (seen spares.now) m }
 {
-    if bad == 1 {
-        return 1;
+    if let Err(Refusal::TablesDisagree) = stands {
+        return stands;
     }
-    if !tables::copies::same_sizes(
-        positions,
-        corners,
-        links,
-        generations,
-        locks,
-        counts,
-        spare_positions,
-        spare_corners,
-        spare_links,
-        spare_generations,
-        spare_locks,
-    ) {
-        return 17;
+    if !view.same_sizes(spares) {
+        return Err(Refusal::SpareSizes);
     }
     if !fits {
-        return 18;
+        return Err(Refusal::BoxUnfit);
     }
-    bad
+    stands
 }

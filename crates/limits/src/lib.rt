@@ -8,41 +8,41 @@ ghost use Rattle.rules.specs.Step.{limit_positions};
 ghost use Rattle.rules.specs.Tables.{Mesh};
 ghost use Rattle.tables.specs.Answers.{table_outcome};
 ghost use Rattle.tables.specs.Lent.{mesh_now};
+ghost use Rattle.tables.specs.Refusals.{refused};
 ghost use Rattle.rings.specs.Sums.{Cleared, RingSums};
 ghost use Rattle.moving.specs.Moves.{Movable};
 
-use tables::Counts;
+use tables::refusals::Refusal;
+use tables::{Counts, View};
 
-// The number that limit positions are refused with, for a table of so many entries; 0 where they are not, and then the
-// two arrays, zero at first, have the length of each ring and the sum of its positions.
+// What limit positions are refused with, for a table of so many entries. Where they are not, the two arrays, zero at
+// first, have the length of each ring and the sum of its positions.
 fn refusal(
-    positions: &[i32],
-    corners: &[u32],
-    links: &[u32],
-    generations: &[u8],
+    view: &View,
     counts: Counts,
     entries: usize,
     lengths: &mut [u8],
     sums: &mut [i32],
-) -> u32
-    requires { ((k : List ℕ) × Sound (mesh_now counts positions.now corners.now links.now generations.now k))
+) -> Result<(), Refusal>
+    requires { ((k : List ℕ) × Sound (mesh_now counts view.now.positions.now view.now.corners.now view.now.links.now
+        view.now.generations.now k))
         × Cleared counts.vertices lengths.old sums.old }
     ensures { (k : List ℕ) →
-        let m = mesh_now counts positions.now corners.now links.now
-        generations.now k in
-        Sound m → ((table : List ℤ) → length table ≡ entries → result ≡ limit_refusal table m)
-        × (result ≡ 0 → RingSums m lengths.new sums.new × (entries ≡ 3 * counts.vertices)) }
+        let m = mesh_now counts view.now.positions.now view.now.corners.now view.now.links.now
+        view.now.generations.now k in
+        Sound m → ((table : List ℤ) → length table ≡ entries → refused result ≡ limit_refusal table m)
+        × (refused result ≡ 0 → RingSums m lengths.new sums.new × (entries ≡ 3 * counts.vertices)) }
 {
-    if !moving::closed_even(links, generations, counts.triangles) {
-        return 12;
+    if !moving::closed_even(view.links, view.generations, counts.triangles) {
+        return Err(Refusal::NotUniform);
     }
-    if !rings::sums::ring_sums(positions, corners, counts, lengths, sums) {
-        return 13;
+    if !rings::sums::ring_sums(view.positions, view.corners, counts, lengths, sums) {
+        return Err(Refusal::RingLong);
     }
     if entries != 3 * (counts.vertices as usize) {
-        return 15;
+        return Err(Refusal::TableLength);
     }
-    0
+    Ok(())
 }
 
 // The limit of each vertex, by the length and the sum of its ring and by the rule.
@@ -60,169 +60,77 @@ fn write_all(
         Movable vertices rule m positions.now lengths.now sums.now
         → table.new ≡ limit_positions m table.old }
 {
-    let mut v: u32 = 0;
-    while v < vertices {
+    for v in 0..vertices {
         let n = lengths[v as usize] as usize;
         let p = tables::point_in(positions, v);
         let sum = tables::point_in(sums, v);
         tables::store_point(table, v, p.limit(rule, n, sum));
-        v += 1;
     }
 }
 
 // Limit positions, with two arrays lent that are zero at first: for the length and for the sum of each ring.
 fn limits_by(
-    positions: &[i32],
-    corners: &[u32],
-    links: &[u32],
-    generations: &[u8],
+    view: &View,
     counts: Counts,
     table: &mut [i32],
     lengths: &mut [u8],
     sums: &mut [i32],
-) -> u32
-    requires { ((k : List ℕ) × Sound (mesh_now counts positions.now corners.now links.now generations.now k))
+) -> Result<(), Refusal>
+    requires { ((k : List ℕ) × Sound (mesh_now counts view.now.positions.now view.now.corners.now view.now.links.now
+        view.now.generations.now k))
         × Cleared counts.vertices lengths.old sums.old }
     ensures { (k : List ℕ) →
-        let m = mesh_now counts positions.now corners.now links.now
-        generations.now k in
-        Sound m → table_outcome result m table.new ≡ limit_call table.old m }
+        let m = mesh_now counts view.now.positions.now view.now.corners.now view.now.links.now
+        view.now.generations.now k in
+        Sound m → table_outcome (refused result) m table.new ≡ limit_call table.old m }
 {
-    let refusal = refusal(
-        positions,
-        corners,
-        links,
-        generations,
-        counts,
-        table.len(),
-        lengths,
-        sums,
-    );
-    if refusal != 0 {
-        return refusal;
-    }
+    refusal(view, counts, table.len(), lengths, sums)?;
     write_all(
-        positions,
+        view.positions,
         counts.vertices,
         counts.rule,
         lengths,
         sums,
         table,
     );
-    0
+    Ok(())
 }
 
-// The same for up to 128 vertices.
-fn limits_within_128(
-    positions: &[i32],
-    corners: &[u32],
-    links: &[u32],
-    generations: &[u8],
+// The same for up to N vertices, of which there are no more than 32,768, with room for the S sums on their axes.
+fn limits_within<const N: usize, const S: usize>(
+    view: &View,
     counts: Counts,
     table: &mut [i32],
-) -> u32
-    requires { ((k : List ℕ) × Sound (mesh_now counts positions.now corners.now links.now generations.now k))
-        × (counts.vertices ≤ 128) }
+) -> Result<(), Refusal>
+    requires sound { (k : List ℕ)
+        × Sound (mesh_now counts view.now.positions.now view.now.corners.now view.now.links.now
+        view.now.generations.now k) }
+    requires slots { (counts.vertices ≤ N) × (N ≤ 32768) × (S ≡ 3 * N) }
     ensures { (k : List ℕ) →
-        let m = mesh_now counts positions.now corners.now links.now
-        generations.now k in
-        Sound m → table_outcome result m table.new ≡ limit_call table.old m }
+        let m = mesh_now counts view.now.positions.now view.now.corners.now view.now.links.now
+        view.now.generations.now k in
+        Sound m → table_outcome (refused result) m table.new ≡ limit_call table.old m }
 {
-    let mut lengths = [0u8; 128];
-    let mut sums = [0i32; 384];
-    limits_by(
-        positions,
-        corners,
-        links,
-        generations,
-        counts,
-        table,
-        &mut lengths,
-        &mut sums,
-    )
-}
-
-// The same for up to 2048 vertices.
-fn limits_within_2048(
-    positions: &[i32],
-    corners: &[u32],
-    links: &[u32],
-    generations: &[u8],
-    counts: Counts,
-    table: &mut [i32],
-) -> u32
-    requires { ((k : List ℕ) × Sound (mesh_now counts positions.now corners.now links.now generations.now k))
-        × (counts.vertices ≤ 2048) }
-    ensures { (k : List ℕ) →
-        let m = mesh_now counts positions.now corners.now links.now
-        generations.now k in
-        Sound m → table_outcome result m table.new ≡ limit_call table.old m }
-{
-    let mut lengths = [0u8; 2048];
-    let mut sums = [0i32; 6144];
-    limits_by(
-        positions,
-        corners,
-        links,
-        generations,
-        counts,
-        table,
-        &mut lengths,
-        &mut sums,
-    )
-}
-
-// The same for up to 32768 vertices.
-fn limits_within_32768(
-    positions: &[i32],
-    corners: &[u32],
-    links: &[u32],
-    generations: &[u8],
-    counts: Counts,
-    table: &mut [i32],
-) -> u32
-    requires { ((k : List ℕ) × Sound (mesh_now counts positions.now corners.now links.now generations.now k))
-        × (counts.vertices ≤ 32768) }
-    ensures { (k : List ℕ) →
-        let m = mesh_now counts positions.now corners.now links.now
-        generations.now k in
-        Sound m → table_outcome result m table.new ≡ limit_call table.old m }
-{
-    let mut lengths = [0u8; 32768];
-    let mut sums = [0i32; 98304];
-    limits_by(
-        positions,
-        corners,
-        links,
-        generations,
-        counts,
-        table,
-        &mut lengths,
-        &mut sums,
-    )
+    let mut lengths = [0u8; N];
+    let mut sums = [0i32; S];
+    limits_by(view, counts, table, &mut lengths, &mut sums)
 }
 
 // Limit positions on sound tables, written to the table unless they are refused. A small mesh has little to clear.
-pub fn limit_positions(
-    positions: &[i32],
-    corners: &[u32],
-    links: &[u32],
-    generations: &[u8],
-    counts: Counts,
-    table: &mut [i32],
-) -> u32
+pub fn limit_positions(view: &View, counts: Counts, table: &mut [i32]) -> Result<(), Refusal>
     requires { (k : List ℕ)
-        × Sound (mesh_now counts positions.now corners.now links.now generations.now k) }
+        × Sound (mesh_now counts view.now.positions.now view.now.corners.now view.now.links.now
+        view.now.generations.now k) }
     ensures { (k : List ℕ) →
-        let m = mesh_now counts positions.now corners.now links.now
-        generations.now k in
-        Sound m → table_outcome result m table.new ≡ limit_call table.old m }
+        let m = mesh_now counts view.now.positions.now view.now.corners.now view.now.links.now
+        view.now.generations.now k in
+        Sound m → table_outcome (refused result) m table.new ≡ limit_call table.old m }
 {
     if counts.vertices <= 128 {
-        return limits_within_128(positions, corners, links, generations, counts, table);
+        return limits_within::<128, 384>(view, counts, table);
     }
     if counts.vertices <= 2048 {
-        return limits_within_2048(positions, corners, links, generations, counts, table);
+        return limits_within::<2048, 6144>(view, counts, table);
     }
-    limits_within_32768(positions, corners, links, generations, counts, table)
+    limits_within::<32768, 98304>(view, counts, table)
 }

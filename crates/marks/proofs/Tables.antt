@@ -1,15 +1,19 @@
 -- Tables of marks: one mark put, two levels kept, and the lowest mark found.
 use mathlib.Core.Path.{◌≡◌, refl, sym, subst, ap, ap₂, ◌∙◌}
-use mathlib.Core.Bool.{Bool, true, false, not}
+use mathlib.Core.Bool.{Bool, true, false, not, cond}
 use mathlib.Core.List.{List}
 use Prim.Native.Nat.{ℕ, zero, suc, ◌+◌, ◌*◌, ◌/◌, ◌%◌, ◌^◌, ◌≤◌, ◌<◌}
 use native.Mathlib.Decide.{ℕ_discrete, dec_lt}
 use native.Mathlib.Omega.{arith}
-use borrow.Author.Tests.{eqb-true, eqb-false, not-true, not-false, eq-eqb, ne_eqb}
+use borrow.Author.Tests.{eqb-true, eqb-false, ltb-false, not-true, not-false, eq-eqb, ne_eqb}
 use lib.Count.{count_trailing_zeros}
-use lib.Dec.{T, eqb}
+use lib.Dec.{T, eqb, ltb}
 use lib.ListN.{length, get_or, set, replicate, length-set, get_or-eq_default}
 use lib.Seq.{get_or-set_same, get_or-set_other}
+use Rattle.std.specs.Prelude.{Option, Some, None, position}
+use Rattle.std.specs.List.{position_or_len}
+use Rattle.std.proofs.lemmas.List.Quantifiers.{position-Some}
+use Rattle.std.proofs.lemmas.List.Sums.{fails_before_first}
 use Rattle.theory.proofs.Numbers.Decide.{is_eq, is_iff, is_same, lowest_is}
 use Rattle.rules.specs.Below.{lowest}
 use Rattle.marks.proofs.Bits.{LowestBit, lowest_bit, bit_none}
@@ -102,9 +106,34 @@ pub record FirstWord (table : List ℕ) (k : ℕ) : Type 0 where
   pub some : ¬ (get_or table k 0 ≡ 0)
   pub fits : get_or table k 0 < 2 ^ 64
 
+-- What the search for it gives.
+abbrev pub first_word : List ℕ → Option ℕ
+first_word table = position (λ w. not (eqb w 0)) table
+
+pub first_found : (table : List ℕ) (k : ℕ) → Some k ≡ first_word table → get_or table k 0 < 2 ^ 64 → FirstWord table k
+first_found table k e l =
+    let (in_table, some, past) = position-Some (λ w. not (eqb w 0)) table k 0 (sym e) in
+    record {
+      past = λ m h. eqb-true _ _ (not-false _ (past m h));
+      some = eqb-false _ _ (not-true _ some);
+      fits = l;
+    }
+
+pub none_found : (table : List ℕ) → None ≡ first_word table → (m : ℕ) → m < length table → get_or table m 0 ≡ 0
+none_found table e m l = go (ltb n (length table)) refl e
+  where
+    n : ℕ
+    n = position_or_len (λ w. not (eqb w 0)) table
+
+    go : (b : Bool) → ltb n (length table) ≡ b → None ≡ cond b (Some n) None → get_or table m 0 ≡ 0
+    go true t h = absurd (cc h)
+    go false t h =
+        let past : length table ≤ n = ltb-false _ _ t in
+        eqb-true _ _ (not-false _ (fails_before_first (λ w. not (eqb w 0)) table m 0 (omega arith)))
+
 module _ (table : List ℕ) (k : ℕ) (F : FirstWord table k) where
   bit_found : LowestBit (get_or table k 0) (count_trailing_zeros 64 (get_or table k 0)) × (count_trailing_zeros 64 (get_or table k 0) < 64)
-  bit_found = lowest_bit 64 (get_or table k 0) F.fits F.some
+  bit_found = lowest_bit (get_or table k 0) F.fits F.some
 
   first_marked : marked table (lowest_in table k) ≡ true
   first_marked =

@@ -1,7 +1,7 @@
 // Marks on numbers in two tables of bits, so that the lowest marked number is found in a few steps.
 #![tactic(auto)]
 
-ghost use Rattle.std.specs.Prelude.{true, false, ◌≡◌, ℕ, ◌*◌, ◌<◌, ◌≤◌, eqb, length};
+ghost use Rattle.std.specs.Prelude.{true, false, ◌≡◌, ℕ, ◌*◌, ◌<◌, ◌≤◌, not, eqb, length, position};
 ghost use Rattle.rules.specs.Below.{lowest};
 ghost use Rattle.marks.specs.Marks.{bit_at, marked, Levels, MarkPut};
 
@@ -11,8 +11,7 @@ fn with_bit(word: u64, b: u32, on: bool) -> u64
     ensures { (j : ℕ) → bit_at result j ≡ elim (eqb j b) [ true ↦ on | false ↦ bit_at word j ] }
 {
     let bit = 1u64 << b;
-    let set = word | bit;
-    if on { set } else { set ^ bit }
+    if on { word | bit } else { word & !bit }
 }
 
 // Whether i is marked in a table.
@@ -46,19 +45,21 @@ pub fn mark(bits: &mut [u64], words: &mut [u64], i: u32, on: bool)
     put(words, k, any);
 }
 
+// The first word that is not 0.
+fn first_word(words: &[u64]) -> Option<usize>
+    ensures { result ≡ position (λ w. not (eqb w 0)) words.now }
+{
+    words.iter().position(|word| *word != 0)
+}
+
 // The lowest marked number, or the first past the table where none is marked.
 pub fn lowest(bits: &[u64], words: &[u64]) -> u32
     requires { Levels bits.now words.now × (length bits.now ≤ 1024) }
     ensures { result ≡ lowest (64 * length bits.now) (marked bits.now) }
 {
-    let mut k: usize = 0;
-    while k < words.len() {
-        let above = words[k];
-        if above != 0 {
-            let i = 64 * k + u64::trailing_zeros(above) as usize;
-            return 64 * (i as u32) + u64::trailing_zeros(bits[i]);
-        }
-        k += 1;
-    }
-    64 * (bits.len() as u32)
+    let Some(k) = first_word(words) else {
+        return 64 * (bits.len() as u32);
+    };
+    let i = 64 * k + words[k].trailing_zeros() as usize;
+    64 * (i as u32) + bits[i].trailing_zeros()
 }

@@ -11,34 +11,33 @@ ghost use Rattle.moving.specs.Moves.{Movable};
 use tables::BOUNDARY;
 
 // Whether none of the first n sides is on the boundary.
+#[tactic(auto, using(theory::proofs::Numbers::Decide::all_and), unfolding(rules::specs::Below::all))]
 fn none_on_boundary(links: &[u32], n: usize) -> bool
     requires { n ≤ length links.now }
     ensures { result ≡ all n (λ h. not (eqb (get_or links.now h 0) boundary)) }
 {
     let mut inner = true;
-    let mut h: usize = 0;
-    while h < n {
-        inner = inner & (links[h] != BOUNDARY);
-        h += 1;
+    for link in &links[..n] {
+        inner &= *link != BOUNDARY;
     }
     inner
 }
 
 // Whether the first n triangles are of generation g.
+#[tactic(auto, using(theory::proofs::Numbers::Decide::all_and), unfolding(rules::specs::Below::all))]
 fn all_of(generations: &[u8], n: usize, g: u8) -> bool
     requires { n ≤ length generations.now }
     ensures { result ≡ all n (λ t. eqb (get_or generations.now t 0) g) }
 {
     let mut same = true;
-    let mut t: usize = 0;
-    while t < n {
-        same = same & (generations[t] == g);
-        t += 1;
+    for generation in &generations[..n] {
+        same &= *generation == g;
     }
     same
 }
 
 // Whether no side is on the boundary and all triangles are of one even generation.
+#[tactic(auto, unfolding(rules::specs::Calls::closed_even))]
 pub fn closed_even(links: &[u32], generations: &[u8], triangles: u32) -> bool
     requires { (triangles ≤ 65536) × (3 * triangles ≤ length links.now) × (triangles ≤ length generations.now) }
     ensures { (v : ℕ) (c : List ℕ) →
@@ -62,12 +61,10 @@ pub fn move_all(positions: &mut [i32], vertices: u32, rule: u32, lengths: &[u8],
         Movable vertices rule m positions.old lengths.now sums.now
         → positions.new ≡ move_vertices vertices m positions.old }
 {
-    let mut v: u32 = 0;
-    while v < vertices {
+    for v in 0..vertices {
         let n = lengths[v as usize] as usize;
         let p = tables::point_in(positions, v);
         let sum = tables::point_in(sums, v);
         tables::store_point(positions, v, p.moved(rule, n, sum));
-        v += 1;
     }
 }

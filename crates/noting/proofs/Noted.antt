@@ -1,6 +1,6 @@
 -- A refine with a note: the note that is written, and the outcome.
-use Rattle.std.specs.Prelude.{Ok, Err}
-use mathlib.Core.Path.{◌≡◌, refl, sym, ap, ap₂, ◌∙◌}
+use Rattle.std.specs.Prelude.{Result, Ok, Err}
+use mathlib.Core.Path.{◌≡◌, refl, sym, ap, ap₂, subst, ◌∙◌}
 use mathlib.Core.Bool.{Bool, true, false, not}
 use mathlib.Core.List.{List, [], ◌∷◌, ◌++◌}
 use mathlib.Core.Logic.{◌≢◌, ◌⊎◌, inl, inr}
@@ -18,8 +18,17 @@ use Rattle.rules.specs.Notes.{note_of, nines_of, changed_slots, refined, note_re
 use Rattle.rules.specs.Notes.{noted_call}
 use Rattle.rules.specs.Reports.{with_note, reported_call}
 use Rattle.rules.specs.Split.{at_first, refine}
+use Rattle.rules.specs.Spares.{Spares}
 use Rattle.rules.specs.Tables.{Mesh}
+use Rattle.tables.specs.Lent.{mesh_with}
+use Rattle.tables.specs.declared.Counts.{Counts}
+use Rattle.split.specs.declared.Chain.{Chain}
+use Rattle.refining.specs.Finding.{Goes}
 use Rattle.reporting.specs.Told.{Told}
+use Rattle.tables.specs.Refusals.{number}
+use Rattle.tables.specs.declared.refusals.Refusal.{Refusal}
+use Rattle.tables.specs.declared.refusals.Refusal.TheVariants.{NoteShort, ReportShort}
+use Rattle.tables.proofs.Refusing.{number_some}
 use Rattle.refining.proofs.Telling.{told_all, as_refused, as_short, as_written}
 use Rattle.noting.specs.Changed.{FrontIs}
 use Rattle.noting.specs.Noting.{Notes, head_of}
@@ -41,19 +50,19 @@ module _ (t : ℕ) (m : Mesh) {slots : List ℕ} {k : ℕ} (H : FrontIs (changed
   by_tests lent a b fits p q = ap₂ (λ (x y : Bool). first_of (22 if x ∷ 23 if not y ∷ [])) (sym p) (sym q)
 
   -- It is too long for what is lent.
-  pub too_short : (lent : List ℕ) {fits : Bool} → length lent < 4 + 9 * k → Notes t m lent fits (Err 22) lent
+  pub too_short : (lent : List ℕ) {fits : Bool} → length lent < 4 + 9 * k → Notes t m lent fits (Err NoteShort) lent
   too_short lent {fits} b =
       let e = lt-ltb (length lent) (length (note_of t m (refined t m))) (omega (arith, note_length)) in record {
-        refusal = (by_tests lent true fits fits e refl, omega arith);
+        refusal = by_tests lent true fits fits e refl;
         short = refl;
         written = tt;
       }
 
   -- It is not, but the report does not fit.
-  pub no_report : (lent : List ℕ) {fits : Bool} → 4 + 9 * k ≤ length lent → fits ≡ false → Notes t m lent fits (Err 23) lent
+  pub no_report : (lent : List ℕ) {fits : Bool} → 4 + 9 * k ≤ length lent → fits ≡ false → Notes t m lent fits (Err ReportShort) lent
   no_report lent {fits} b f =
       let e = le-ltb (length lent) (length (note_of t m (refined t m))) (omega (arith, note_length)) in record {
-        refusal = (by_tests lent false false fits e f, omega arith);
+        refusal = by_tests lent false false fits e f;
         short = refl;
         written = tt;
       }
@@ -163,17 +172,17 @@ module _ (t : ℕ) (note : List ℕ) (m : Mesh) (buffer : List ℕ) where
     test = ltb (length note) (length (note_of t m (refined t m)))
 
     module _ {fits : Bool} {left : List ℕ} (f : fits ≡ leb (length told) (length buffer)) where
-      pub reported_short : {r : ℕ} → Notes t m note fits (Err r) left
-          → with_report buffer 0 (refused_with r m (buffer_room left)) ≡ reported_call (with_note t note) buffer m
-      reported_short {r} N =
-          let (e, x) = N.refusal in
-          ap (λ (l : List ℕ). with_report buffer 0 (refused_with r m (buffer_room l))) N.short
-          ∙ go x (which_refused test fits e x)
+      pub reported_short : (r : Refusal) → Notes t m note fits (Err r) left
+          → with_report buffer 0 (refused_with (number r) m (buffer_room left)) ≡ reported_call (with_note t note) buffer m
+      reported_short r N =
+          ap (λ (l : List ℕ). with_report buffer 0 (refused_with (number r) m (buffer_room l))) N.short
+          ∙ go (which_refused test fits N.refusal (number_some r))
         where
-          go : r ≢ 0 → (r ≡ note_refusal t note m) ⊎ ((r ≡ 23) × (0 ≡ note_refusal t note m) × (fits ≡ false))
-              → with_report buffer 0 (refused_with r m (buffer_room note)) ≡ reported_call (with_note t note) buffer m
-          go x (inl q) = as_plain x (noted_short t note m r z q x refl)
-          go x (inr (p, q, e)) = as_unfit p q (leb-false (length told) (length buffer) (sym f ∙ e))
+          go : (number r ≡ note_refusal t note m) ⊎ ((number r ≡ 23) × (0 ≡ note_refusal t note m) × (fits ≡ false))
+              → with_report buffer 0 (refused_with (number r) m (buffer_room note))
+              ≡ reported_call (with_note t note) buffer m
+          go (inl q) = as_plain (number_some r) (noted_short t note m (number r) z q (number_some r) refl)
+          go (inr (p, q, e)) = as_unfit p q (leb-false (length told) (length buffer) (sym f ∙ e))
 
       pub reported_written : {n : ℕ} {after : List ℕ} (o : Outcome) → Notes t m note fits (Ok tt) left
           → o ≡ worked (refine t (at_first m)) → n ≡ length told → Told told buffer after 0
@@ -185,3 +194,13 @@ module _ (t : ℕ) (note : List ℕ) (m : Mesh) (buffer : List ℕ) where
           let j = leb-true (length told) (length buffer) (sym f ∙ F.1) in
           ap (with_report after n) (noted_carried t note m 0 z F.0 o p refl N.written)
           ∙ rw (e, told_all T j) (as_written told buffer (noted_call t note m) short (none F.0) j)
+
+-- ---- what is known of the tables as they were seen
+
+module _ (n : Counts) {seen lent : Spares} (e : seen ≡ lent) {t : ℕ} where
+  pub goes_seen : {c : Chain} → Goes t (mesh_with n lent) c → Goes t (mesh_with n seen) c
+  goes_seen {c} G = subst (λ (s : Spares). Goes t (mesh_with n s) c) (sym e) G
+
+  pub notes_seen : {note left : List ℕ} {fits : Bool} (r : Result (Unit {0}) Refusal)
+      → Notes t (mesh_with n seen) note fits r left → Notes t (mesh_with n lent) note fits r left
+  notes_seen {note} {left} {fits} r N = subst (λ (s : Spares). Notes t (mesh_with n s) note fits r left) e N

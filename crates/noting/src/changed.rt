@@ -1,7 +1,7 @@
 // The old slots that a refine changes, listed before the work, in rising order.
 ghost use Rattle.std.specs.Prelude.{List, ◌≡◌, ℕ, ◌+◌, ◌-◌, ◌*◌, ◌≤◌, ◌<◌, ℤ, length, get_or, drop};
 ghost use Rattle.rules.specs.Notes.{changed_slots, refined};
-ghost use Rattle.tables.specs.Lent.{mesh_now};
+ghost use Rattle.tables.specs.Lent.{seen, mesh_with};
 ghost use Rattle.tables.specs.declared.Counts.{Counts};
 ghost use Rattle.noting.specs.Rising.{Rising, Adds};
 ghost use Rattle.noting.specs.Changed.{Meets, Near, NearOne, NearMet, NearMets, AllMeet, Unmet, Beside, Met};
@@ -10,6 +10,7 @@ ghost use Rattle.refining.specs.Finding.{Goes};
 
 use crate::rising::insert;
 use split::Chain;
+use tables::View;
 
 // Puts the triangle whose base meets side h behind the first n of these, if there is one.
 // Kept: no heap; the room of the odd ones is fixed, with their number beside it.
@@ -96,14 +97,15 @@ fn list_beside(links: &[u32], generations: &[u8], slots: &mut [u32], from: usize
 // Lists the slots in use that a refine along this chain changes, in rising order, behind the place that is answered: the
 // odd triangles of the chain before its last and those whose bases meet its end, all with those across their sides 1;
 // and its end with those beside it. (The last odd one meets the end, or is the end.)
-pub fn list_changed(links: &[u32], generations: &[u8], chain: Chain, slots: &mut [u32]) -> usize
+pub fn list_changed(view: &View, chain: Chain, slots: &mut [u32]) -> usize
     requires { Rising slots.old 32
-        × ((t : ℕ) × (n : Counts) × (p : List ℤ) × (c : List ℕ) × (k : List ℕ) ×
-        Goes t (mesh_now n p c links.now generations.now k) chain) }
-    ensures { (result ≤ 32) × ((t : ℕ) (n : Counts) (p : List ℤ) (c k : List ℕ) →
-        let m = mesh_now n p c links.now generations.now k in
+        × ((t : ℕ) × (n : Counts) × Goes t (mesh_with n (seen view.now)) chain) }
+    ensures { (result ≤ 32) × ((t : ℕ) (n : Counts) →
+        let m = mesh_with n (seen view.now) in
         Goes t m chain → FrontIs (changed_slots m (refined t m)) (drop (result + 1) slots.new) (32 - result)) }
 {
+    let links = view.links;
+    let generations = view.generations;
     let mut odd = chain.slots;
     let before = chain.odd.saturating_sub(1) as usize;
     let n = add_mets(links, generations, &mut odd, before, chain.end);

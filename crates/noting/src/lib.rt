@@ -9,7 +9,8 @@ ghost use Rattle.rules.specs.Below.{fill};
 ghost use Rattle.rules.specs.Calls.{with_report};
 ghost use Rattle.rules.specs.Notes.{nine_of, nines_of, noted_call};
 ghost use Rattle.rules.specs.Reports.{with_note, reported_call};
-ghost use Rattle.tables.specs.Lent.{mesh_now, TrianglesAgree};
+ghost use Rattle.tables.specs.Lent.{held, seen, mesh_with, SameTables, TrianglesAgree};
+ghost use Rattle.tables.specs.Refusals.{refused};
 ghost use Rattle.tables.specs.declared.Counts.{Counts};
 ghost use Rattle.refining.specs.Finding.{Goes};
 ghost use Rattle.tables.specs.Standing.{standing};
@@ -18,7 +19,8 @@ ghost use Rattle.noting.specs.Noting.{write_from, head_of, Notes, noted_outcome}
 
 use refining::Reported;
 use split::Chain;
-use tables::{Counts, Worked};
+use tables::refusals::Refusal;
+use tables::{Counts, Tables, View, Worked};
 
 // Copies four entries from this place of a table on. All are read before one is written, so that they go as one.
 fn copy_four(table: &[u32], first: usize, note: &mut [u32], at: usize)
@@ -36,30 +38,19 @@ fn copy_four(table: &[u32], first: usize, note: &mut [u32], at: usize)
 }
 
 // Writes what slot s holds. Of corners and links one entry more is copied, the next slot's first, and then written over.
-fn write_nine(
-    corners: &[u32],
-    links: &[u32],
-    generations: &[u8],
-    locks: &[u8],
-    s: u32,
-    note: &mut [u32],
-    at: usize,
-)
-    requires { TrianglesAgree corners.now links.now generations.now
-        × (length locks.now ≡ length generations.now) × (s + 1 < length generations.now)
-        × (at + 8 < length note.old) }
-    ensures { (n : Counts) (p : List ℤ) →
-        let m = mesh_now n p corners.now links.now generations.now
-        locks.now in
-        note.new ≡ write_from at 9 (λ j. get_or (nine_of m s) j 0) note.old }
+fn write_nine(view: &View, s: u32, note: &mut [u32], at: usize)
+    requires { TrianglesAgree (seen view.now) × (length view.now.locks.now ≡ length view.now.generations.now)
+        × (s + 1 < length view.now.generations.now) × (at + 8 < length note.old) }
+    ensures { (n : Counts) →
+        note.new ≡ write_from at 9 (λ j. get_or (nine_of (mesh_with n (seen view.now)) s) j 0) note.old }
 {
     let slot = s as usize;
     let first = 3 * slot;
     note[at] = s;
-    copy_four(corners, first, note, at + 1);
-    copy_four(links, first, note, at + 4);
-    note[at + 7] = generations[slot] as u32;
-    note[at + 8] = locks[slot] as u32;
+    copy_four(view.corners, first, note, at + 1);
+    copy_four(view.links, first, note, at + 4);
+    note[at + 7] = view.generations[slot] as u32;
+    note[at + 8] = view.locks[slot] as u32;
 }
 
 // Writes what stands in a note before its k slots.
@@ -75,180 +66,96 @@ fn write_head(counts: Counts, t: u32, k: usize, note: &mut [u32])
 }
 
 // Writes the note of a refine of t that changes these slots.
-fn write_note(
-    corners: &[u32],
-    links: &[u32],
-    generations: &[u8],
-    locks: &[u8],
-    counts: Counts,
-    t: u32,
-    slots: &[u32],
-    note: &mut [u32],
-)
-    requires { TrianglesAgree corners.now links.now generations.now
-        × (length locks.now ≡ length generations.now) × (length slots.now ≤ 32)
-        × ((i : ℕ) → i < length slots.now → get_or slots.now i 0 + 1 < length generations.now)
+fn write_note(view: &View, counts: Counts, t: u32, slots: &[u32], note: &mut [u32])
+    requires { TrianglesAgree (seen view.now) × (length view.now.locks.now ≡ length view.now.generations.now)
+        × (length slots.now ≤ 32)
+        × ((i : ℕ) → i < length slots.now → get_or slots.now i 0 + 1 < length view.now.generations.now)
         × (4 + 9 * length slots.now ≤ length note.old) }
-    ensures { (p : List ℤ) (list : List ℕ) → FrontIs list slots.now (length slots.now) →
+    ensures { (list : List ℕ) → FrontIs list slots.now (length slots.now) →
         let k = length slots.now in
-        let m = mesh_now counts p corners.now links.now generations.now
-        locks.now in
+        let m = mesh_with counts (seen view.now) in
         note.new ≡ fill (4 + 9 * k)
         (λ i. get_or (head_of t counts.vertices counts.triangles k ++ nines_of m list) i 0) note.old }
 {
     write_head(counts, t, slots.len(), note);
     for (i, slot) in slots.iter().enumerate() {
-        write_nine(corners, links, generations, locks, *slot, note, 4 + 9 * i);
+        write_nine(view, *slot, note, 4 + 9 * i);
     }
 }
 
-// Writes the note of a refine of t along this chain; or refuses it, with 22 where what is lent is too short for it, and
-// then with 23 where a report of the refine does not fit.
+// Writes the note of a refine of t along this chain; or refuses it where what is lent is too short for it, and then where
+// a report of the refine does not fit.
 fn note_changes(
-    corners: &[u32],
-    links: &[u32],
-    generations: &[u8],
-    locks: &[u8],
+    view: &View,
     counts: Counts,
     t: u32,
     chain: Chain,
     note: &mut [u32],
     report_fits: bool,
-) -> Result<(), u32>
-    requires { (p : List ℤ) ×
-        Goes t (mesh_now counts p corners.now links.now generations.now locks.now) chain }
-    ensures { (p : List ℤ) →
-        let m = mesh_now counts p corners.now links.now generations.now
-        locks.now in
-        Goes t m chain → Notes t m note.old report_fits result note.new }
+) -> Result<(), Refusal>
+    requires { Goes t (mesh_with counts (seen view.now)) chain }
+    ensures { Notes t (mesh_with counts (seen view.now)) note.old report_fits result note.new }
 {
     let mut slots: [u32; 40] = [tables::BOUNDARY; 40];
-    let from = changed::list_changed(links, generations, chain, &mut slots);
+    let from = changed::list_changed(view, chain, &mut slots);
     let listed = &slots[from + 1..33];
     if note.len() < 4 + 9 * listed.len() {
-        return Err(22);
+        return Err(Refusal::NoteShort);
     }
     if !report_fits {
-        return Err(23);
+        return Err(Refusal::ReportShort);
     }
-    write_note(corners, links, generations, locks, counts, t, listed, note);
+    write_note(view, counts, t, listed, note);
     Ok(())
 }
 
-// Refines triangle t of a mesh whose first refusal is known, with a note of what it changes.
+// Refines triangle t of a mesh that stands or is refused itself, with a note of what it changes.
 pub fn refine_noted(
-    positions: &mut [i32],
-    corners: &mut [u32],
-    links: &mut [u32],
-    generations: &mut [u8],
-    locks: &mut [u8],
+    tables: &mut Tables,
     counts: Counts,
     t: u32,
-    bad: u32,
+    stands: Result<(), Refusal>,
     note: &mut [u32],
 ) -> Worked
-    requires { bad ≡ standing (mesh_now counts positions.old corners.old links.old generations.old
-        locks.old) }
-    ensures { noted_outcome result positions.new corners.new links.new generations.new
-        locks.new note.new
-        ≡ noted_call t note.old (mesh_now counts positions.old corners.old
-        links.old generations.old locks.old) }
+    requires { refused stands ≡ standing (mesh_with counts (held tables.old)) }
+    ensures refined { noted_outcome result (held tables.new) note.new
+        ≡ noted_call t note.old (mesh_with counts (held tables.old)) }
+    ensures lent { SameTables tables.new tables.old }
 {
-    let chain = match refining::find(positions, links, generations, locks, counts, t, bad) {
+    let chain = match refining::find(&tables.view(), counts, t, stands) {
         Ok(chain) => chain,
-        Err(refusal) => {
-            return Worked {
-                refusal,
-                splits: 0,
-                flips: 0,
-                counts,
-            };
-        }
+        Err(refusal) => return Worked::refused(refusal, counts),
     };
-    match note_changes(
-        corners,
-        links,
-        generations,
-        locks,
-        counts,
-        t,
-        chain,
-        note,
-        true,
-    ) {
+    match note_changes(&tables.view(), counts, t, chain, note, true) {
         Ok(()) => {
             let mut none = [0u32; 1];
-            refining::carry_out(
-                positions,
-                corners,
-                links,
-                generations,
-                locks,
-                counts,
-                t,
-                chain,
-                &mut none,
-                1,
-            )
+            refining::carry_out(tables, counts, t, chain, &mut none, 1)
         }
-        Err(refusal) => Worked {
-            refusal,
-            splits: 0,
-            flips: 0,
-            counts,
-        },
+        Err(refusal) => Worked::refused(refusal, counts),
     }
 }
 
 // Refines triangle t with a note as above, and reports the slots that it writes.
 pub fn refine_noted_reported(
-    positions: &mut [i32],
-    corners: &mut [u32],
-    links: &mut [u32],
-    generations: &mut [u8],
-    locks: &mut [u8],
+    tables: &mut Tables,
     counts: Counts,
     t: u32,
-    bad: u32,
+    stands: Result<(), Refusal>,
     note: &mut [u32],
     report: &mut [u32],
 ) -> Reported
-    requires { bad ≡ standing (mesh_now counts positions.old corners.old links.old generations.old
-        locks.old) }
-    ensures { with_report report.new result.reported (noted_outcome result.worked positions.new
-        corners.new links.new generations.new locks.new note.new)
-        ≡ reported_call (with_note t note.old) report.old (mesh_now counts
-        positions.old corners.old links.old generations.old
-        locks.old) }
+    requires { refused stands ≡ standing (mesh_with counts (held tables.old)) }
+    ensures refined { with_report report.new result.reported (noted_outcome result.worked (held tables.new) note.new)
+        ≡ reported_call (with_note t note.old) report.old (mesh_with counts (held tables.old)) }
+    ensures lent { SameTables tables.new tables.old }
 {
-    let chain = match refining::find(positions, links, generations, locks, counts, t, bad) {
+    let chain = match refining::find(&tables.view(), counts, t, stands) {
         Ok(chain) => chain,
         Err(refusal) => return Reported::refused(refusal, counts),
     };
-    let report_fits = reporting::fits(links, generations, chain, report.len());
-    match note_changes(
-        corners,
-        links,
-        generations,
-        locks,
-        counts,
-        t,
-        chain,
-        note,
-        report_fits,
-    ) {
-        Ok(()) => Reported::carried(refining::carry_out(
-            positions,
-            corners,
-            links,
-            generations,
-            locks,
-            counts,
-            t,
-            chain,
-            report,
-            0,
-        )),
+    let report_fits = reporting::fits(&tables.view(), chain, report.len());
+    match note_changes(&tables.view(), counts, t, chain, note, report_fits) {
+        Ok(()) => Reported::carried(refining::carry_out(tables, counts, t, chain, report, 0)),
         Err(refusal) => Reported::refused(refusal, counts),
     }
 }

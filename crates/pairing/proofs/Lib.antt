@@ -1,5 +1,4 @@
 -- Laws that several proofs of the code cite.
 pub mod Stamps
 pub mod Pairs
-pub mod Threading
 pub mod Links

@@ -14,15 +14,6 @@ use Rattle.rules.specs.Tables.{next, previous}
 use Rattle.pairing.specs.Pairing.{Last, Stamping, Stamp, taken, free, Linking}
 use Rattle.pairing.proofs.Stamps.{Cursor}
 
--- No side into v is linked yet.
-pub linking_none : {c : Cage} {v p : ℕ} {links : List ℕ} → Last c (3 * c.triangles) v p
-    → Linking c v (3 * c.triangles) links → Linking c v p links
-linking_none L K = record {
-  room = K.room;
-  before = K.before;
-  here = λ h l e a. absurd (L.none h a l e);
-}
-
 -- Sides that follow different sides are different.
 apart : (j h : ℕ) → j ≢ h → previous j ≢ previous h
 apart j h n e = n (sym (next_previous j) ∙ ap next e ∙ next_previous h)

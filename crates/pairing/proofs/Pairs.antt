@@ -1,15 +1,14 @@
 -- The sides of all vertices, one vertex after the other.
 use mathlib.Core.Path.{◌≡◌, sym, ap, subst, ◌∙◌}
 use mathlib.Core.List.{List}
-use Prim.Native.Nat.{ℕ, ◌+◌, ◌*◌, ◌≤◌, ◌<◌}
+use Prim.Native.Nat.{ℕ, ◌+◌, ◌*◌, ◌<◌}
 use native.Mathlib.Omega.{arith}
 use native.Mathlib.Decide.{ℕ_discrete}
-use lib.ListN.{length, get_or}
+use lib.ListN.{get_or}
 use Rattle.rules.specs.Promises.{Matches}
 use Rattle.theory.proofs.Links.Sides.{next_lt, previous_next}
 use Rattle.rules.specs.Cage.{Cage}
 use Rattle.rules.specs.Tables.{next, previous}
-use Rattle.rings.specs.Walks.{Zeroed}
 use Rattle.pairing.specs.Pairing.{Stamps, Stamping, Linking, Matched}
 
 -- The sides into the vertices below v are linked, and no two sides out of them run the same way.
@@ -18,14 +17,6 @@ pub record Pairing (c : Cage) (v : ℕ) (slots links : List ℕ) : Type 0 where
   pub linking : Linking c v (3 * c.triangles) links
   pub differ : (h k : ℕ) → h < 3 * c.triangles → k < 3 * c.triangles → c.corner h < v → c.corner h ≡ c.corner k
       → c.corner (next h) ≡ c.corner (next k) → h ≡ k
-
-pub pairing_none : {c : Cage} {slots links : List ℕ} → Zeroed c.vertices slots → 3 * c.triangles ≤ length links
-    → Pairing c 0 slots links
-pairing_none Z r = record {
-  stamps = record { room = Z.size; each = λ w k b e. absurd (omega (arith, Z.each w b)) };
-  linking = record { room = r; before = λ h l b. absurd (omega arith); here = λ h l e a. absurd (omega arith) };
-  differ = λ h k l i b. absurd (omega arith);
-}
 
 -- One vertex more.
 pub pairing_more : {c : Cage} {v : ℕ} {slots slots' links links' : List ℕ} → Pairing c v slots links

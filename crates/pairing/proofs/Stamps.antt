@@ -10,6 +10,7 @@ use lib.Seq.{get_or-set_same, get_or-set_other}
 use Rattle.rules.specs.Cage.{Cage}
 use Rattle.rules.specs.Conditions.{SidesDiffer}
 use Rattle.rules.specs.Tables.{next, boundary}
+use Rattle.decoding.specs.Decoded.{Readable}
 use Rattle.pairing.specs.Pairing.{Last, Threads, EndsAt, Stamps, Stamping, Stamp, taken, free}
 
 -- ---- along a thread
@@ -27,9 +28,14 @@ pub starts : {c : Cage} {heads nexts : List ℕ} {v p : ℕ} → Threads c (3 * 
     → p ≡ get_or heads v 0 → Last c (3 * c.triangles) v p
 starts {v = v} T l e = rw e (T.head v l)
 
-pub goes_on_lem : {c : Cage} {heads nexts : List ℕ} {v p q : ℕ} (h : ℕ) → Threads c (3 * c.triangles) heads nexts
+pub goes_on : {c : Cage} {heads nexts : List ℕ} {v p q : ℕ} (h : ℕ) → Threads c (3 * c.triangles) heads nexts
     → Cursor c v p → p ≡ h + 1 → q ≡ get_or nexts h 0 → Last c h v q
-goes_on_lem h T C e f = rw f (rw (C.from h e) at (T.next h (omega (arith, C.most))))
+goes_on h T C e f = rw f (rw (C.from h e) at (T.next h (omega (arith, C.most))))
+
+-- The corner at a place that a call names is a vertex.
+pub corner_read : {v f k n : ℕ} {corners : List ℕ} → Readable v f corners → k < 3 * f → n ≡ k
+    → (get_or corners k 0 ≡ get_or corners n 0) × (get_or corners n 0 < v)
+corner_read R l e = rw e (refl, R.corner _ l)
 
 -- ---- stamps
 

@@ -1,4 +1,3 @@
 -- Laws that the proofs of the test of fans cite.
 pub mod Fits
 pub mod Counted
-pub mod Begun

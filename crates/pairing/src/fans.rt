@@ -9,64 +9,42 @@ ghost use Rattle.decoding.specs.Decoded.{decoded, Readable};
 ghost use Rattle.pairing.specs.Fans.{TellsFit};
 ghost use Rattle.pairing.specs.Pairing.{Threads};
 
-use decoding::wide;
+use crate::threaded::Threaded;
 use tables::BOUNDARY;
 
-// Whether v is off the boundary and has exactly two triangles: two sides out of it, neither on the boundary.
-// In a thread all numbers are one more than a side, and 0 ends it.
-fn inner_of_two(
-    corners: &[u32],
-    links: &[u32],
-    triangles: usize,
-    vertices: usize,
-    heads: &[u32],
-    nexts: &[u32],
-    v: usize,
-) -> bool
-    requires threads { Threads (decoded vertices triangles corners.now) (3 * triangles) heads.now nexts.now }
-    requires triangles_in_bounds { (3 * triangles ≤ length links.now) × (v < vertices) }
-    ensures { Decides result (InnerOfTwo
-        (topology_of vertices triangles corners.now links.now []) v) }
-{
-    let h = wide(heads[v]);
-    if h == 0 {
-        return false;
-    }
-    let k = wide(nexts[h - 1]);
-    if k == 0 {
-        return false;
-    }
-    if nexts[k - 1] != 0 {
-        return false;
-    }
-    if links[h - 1] == BOUNDARY {
-        return false;
-    }
-    links[k - 1] != BOUNDARY
-}
-
-// Whether some vertex is such.
-fn some_inner_of_two(
-    corners: &[u32],
-    links: &[u32],
-    triangles: usize,
-    vertices: usize,
-    heads: &[u32],
-    nexts: &[u32],
-) -> bool
-    requires threads { Threads (decoded vertices triangles corners.now) (3 * triangles) heads.now nexts.now }
-    requires triangles_in_bounds { 3 * triangles ≤ length links.now }
-    ensures { Decides result ((v : ℕ) × (v < vertices) × InnerOfTwo
-        (topology_of vertices triangles corners.now links.now []) v) }
-{
-    let mut v: usize = 0;
-    while v < vertices {
-        if inner_of_two(corners, links, triangles, vertices, heads, nexts, v) {
-            return true;
+impl Threaded<'_> {
+    // Whether v is off the boundary and has exactly two triangles: two sides out of it, neither on the boundary.
+    fn inner_of_two(&self, links: &[u32], v: usize) -> bool
+        requires link_room { 3 * self.now.triangles ≤ length links.now }
+        requires v_in_use { v < self.now.vertices }
+        ensures { Decides result (InnerOfTwo
+            (topology_of self.now.vertices self.now.triangles self.now.corners.now links.now []) v) }
+    {
+        let h = self.heads[v] as usize;
+        if h == 0 {
+            return false;
         }
-        v += 1;
+        let k = self.nexts[h - 1] as usize;
+        if k == 0 {
+            return false;
+        }
+        if self.nexts[k - 1] != 0 {
+            return false;
+        }
+        if links[h - 1] == BOUNDARY {
+            return false;
+        }
+        links[k - 1] != BOUNDARY
     }
-    false
+
+    // Whether some vertex is such.
+    fn some_inner_of_two(&self, links: &[u32]) -> bool
+        requires { 3 * self.now.triangles ≤ length links.now }
+        ensures { Decides result ((v : ℕ) × (v < self.now.vertices) × InnerOfTwo
+            (topology_of self.now.vertices self.now.triangles self.now.corners.now links.now []) v) }
+    {
+        (0..self.vertices).any(|v| self.inner_of_two(links, v))
+    }
 }
 
 // A side on the boundary in place of the head of each thread that has one.
@@ -83,13 +61,10 @@ fn begin_at_boundary(
     ensures { AllBegun vertices corners.now links.now (3 * triangles) (3 * triangles)
         heads.new }
 {
-    let mut h: usize = 0;
-    while h < 3 * triangles {
+    for h in 0..3 * triangles {
         if links[h] == BOUNDARY {
-            let v = wide(corners[h]);
-            heads[v] = h as u32 + 1;
+            heads[corners[h] as usize] = h as u32 + 1;
         }
-        h += 1;
     }
 }
 
@@ -107,14 +82,14 @@ pub fn fit(
     requires threads { Threads (decoded vertices triangles corners.now) (3 * triangles) heads.old nexts.now }
     ensures { TellsFit vertices triangles corners.now links.now result }
 {
-    if some_inner_of_two(
+    let cage = Threaded {
         corners,
-        links,
-        triangles as usize,
-        vertices as usize,
+        triangles: triangles as usize,
+        vertices: vertices as usize,
         heads,
         nexts,
-    ) {
+    };
+    if cage.some_inner_of_two(links) {
         return false;
     }
     begin_at_boundary(corners, links, triangles as usize, vertices as usize, heads);

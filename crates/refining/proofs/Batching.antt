@@ -24,7 +24,7 @@ use Rattle.rules.specs.Spares.{Spares, copied, mesh_in, SameSizes}
 use Rattle.rules.specs.Split.{Work, at_first, refine}
 use Rattle.rules.specs.Tables.{Mesh, generation}
 use Rattle.tables.specs.declared.Counts.{Counts}
-use Rattle.tables.specs.Lent.{mesh_now, HasSlots}
+use Rattle.tables.specs.Lent.{mesh_now, spares_now, HasSlots}
 use Rattle.reporting.specs.Told.{Tells, Told, told_unless}
 use Rattle.reporting.proofs.Telling.{tells_none, tells_on}
 use Rattle.refining.specs.Batches.{StartsWith, Begins, Handles, Made, MayWork}
@@ -152,7 +152,7 @@ over_slots s m n e f =
 
 -- ---- slots for what is copied
 
-pub has_slots : (n : Counts) {p : List ℤ} {c l g k : List ℕ} → Sound (mesh_now n p c l g k) → HasSlots n p c l g k
+pub has_slots : (n : Counts) {p : List ℤ} {c l g k : List ℕ} → Sound (mesh_now n p c l g k) → HasSlots n (spares_now p c l g k)
 has_slots n S =
     let A = S.tables in
     record {
@@ -164,9 +164,9 @@ has_slots n S =
     }
 
 -- Tables as long have the same.
-pub same_slots : {n : Counts} {p q : List ℤ} {c l g k c' l' g' k' : List ℕ} → HasSlots n p c l g k → length q ≡ length p
-    → length c' ≡ length c → length l' ≡ length l → length g' ≡ length g → length k' ≡ length k
-    → HasSlots n q c' l' g' k'
+pub same_slots : {n : Counts} {s t : Spares} → HasSlots n s → length t.positions ≡ length s.positions
+    → length t.corners ≡ length s.corners → length t.links ≡ length s.links
+    → length t.generations ≡ length s.generations → length t.locks ≡ length s.locks → HasSlots n t
 same_slots H a b c d e = record {
   positions = omega (arith, H.positions);
   corners = omega (arith, H.corners);
@@ -190,7 +190,7 @@ module _ {m : Mesh} {s : Spares} (W : MayWork m s) where
 -- The mesh copied into the spare tables, and what was made of it copied back.
 module _ (n : Counts) {p : List ℤ} {c l g k : List ℕ} {s : Spares} where
   pub slots_there : MayWork (mesh_now n p c l g k) s
-      → HasSlots n p c l g k × HasSlots n s.positions s.corners s.links s.generations s.locks
+      → HasSlots n (spares_now p c l g k) × HasSlots n s
   slots_there W =
       let H = has_slots n (may_sound W) in
       let L = W.sizes in
@@ -198,7 +198,7 @@ module _ (n : Counts) {p : List ℤ} {c l g k : List ℕ} {s : Spares} where
 
   pub slots_back : (r : Counts) {w : Progress} {q : List ℤ} {c' l' g' k' : List ℕ} {e at i j : ℕ}
       → SameSizes s (mesh_now n p c l g k) → Going (mesh_now n p c l g k) w.work
-      → Done w s e at i j (mesh_now r q c' l' g' k') → HasSlots r q c' l' g' k' × HasSlots r p c l g k
+      → Done w s e at i j (mesh_now r q c' l' g' k') → HasSlots r (spares_now q c' l' g' k') × HasSlots r (spares_now p c l g k)
   slots_back r {w} {q} {c'} {l'} {g'} {k'} L G D =
       let m = mesh_now n p c l g k in
       let X : Sound (mesh_now r q c' l' g' k') = rw D.tables (over_sound (going_sizes L G) G.sound) in

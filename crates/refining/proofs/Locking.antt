@@ -21,6 +21,7 @@ use Rattle.rules.specs.Split.{chain_end, chain_odd, chain_at}
 use Rattle.rules.specs.Tables.{Mesh, link, is_base, locked}
 use Rattle.split.specs.Made.{BaseChain}
 use Rattle.split.specs.declared.Chain.{Chain}
+use Rattle.tables.specs.Lent.{spares_now}
 use Rattle.refining.specs.Locked.{Follows}
 
 -- ---- the chain
@@ -37,7 +38,7 @@ module _ {t : ℕ} {m : Mesh} (S : Sound m) (l : t < m.topology.triangles) where
   few_odd = omega (arith, chain_bound t m S l, S.generations t l)
 
   pub follows : {c : Chain} → BaseChain m.topology t c
-      → Follows c m.topology.links m.topology.generations m.locks
+      → Follows c (spares_now m.positions m.topology.corners m.topology.links m.topology.generations m.locks)
   follows C =
       let L = S.tables.locks in record {
         few = omega (arith, C.odd, few_odd);

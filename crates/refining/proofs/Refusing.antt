@@ -1,16 +1,16 @@
 -- The first refusal of a refine, found test by test.
 use borrow.Author.Tests.{leb-false}
-use Rattle.std.specs.Prelude.{Ok}
+use Rattle.std.specs.Prelude.{Result, Ok}
 use mathlib.Core.Bool.{Bool, true, false, not}
 use mathlib.Core.List.{List, [], ◌∷◌}
 use mathlib.Core.Logic.{◌≢◌}
-use mathlib.Core.Path.{◌≡◌, refl, sym, ap₂, ◌∙◌}
+use mathlib.Core.Path.{◌≡◌, refl, sym, ap₂, subst, ◌∙◌}
 use Prim.Native.Nat.{ℕ, ◌≤◌, ◌<◌}
 use native.Mathlib.Omega.{arith}
 use lib.Dec.{leb}
 use Rattle.theory.proofs.Numbers.Decide.{Decides}
 use Rattle.theory.proofs.Calls.Carried.{refine_found}
-use Rattle.theory.proofs.Calls.FirstThatHolds.{two_passed, refuses, carries}
+use Rattle.theory.proofs.Calls.FirstThatHolds.{two_kept, two_passed, refuses, carries}
 use Rattle.theory.proofs.Soundness.SoundTest.{sound_is}
 use Rattle.rules.specs.Calls.{Test, ◌if◌, first_of, no_room, refused_with, room_for, worked, refine_refusal, refine_call}
 use Rattle.rules.specs.Calls.{vertices_of, triangles_of, too_old, alters_locked}
@@ -18,7 +18,11 @@ use Rattle.rules.specs.Sound.{Sound, is_sound}
 use Rattle.rules.specs.Split.{at_first, refine}
 use Rattle.rules.specs.Tables.{Mesh, tables_agree, generation}
 use Rattle.refining.specs.Finding.{Finds, Goes}
+use Rattle.rules.specs.Spares.{Spares}
+use Rattle.tables.specs.Lent.{mesh_with}
 use Rattle.tables.specs.Standing.{standing}
+use Rattle.tables.specs.declared.Counts.{Counts}
+use Rattle.tables.specs.declared.refusals.Refusal.{Refusal}
 use Rattle.split.specs.declared.Chain.{Chain}
 
 -- Four tests before the rest.
@@ -50,6 +54,12 @@ module _ (t : ℕ) (m : Mesh) where
       ∷ []
       )
 
+  -- The mesh's own refusal comes first.
+  pub triangle_stands : (r : ℕ) → r ≡ standing m → r ≢ 0 → r ≡ triangle_refusal
+  triangle_stands =
+      two_kept (not (tables_agree m)) (not (is_sound m))
+      (8 if leb m.topology.triangles t ∷ 9 if too_old m.topology t ∷ [])
+
   -- The refusal by the answers of the tests. A test that was not made stands for itself.
   module _ (r : ℕ) (s : r ≡ standing m) (z : r ≡ 0) where
     triangle_by_tests : {a b : Bool} → leb m.topology.triangles t ≡ a → too_old m.topology t ≡ b
@@ -57,6 +67,9 @@ module _ (t : ℕ) (m : Mesh) where
     triangle_by_tests a b =
         sym (two_passed (not (tables_agree m)) (not (is_sound m))
         (8 if leb m.topology.triangles t ∷ 9 if too_old m.topology t ∷ []) r s z ∙ rw (b, a))
+
+    pub triangle_eight : leb m.topology.triangles t ≡ true → 8 ≡ triangle_refusal
+    triangle_eight a = triangle_by_tests a refl
 
     module _ (a : leb m.topology.triangles t ≡ false) where
       pub triangle_nine : too_old m.topology t ≡ true → 9 ≡ triangle_refusal
@@ -126,3 +139,11 @@ module _ (t : ℕ) (m : Mesh) (r : ℕ) (e : r ≡ refine_refusal t m) where
 -- Where nothing is found to refuse, the refine is carried out.
 pub finds_goes : {t : ℕ} {m : Mesh} {c : Chain} → Finds t m (Ok c) → Goes t m c
 finds_goes {t} {m} F = record { found = refine_found t m (sym F.0); chain = F.1 }
+
+-- What is known of the tables as they were seen is known of them as they are lent.
+module _ (n : Counts) {seen lent : Spares} (e : seen ≡ lent) where
+  pub stands_seen : {r : ℕ} → r ≡ standing (mesh_with n lent) → r ≡ standing (mesh_with n seen)
+  stands_seen {r} s = subst (λ (x : Spares). r ≡ standing (mesh_with n x)) (sym e) s
+
+  pub found_seen : (t : ℕ) (r : Result Chain Refusal) → Finds t (mesh_with n seen) r → Finds t (mesh_with n lent) r
+  found_seen t r F = subst (λ (x : Spares). Finds t (mesh_with n x) r) e F

@@ -1,5 +1,5 @@
 -- Work in spare tables, by lists and by boxes.
-use Rattle.std.specs.Prelude.{ℕ, zero, suc, ◌+◌, ◌*◌, Bool, true, false, List, [], ◌≡◌, ltb, ℤ, length}
+use Rattle.std.specs.Prelude.{ℕ, zero, suc, ◌+◌, ◌*◌, Bool, true, false, List, [], ◌≡◌, ltb, length}
 use Rattle.theory.proofs.Chains.Going.{Going}
 use Rattle.theory.proofs.Lists.Holding.{Done}
 use Rattle.theory.proofs.Spares.OverSpares.{over}
@@ -9,7 +9,7 @@ use Rattle.rules.specs.Reports.{report_in, reported_as}
 use Rattle.rules.specs.Sound.{Sound}
 use Rattle.rules.specs.Spares.{Spares, SameSizes}
 use Rattle.rules.specs.Tables.{Mesh}
-use Rattle.tables.specs.Lent.{mesh_now}
+use Rattle.tables.specs.Lent.{mesh_with, mesh_now}
 use Rattle.tables.specs.declared.Counts.{Counts}
 use Rattle.tables.specs.Standing.{standing}
 use Rattle.refining.specs.declared.spares.Batch.{Batch}
@@ -51,9 +51,9 @@ abbrev pub list_done : List ℕ → Mesh → Spares → Outcome
 list_done list m s = all_or_nothing (refine_each list m).refusal (refine_each list m) s m
 
 -- The outcome of a call that works in spare tables and may change the mesh.
-abbrev pub batch_outcome : BatchWorked → List ℤ → List ℕ → List ℕ → List ℕ → List ℕ → Spares → Outcome
-batch_outcome a positions corners links generations locks s =
-    let m = mesh_now a.counts positions corners links generations locks in
+abbrev pub batch_outcome : BatchWorked → Spares → Spares → Outcome
+batch_outcome a t s =
+    let m = mesh_with a.counts t in
     let n = mesh_now a.spares [] [] [] [] [] in
     outcome_of (spares_answer a.refusal a.splits a.flips m a.handled n) m (spare_room s)
 

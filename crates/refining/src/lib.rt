@@ -11,16 +11,18 @@ ghost use Rattle.rules.specs.Sound.{is_sound};
 ghost use Rattle.rules.specs.Split.{at_first, refine};
 ghost use Rattle.rules.specs.Tables.{tables_agree};
 ghost use Rattle.tables.specs.Answers.{worked_outcome};
-ghost use Rattle.tables.specs.Lent.{topology_now, mesh_now};
+ghost use Rattle.tables.specs.Lent.{held, seen, topology_with, mesh_with, SameTables};
+ghost use Rattle.tables.specs.Refusals.{number, refused};
 ghost use Rattle.tables.specs.declared.Counts.{Counts};
 ghost use Rattle.split.specs.Made.{BaseChain};
 ghost use Rattle.tables.specs.Standing.{standing};
 ghost use Rattle.refining.specs.Locked.{Follows};
 ghost use Rattle.reporting.specs.Told.{Told, told_unless};
-ghost use Rattle.refining.specs.Finding.{Checks, Finds, Goes, refused_report};
+ghost use Rattle.refining.specs.Finding.{Finds, Goes, refused_report};
 
 use split::Chain;
-use tables::{Counts, Worked};
+use tables::refusals::Refusal;
+use tables::{Counts, Tables, View, Worked};
 
 // The answer of a refine with a report: the length of the report too.
 #[repr(C)]
@@ -32,16 +34,11 @@ pub struct Reported {
 
 impl Reported {
     // The answer of one that is refused.
-    pub fn refused(refusal: u32, counts: Counts) -> Self
-        ensures { result ≡ refused_report refusal counts }
+    pub fn refused(refusal: Refusal, counts: Counts) -> Self
+        ensures { result ≡ refused_report (number refusal) counts }
     {
         Self {
-            worked: Worked {
-                refusal,
-                splits: 0,
-                flips: 0,
-                counts,
-            },
+            worked: Worked::refused(refusal, counts),
             reported: 0,
         }
     }
@@ -62,124 +59,86 @@ impl Reported {
 }
 
 // Whether t may rise no more: it is of generation 20, or of 19 with its base on the boundary.
-fn too_old(links: &[u32], generations: &[u8], t: u32) -> bool
-    ensures { (n : Counts) (corners : List ℕ) →
-        result ≡ too_old (topology_now n corners links.now generations.now) t }
+fn too_old(view: &View, t: u32) -> bool
+    ensures { (n : Counts) → result ≡ too_old (topology_with n (seen view.now)) t }
 {
-    let g = tables::generation_at(generations, t);
-    g == 20 || (g == 19 && tables::base_link(links, t) == tables::BOUNDARY)
+    let g = tables::generation_at(view.generations, t);
+    g == 20 || (g == 19 && tables::base_link(view.links, t) == tables::BOUNDARY)
 }
 
-// Refuses a refine by the mesh, whose own first refusal is `bad`, and the triangle.
+// Refuses a refine by the mesh, which stands or is refused itself, and the triangle.
 fn check_triangle(
-    links: &[u32],
-    generations: &[u8],
+    view: &View,
     counts: Counts,
     t: u32,
-    bad: u32,
-) -> Result<(), u32>
-    ensures { (positions : List ℤ) (corners locks : List ℕ) →
-        let m = mesh_now counts positions corners links.now generations.now locks in
-        bad ≡ standing m
-        → Checks (first_of (1 if not (tables_agree m) ∷ 7 if not (is_sound m)
-        ∷ 8 if leb m.topology.triangles t ∷ 9 if too_old m.topology t ∷ [])) result }
+    stands: Result<(), Refusal>,
+) -> Result<(), Refusal>
+    ensures { let m = mesh_with counts (seen view.now) in
+        refused stands ≡ standing m
+        → refused result ≡ first_of (1 if not (tables_agree m) ∷ 7 if not (is_sound m)
+        ∷ 8 if leb m.topology.triangles t ∷ 9 if too_old m.topology t ∷ []) }
 {
-    if bad != 0 {
-        return Err(bad);
-    }
+    stands?;
     if counts.triangles <= t {
-        return Err(8);
+        return Err(Refusal::NotInUse);
     }
-    if too_old(links, generations, t) {
-        return Err(9);
+    if too_old(view, t) {
+        return Err(Refusal::Generation);
     }
     Ok(())
 }
 
 // Refuses a refine by the base chain of its triangle.
-fn check_chain(
-    positions: &[i32],
-    links: &[u32],
-    generations: &[u8],
-    locks: &[u8],
-    counts: Counts,
-    chain: Chain,
-) -> Result<(), u32>
-    requires { Follows chain links.now generations.now locks.now }
-    ensures { (t : ℕ) (corners : List ℕ) →
-        let m = mesh_now counts positions.now corners links.now generations.now
-        locks.now in
+fn check_chain(view: &View, counts: Counts, chain: Chain) -> Result<(), Refusal>
+    requires { Follows chain (seen view.now) }
+    ensures { (t : ℕ) →
+        let m = mesh_with counts (seen view.now) in
         let s = max 1 (chain.odd - chain.rim) in
         BaseChain m.topology t chain
-        → Checks (first_of (19 if alters_locked t m ∷ 11 if not (room_for (s + chain.rim) (2 * s) m) ∷ [])) result }
+        → refused result ≡ first_of (19 if alters_locked t m ∷ 11 if not (room_for (s + chain.rim) (2 * s) m) ∷ []) }
 {
-    if locked::alters_locked(links, generations, locks, chain) {
-        return Err(19);
+    if locked::alters_locked(view, chain) {
+        return Err(Refusal::Locked);
     }
-    if !tables::has_room(positions, generations, counts, chain.splits(), chain.rim) {
-        return Err(11);
+    if !view.has_room(counts, chain.splits(), chain.rim) {
+        return Err(Refusal::NoSlots);
     }
     Ok(())
 }
 
-// What a refine of t finds before its work, on a mesh whose first refusal is `bad`: the base chain of t, or its refusal.
+// What a refine of t finds before its work, on a mesh that stands or is refused itself: the base chain of t, or the
+// refusal.
 pub fn find(
-    positions: &[i32],
-    links: &[u32],
-    generations: &[u8],
-    locks: &[u8],
+    view: &View,
     counts: Counts,
     t: u32,
-    bad: u32,
-) -> Result<Chain, u32>
-    requires { (corners : List ℕ) ×
-        (bad ≡ standing (mesh_now counts positions.now corners links.now generations.now locks.now)) }
-    ensures { (corners : List ℕ) →
-        let m = mesh_now counts positions.now corners links.now generations.now
-        locks.now in
-        bad ≡ standing m → Finds t m result }
+    stands: Result<(), Refusal>,
+) -> Result<Chain, Refusal>
+    requires { refused stands ≡ standing (mesh_with counts (seen view.now)) }
+    ensures { Finds t (mesh_with counts (seen view.now)) result }
 {
-    check_triangle(links, generations, counts, t, bad)?;
-    let chain = split::base_chain(links, generations, t);
-    check_chain(positions, links, generations, locks, counts, chain)?;
+    check_triangle(view, counts, t, stands)?;
+    let chain = split::base_chain(view, t);
+    check_chain(view, counts, chain)?;
     Ok(chain)
 }
 
 // The refine of t along its base chain, which nothing refuses, told from place `at` of the report on.
 pub fn carry_out(
-    positions: &mut [i32],
-    corners: &mut [u32],
-    links: &mut [u32],
-    generations: &mut [u8],
-    locks: &mut [u8],
+    tables: &mut Tables,
     counts: Counts,
     t: u32,
     chain: Chain,
     report: &mut [u32],
     at: usize,
 ) -> Worked
-    requires { Goes t (mesh_now counts positions.old corners.old links.old generations.old locks.old)
-        chain }
-    ensures locks_after { worked_outcome result positions.new corners.new links.new generations.new
-        locks.new
-        ≡ worked (refine t (at_first (mesh_now counts positions.old corners.old
-        links.old generations.old locks.old))) }
-    ensures told { Told (refine t (at_first (mesh_now counts positions.old corners.old
-        links.old generations.old locks.old))).report
-        report.old report.new at }
+    requires { Goes t (mesh_with counts (held tables.old)) chain }
+    ensures refined { worked_outcome result (held tables.new)
+        ≡ worked (refine t (at_first (mesh_with counts (held tables.old)))) }
+    ensures told { Told (refine t (at_first (mesh_with counts (held tables.old)))).report report.old report.new at }
+    ensures lent { SameTables tables.new tables.old }
 {
-    let done = reporting::refine(
-        positions,
-        corners,
-        links,
-        generations,
-        locks,
-        counts,
-        t,
-        chain,
-        report,
-        at,
-    );
+    let done = reporting::refine(tables, counts, t, chain, report, at);
     Worked {
         refusal: 0,
         splits: done.splits,
@@ -192,87 +151,46 @@ pub fn carry_out(
     }
 }
 
-// Refines triangle t of a mesh whose first refusal is known, told from place `at` of the report on.
+// Refines triangle t of a mesh that stands or is refused itself, told from place `at` of the report on.
 pub fn refine(
-    positions: &mut [i32],
-    corners: &mut [u32],
-    links: &mut [u32],
-    generations: &mut [u8],
-    locks: &mut [u8],
+    tables: &mut Tables,
     counts: Counts,
     t: u32,
-    bad: u32,
+    stands: Result<(), Refusal>,
     report: &mut [u32],
     at: usize,
 ) -> Worked
-    requires { bad ≡ standing (mesh_now counts positions.old corners.old links.old generations.old
-        locks.old) }
-    ensures locks_after { worked_outcome result positions.new corners.new links.new generations.new
-        locks.new
-        ≡ refine_call t (mesh_now counts positions.old corners.old links.old
-        generations.old locks.old) }
-    ensures told { Told (told_unless result.refusal (refine t (at_first (mesh_now counts positions.old
-        corners.old links.old generations.old locks.old))).report)
+    requires { refused stands ≡ standing (mesh_with counts (held tables.old)) }
+    ensures refined { worked_outcome result (held tables.new) ≡ refine_call t (mesh_with counts (held tables.old)) }
+    ensures told { Told (told_unless result.refusal (refine t (at_first (mesh_with counts (held tables.old)))).report)
         report.old report.new at }
+    ensures lent { SameTables tables.new tables.old }
 {
-    match find(positions, links, generations, locks, counts, t, bad) {
-        Ok(chain) => carry_out(
-            positions,
-            corners,
-            links,
-            generations,
-            locks,
-            counts,
-            t,
-            chain,
-            report,
-            at,
-        ),
-        Err(refusal) => Worked {
-            refusal,
-            splits: 0,
-            flips: 0,
-            counts,
-        },
+    match find(&tables.view(), counts, t, stands) {
+        Ok(chain) => carry_out(tables, counts, t, chain, report, at),
+        Err(refusal) => Worked::refused(refusal, counts),
     }
 }
 
-// Refines triangle t of a mesh whose first refusal is known, and reports the slots that it writes.
+// Refines triangle t of a mesh that stands or is refused itself, and reports the slots that it writes.
 pub fn refine_reported(
-    positions: &mut [i32],
-    corners: &mut [u32],
-    links: &mut [u32],
-    generations: &mut [u8],
-    locks: &mut [u8],
+    tables: &mut Tables,
     counts: Counts,
     t: u32,
-    bad: u32,
+    stands: Result<(), Refusal>,
     report: &mut [u32],
 ) -> Reported
-    requires { bad ≡ standing (mesh_now counts positions.old corners.old links.old generations.old
-        locks.old) }
-    ensures { with_report report.new result.reported (worked_outcome result.worked positions.new
-        corners.new links.new generations.new locks.new)
-        ≡ reported_call (one t) report.old (mesh_now counts positions.old corners.old
-        links.old generations.old locks.old) }
+    requires { refused stands ≡ standing (mesh_with counts (held tables.old)) }
+    ensures refined { with_report report.new result.reported (worked_outcome result.worked (held tables.new))
+        ≡ reported_call (one t) report.old (mesh_with counts (held tables.old)) }
+    ensures lent { SameTables tables.new tables.old }
 {
-    let chain = match find(positions, links, generations, locks, counts, t, bad) {
+    let chain = match find(&tables.view(), counts, t, stands) {
         Ok(chain) => chain,
         Err(refusal) => return Reported::refused(refusal, counts),
     };
-    if !reporting::fits(links, generations, chain, report.len()) {
-        return Reported::refused(23, counts);
+    if !reporting::fits(&tables.view(), chain, report.len()) {
+        return Reported::refused(Refusal::ReportShort, counts);
     }
-    Reported::carried(carry_out(
-        positions,
-        corners,
-        links,
-        generations,
-        locks,
-        counts,
-        t,
-        chain,
-        report,
-        0,
-    ))
+    Reported::carried(carry_out(tables, counts, t, chain, report, 0))
 }

@@ -5,10 +5,11 @@ ghost use Rattle.rules.specs.Calls.{alters_locked};
 ghost use Rattle.rules.specs.Tables.{is_base, link, locked};
 ghost use Rattle.split.specs.Made.{BaseChain};
 ghost use Rattle.tables.specs.declared.Counts.{Counts};
-ghost use Rattle.tables.specs.Lent.{mesh_now};
+ghost use Rattle.tables.specs.Lent.{seen, mesh_with};
 ghost use Rattle.refining.specs.Locked.{Follows};
 
 use split::Chain;
+use tables::View;
 
 // Whether the triangle in slot t is locked.
 fn is_locked(locks: &[u8], t: u32) -> bool
@@ -31,46 +32,44 @@ fn some_locked(locks: &[u8], slots: &[u32]) -> bool
 }
 
 // Whether side h is the base of a locked triangle.
-fn is_locked_base(generations: &[u8], locks: &[u8], h: u32) -> bool
-    requires { length generations.now ≤ length locks.now }
-    ensures { (n : Counts) (p : List ℤ) (c l : List ℕ) →
-        let m = mesh_now n p c l generations.now locks.now in
-        result ≡ (is_base m.topology h && locked m (h / 3)) }
+fn is_locked_base(view: &View, h: u32) -> bool
+    requires { length view.now.generations.now ≤ length view.now.locks.now }
+    ensures { (n : Counts) →
+        let m = mesh_with n (seen view.now) in result ≡ (is_base m.topology h && locked m (h / 3)) }
 {
-    if !split::is_base(generations, h) {
+    if !split::is_base(view.generations, h) {
         return false;
     }
-    is_locked(locks, h / 3)
+    is_locked(view.locks, h / 3)
 }
 
 // Whether the base of a locked triangle meets triangle t.
-fn meets_locked(links: &[u32], generations: &[u8], locks: &[u8], t: u32) -> bool
-    requires { (3 * t + 2 < length links.now) × (length generations.now ≤ length locks.now) }
-    ensures { (n : Counts) (p : List ℤ) (c : List ℕ) →
-        let m = mesh_now n p c links.now generations.now locks.now in
+fn meets_locked(view: &View, t: u32) -> bool
+    requires { (3 * t + 2 < length view.now.links.now) × (length view.now.generations.now ≤ length view.now.locks.now) }
+    ensures { (n : Counts) →
+        let m = mesh_with n (seen view.now) in
         result ≡ any 3 (λ i. let h = link m.topology (3 * t + i) in is_base m.topology h && locked m (h / 3)) }
 {
     let first = 3 * (t as usize);
     let mut some = false;
     for i in 0..3 {
-        some = some | is_locked_base(generations, locks, links[first + i]);
+        some = some | is_locked_base(view, view.links[first + i]);
     }
     some
 }
 
 // Whether a locked triangle would be split or flipped by a refine: one of the chain, or one whose base meets its end.
-pub fn alters_locked(links: &[u32], generations: &[u8], locks: &[u8], chain: Chain) -> bool
-    requires { Follows chain links.now generations.now locks.now }
-    ensures { (n : Counts) (p : List ℤ) (c : List ℕ) (t : ℕ) →
-        let m = mesh_now n p c links.now generations.now locks.now in
-        BaseChain m.topology t chain → result ≡ alters_locked t m }
+pub fn alters_locked(view: &View, chain: Chain) -> bool
+    requires { Follows chain (seen view.now) }
+    ensures { (n : Counts) (t : ℕ) →
+        let m = mesh_with n (seen view.now) in BaseChain m.topology t chain → result ≡ alters_locked t m }
 {
     let slots = chain.slots;
-    if some_locked(locks, &slots[..chain.odd as usize]) {
+    if some_locked(view.locks, &slots[..chain.odd as usize]) {
         return true;
     }
-    if is_locked(locks, chain.end) {
+    if is_locked(view.locks, chain.end) {
         return true;
     }
-    meets_locked(links, generations, locks, chain.end)
+    meets_locked(view, chain.end)
 }

@@ -2,10 +2,12 @@
 ghost use Rattle.std.specs.Prelude.{◌≡◌, ◌≤◌};
 ghost use Rattle.rules.specs.Lists.{Progress, all_or_nothing};
 ghost use Rattle.rules.specs.Spares.{Spares};
-ghost use Rattle.tables.specs.Lent.{mesh_now, spares_now};
+ghost use Rattle.tables.specs.Lent.{held, seen, mesh_with, SameTables};
+ghost use Rattle.tables.specs.Refusals.{number};
 ghost use Rattle.refining.specs.Batches.{Made, batch_outcome, refused_batch, fit_in};
 
-use tables::Counts;
+use tables::refusals::Refusal;
+use tables::{Counts, Tables, View};
 
 // Refines made one after the other: the number that the next one failed with, 0 for none, how many succeeded, and the
 // counts of the mesh in the spare tables.
@@ -33,11 +35,11 @@ pub struct BatchWorked {
 
 impl BatchWorked {
     // The answer of such a call that is refused before the work.
-    pub fn refused(refusal: u32, counts: Counts) -> Self
-        ensures { result ≡ refused_batch refusal counts }
+    pub fn refused(refusal: Refusal, counts: Counts) -> Self
+        ensures { result ≡ refused_batch (number refusal) counts }
     {
         Self {
-            refusal,
+            refusal: refusal.number(),
             splits: 0,
             flips: 0,
             counts,
@@ -71,62 +73,33 @@ pub fn fit(work: Batch, entries: usize) -> Batch
         return work;
     }
     Batch {
-        refusal: 23,
+        refusal: Refusal::ReportShort.number(),
         ..work
     }
 }
 
 // The end of such a call: the mesh that was made is copied back, unless the work failed half way.
-pub fn carry_back(
-    positions: &mut [i32],
-    corners: &mut [u32],
-    links: &mut [u32],
-    generations: &mut [u8],
-    locks: &mut [u8],
-    counts: Counts,
-    made: Batch,
-    spare_positions: &[i32],
-    spare_corners: &[u32],
-    spare_links: &[u32],
-    spare_generations: &[u8],
-    spare_locks: &[u8],
-) -> BatchWorked
+pub fn carry_back(tables: &mut Tables, counts: Counts, made: Batch, spares: &View) -> BatchWorked
     requires { (p : Progress) × (s : Spares) ×
-        Made p s (mesh_now counts positions.old corners.old links.old generations.old locks.old) made
-        (mesh_now made.counts spare_positions.now spare_corners.now spare_links.now
-        spare_generations.now spare_locks.now) }
-    ensures { (p : Progress) (s : Spares) →
-        let m = mesh_now counts positions.old corners.old links.old
-        generations.old locks.old in
-        Made p s m made (mesh_now made.counts spare_positions.now spare_corners.now
-        spare_links.now spare_generations.now spare_locks.now)
-        → batch_outcome result positions.new corners.new links.new generations.new
-        locks.new
-        (spares_now spare_positions.now spare_corners.now spare_links.now
-        spare_generations.now spare_locks.now)
-        ≡ all_or_nothing p.refusal p s m }
+        Made p s (mesh_with counts (held tables.old)) made (mesh_with made.counts (seen spares.now)) }
+    ensures carried { (p : Progress) (s : Spares) →
+        let m = mesh_with counts (held tables.old) in
+        Made p s m made (mesh_with made.counts (seen spares.now))
+        → batch_outcome result (held tables.new) (seen spares.now) ≡ all_or_nothing p.refusal p s m }
+    ensures lent { SameTables tables.new tables.old }
 {
     let reached = made.counts;
     if made.refusal != 0 {
         return BatchWorked {
+            refusal: made.refusal,
+            splits: 0,
+            flips: 0,
+            counts,
             handled: made.handled,
             spares: reached,
-            ..BatchWorked::refused(made.refusal, counts)
         };
     }
-    tables::copies::copy_mesh(
-        spare_positions,
-        spare_corners,
-        spare_links,
-        spare_generations,
-        spare_locks,
-        reached,
-        positions,
-        corners,
-        links,
-        generations,
-        locks,
-    );
+    spares.copy_mesh(reached, tables);
     BatchWorked {
         refusal: 0,
         splits: made.splits,

@@ -19,6 +19,9 @@ use Rattle.rules.specs.Below.{fill}
 use Rattle.rules.specs.Reports.{report_in}
 use Rattle.rules.specs.Split.{at_first, refine}
 use Rattle.rules.specs.Tables.{Topology, Mesh}
+use Rattle.rules.specs.Spares.{Spares}
+use Rattle.tables.specs.Lent.{mesh_with, topology_with}
+use Rattle.tables.specs.declared.Counts.{Counts}
 use Rattle.split.specs.declared.Chain.{Chain}
 use Rattle.split.specs.Made.{BaseChain}
 use Rattle.reporting.specs.Told.{Tells}
@@ -158,3 +161,13 @@ pub tells_if : {b : Bool} {l r s : List ℕ} {at told : ℕ} → (b ≡ true →
 tells_if {b = true} T e q = T refl
 tells_if {b = false} {l} {r} {s} {at} {told} T e q =
     tells_not l r s at told q (omega (arith, leb-false (length l) (length r - at) (sym e)))
+
+-- Whether the report fits, by the tables as they were seen.
+pub fits_seen : (t : ℕ) (n : Counts) (chain : Chain) {seen lent : Spares} {b : Bool} (entries : ℕ) → seen ≡ lent
+    → (RefineFound t (mesh_with n seen) → BaseChain (topology_with n seen) t chain
+    → b ≡ leb (length (refine t (at_first (mesh_with n seen))).report) entries)
+    → RefineFound t (mesh_with n lent) → BaseChain (topology_with n lent) t chain
+    → b ≡ leb (length (refine t (at_first (mesh_with n lent))).report) entries
+fits_seen t n chain {b = b} entries e f =
+    subst (λ (s : Spares). RefineFound t (mesh_with n s) → BaseChain (topology_with n s) t chain
+    → b ≡ leb (length (refine t (at_first (mesh_with n s))).report) entries) e f

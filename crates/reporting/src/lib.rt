@@ -7,12 +7,12 @@ ghost use Rattle.theory.proofs.Splits.After.{is_flipped, is_second_flipped, flip
 ghost use Rattle.theory.proofs.Splits.Flipped.{pair_at};
 ghost use Rattle.rules.specs.Split.{at_first, refine};
 ghost use Rattle.tables.specs.declared.Counts.{Counts};
-ghost use Rattle.tables.specs.Lent.{topology_now, mesh_now};
+ghost use Rattle.tables.specs.Lent.{held, seen, topology_with, mesh_with, SameTables};
 ghost use Rattle.split.specs.Made.{work_now, BaseChain};
 ghost use Rattle.reporting.specs.Told.{Tells, Told};
 
 use split::{Chain, Work};
-use tables::Counts;
+use tables::{Counts, Tables, View};
 
 // Tells the slots of the split of t: its own, and then the new ones.
 fn tell_slots(report: &mut [u32], at: usize, t: u32, f: u32) -> usize
@@ -26,36 +26,36 @@ fn tell_slots(report: &mut [u32], at: usize, t: u32, f: u32) -> usize
 }
 
 // Whether child c of a split was flipped, by the generations that are left.
-fn is_flipped(generations: &[u8], c: u32) -> bool
-    requires { c < length generations.now }
-    ensures { result ≡ is_flipped generations.now c }
+fn is_flipped(tables: &Tables, c: u32) -> bool
+    requires { c < length tables.now.generations.now }
+    ensures { result ≡ is_flipped tables.now.generations.now c }
 {
     let slot = c as usize;
-    generations[slot] % 2 == 0
+    tables.generations[slot] % 2 == 0
 }
 
 // Whether the second child f of the split of t was. Where this was a rim split, f is even without a flip; there alone
 // its side 2 leads to side 2 of t.
-fn is_second_flipped(links: &[u32], generations: &[u8], t: u32, f: u32) -> bool
-    requires { (f < length generations.now) × (3 * f + 2 < length links.now) × (t < 65536) }
-    ensures { result ≡ is_second_flipped links.now generations.now t f }
+fn is_second_flipped(tables: &Tables, t: u32, f: u32) -> bool
+    requires { (f < length tables.now.generations.now) × (3 * f + 2 < length tables.now.links.now) × (t < 65536) }
+    ensures { result ≡ is_second_flipped tables.now.links.now tables.now.generations.now t f }
 {
     let side = 3 * (f as usize) + 2;
-    is_flipped(generations, f) && links[side] != 3 * t + 2
+    is_flipped(tables, f) && tables.links[side] != 3 * t + 2
 }
 
 // Tells the flip of child c, if there was one: with the triangle that its side 1 leads to.
-fn tell_flip(links: &[u32], c: u32, flipped: bool, report: &mut [u32], at: usize) -> usize
-    requires { (3 * c + 1 < length links.now)
-        × (at + length (flip_after links.now flipped c) ≤ length report.old) }
-    ensures { Tells (flip_after links.now flipped c) report.old report.new
+fn tell_flip(tables: &Tables, c: u32, flipped: bool, report: &mut [u32], at: usize) -> usize
+    requires { (3 * c + 1 < length tables.now.links.now)
+        × (at + length (flip_after tables.now.links.now flipped c) ≤ length report.old) }
+    ensures { Tells (flip_after tables.now.links.now flipped c) report.old report.new
         at result }
 {
     if !flipped {
         return at;
     }
     let side = 3 * (c as usize) + 1;
-    let u = links[side] / 3;
+    let u = tables.links[side] / 3;
     report[at] = c;
     report[at + 1] = u;
     at + 2
@@ -64,18 +64,17 @@ fn tell_flip(links: &[u32], c: u32, flipped: bool, report: &mut [u32], at: usize
 // Tells the split of t into t, f and f + 1, and its flips, by the tables that it has left, if it is to be told. To look
 // before the split at the bases that the three are to meet would take more: a division for each, flipped or not.
 fn tell_split(
-    links: &[u32],
-    generations: &[u8],
+    tables: &Tables,
     t: u32,
     f: u32,
     telling: bool,
     report: &mut [u32],
     at: usize,
 ) -> usize
-    requires { (t < length generations.now) × (f + 1 < length generations.now)
-        × (3 * length generations.now ≤ length links.now) × (length generations.now ≤ 65536)
-        × (telling ≡ true → at + length (split_after links.now generations.now t f) ≤ length report.old) }
-    ensures { «telling» ≡ true → Tells (split_after links.now generations.now t f)
+    requires { (t < length tables.now.generations.now) × (f + 1 < length tables.now.generations.now)
+        × (3 * length tables.now.generations.now ≤ length tables.now.links.now) × (length tables.now.generations.now ≤ 65536)
+        × (telling ≡ true → at + length (split_after tables.now.links.now tables.now.generations.now t f) ≤ length report.old) }
+    ensures { «telling» ≡ true → Tells (split_after tables.now.links.now tables.now.generations.now t f)
         report.old report.new at result }
 {
     if !telling {
@@ -83,50 +82,44 @@ fn tell_split(
     }
     let e = f + 1;
     let slots = tell_slots(report, at, t, f);
-    let first = tell_flip(links, t, is_flipped(generations, t), report, slots);
-    let second = tell_flip(
-        links,
-        f,
-        is_second_flipped(links, generations, t, f),
-        report,
-        first,
-    );
-    tell_flip(links, e, is_flipped(generations, e), report, second)
+    let first = tell_flip(tables, t, is_flipped(tables, t), report, slots);
+    let second = tell_flip(tables, f, is_second_flipped(tables, t, f), report, first);
+    tell_flip(tables, e, is_flipped(tables, e), report, second)
 }
 
 // How much of a report the flip at side h takes, if there is one.
-fn flip_length(links: &[u32], generations: &[u8], h: usize) -> usize
-    requires { h < length links.now }
-    ensures { ((n : Counts) (corners : List ℕ) →
-        let m = topology_now n corners links.now generations.now in
+fn flip_length(view: &View, h: usize) -> usize
+    requires { h < length view.now.links.now }
+    ensures { ((n : Counts) →
+        let m = topology_with n (seen view.now) in
         result ≡ length (pair_at m 0 h)) × (result ≤ 2) }
 {
-    if split::is_base(generations, links[h]) {
+    if split::is_base(view.generations, view.links[h]) {
         return 2;
     }
     0
 }
 
 // The length of the report of a refine along this chain: after the first split each flips once.
-fn report_length(links: &[u32], generations: &[u8], chain: Chain) -> usize
-    requires { 3 * chain.end + 2 < length links.now }
-    ensures { (t : ℕ) (n : Counts) (p : List ℤ) (c k : List ℕ) →
-        let m = mesh_now n p c links.now generations.now k in
+fn report_length(view: &View, chain: Chain) -> usize
+    requires { 3 * chain.end + 2 < length view.now.links.now }
+    ensures { (t : ℕ) (n : Counts) →
+        let m = mesh_with n (seen view.now) in
         RefineFound t m → BaseChain m.topology t chain → result ≡ length (refine t (at_first m)).report }
 {
     let first = 3 * (chain.end as usize);
-    let own = flip_length(links, generations, first);
-    let second = flip_length(links, generations, first + 1);
-    let third = flip_length(links, generations, first + 2);
+    let own = flip_length(view, first);
+    let second = flip_length(view, first + 1);
+    let third = flip_length(view, first + 2);
     5 * (chain.splits() as usize) - 2 + own + second + third
 }
 
 // Whether the report of a refine along this chain has at most so many entries. 54 do for every refine, and each split
 // takes some.
-pub fn fits(links: &[u32], generations: &[u8], chain: Chain, entries: usize) -> bool
-    requires { 3 * chain.end + 2 < length links.now }
-    ensures { (t : ℕ) (n : Counts) (p : List ℤ) (c k : List ℕ) →
-        let m = mesh_now n p c links.now generations.now k in
+pub fn fits(view: &View, chain: Chain, entries: usize) -> bool
+    requires { 3 * chain.end + 2 < length view.now.links.now }
+    ensures { (t : ℕ) (n : Counts) →
+        let m = mesh_with n (seen view.now) in
         RefineFound t m → BaseChain m.topology t chain
         → result ≡ leb (length (refine t (at_first m)).report) entries }
 {
@@ -136,17 +129,17 @@ pub fn fits(links: &[u32], generations: &[u8], chain: Chain, entries: usize) -> 
     if entries < chain.splits() as usize {
         return false;
     }
-    report_length(links, generations, chain) <= entries
+    report_length(view, chain) <= entries
 }
 
 // The triangle across the base of the last of so many odd triangles of a chain.
-fn across_last(links: &[u32], slots: &[u32; 20], odd: u32) -> u32
-    requires { (0 < odd) × (odd < 20) × (3 * get_or slots.now (odd - 1) 0 < length links.now) }
-    ensures { result ≡ get_or links.now (3 * get_or slots.now (odd - 1) 0) 0 / 3 }
+fn across_last(tables: &Tables, slots: &[u32; 20], odd: u32) -> u32
+    requires { (0 < odd) × (odd < 20) × (3 * get_or slots.now (odd - 1) 0 < length tables.now.links.now) }
+    ensures { result ≡ get_or tables.now.links.now (3 * get_or slots.now (odd - 1) 0) 0 / 3 }
 {
     let i = odd as usize - 1;
     let h = 3 * (slots[i] as usize);
-    links[h] / 3
+    tables.links[h] / 3
 }
 
 // The refinement of t, from the end of its base chain upwards. An odd triangle keeps its slot and its place in the
@@ -155,25 +148,19 @@ fn across_last(links: &[u32], slots: &[u32; 20], odd: u32) -> u32
 // for any, which is tested once and not for each split. The first split has a call of its own: with one call for all,
 // split_at would be inlined, and each split would take 20 to 30 instructions more.
 pub fn refine(
-    positions: &mut [i32],
-    corners: &mut [u32],
-    links: &mut [u32],
-    generations: &mut [u8],
-    locks: &mut [u8],
+    tables: &mut Tables,
     counts: Counts,
     t: u32,
     chain: Chain,
     report: &mut [u32],
     at: usize,
 ) -> Work
-    requires { RefineFound t (mesh_now counts positions.old corners.old links.old generations.old locks.old)
-        × BaseChain (topology_now counts corners.old links.old generations.old) t chain }
-    ensures { let w = refine t (at_first (mesh_now counts
-        positions.old corners.old links.old generations.old
-        locks.old)) in
-        (work_now counts.rule w.report result
-        positions.new corners.new links.new generations.new locks.new
+    requires { RefineFound t (mesh_with counts (held tables.old))
+        × BaseChain (topology_with counts (held tables.old)) t chain }
+    ensures refined { let w = refine t (at_first (mesh_with counts (held tables.old))) in
+        (work_now counts.rule w.report result (held tables.new)
         ≡ w) × Told w.report report.old report.new at }
+    ensures lent { SameTables tables.new tables.old }
 {
     let slots = chain.slots;
     let start = Work {
@@ -183,30 +170,14 @@ pub fn refine(
         flips: 0,
     };
     let splits = chain.splits();
-    let telling = fits(links, generations, chain, report.len().saturating_sub(at));
-    let mut work = split::split_at(
-        positions,
-        corners,
-        links,
-        generations,
-        locks,
-        start,
-        chain.end,
-    );
-    let mut told = tell_split(
-        links,
-        generations,
-        chain.end,
-        start.triangles,
-        telling,
-        report,
-        at,
-    );
+    let telling = fits(&tables.view(), chain, report.len().saturating_sub(at));
+    let mut work = split::split_at(tables, start, chain.end);
+    let mut told = tell_split(tables, chain.end, start.triangles, telling, report, at);
     for left in (1..splits).rev() {
-        let end = across_last(links, &slots, left);
+        let end = across_last(tables, &slots, left);
         let f = work.triangles;
-        work = split::split_at(positions, corners, links, generations, locks, work, end);
-        told = tell_split(links, generations, end, f, telling, report, told);
+        work = split::split_at(tables, work, end);
+        told = tell_split(tables, end, f, telling, report, told);
     }
     work
 }

@@ -1,24 +1,17 @@
 -- Notes that fit, and that every accepted note does.
-use borrow.Author.Tests.{ne_eqb}
-use mathlib.Core.Bool.{Bool, true, false, not}
 use mathlib.Core.List.{List}
-use mathlib.Core.Logic.{◌≢◌, ◌⊎◌, inl, inr}
-use mathlib.Core.Path.{◌≡◌, refl, sym, ◌∙◌, ap, subst}
+use mathlib.Core.Logic.{◌⊎◌, inl, inr}
+use mathlib.Core.Path.{◌≡◌, refl, ◌∙◌}
 use Prim.Native.Nat.{ℕ, zero, suc, ◌+◌, ◌-◌, ◌*◌, ◌≤◌, ◌<◌}
 use native.Mathlib.Decide.{ℕ_discrete}
 use native.Mathlib.Omega.{arith}
-use lib.Dec.{T, leb, ltb, le→leb}
 use lib.ListN.{length, get_or, set, length-set}
 use lib.Seq.{get_or-set_same, get_or-set_other}
-use Rattle.theory.proofs.Numbers.Decide.{Decides, is_self, is_eq, is_lt, is_le, is_iff, is_and, is_or, is_all, is_same}
-use Rattle.theory.proofs.Numbers.Decide.{is_true, is_false, when_true, when_false, all_fails}
-use Rattle.rules.specs.Below.{all}
+use Rattle.theory.proofs.Numbers.Decide.{Decides, is_eq, is_lt, is_le, is_iff, is_and, is_or, is_all}
 use Rattle.rules.specs.Notes.{old_f, note_slots, note_nine, put_back_all, restored, Accepted}
 use Rattle.rules.specs.Sound.{Sound}
 use Rattle.rules.specs.Tables.{Mesh}
-use Rattle.theory.proofs.Numbers.Answers.{refused, passed}
 use Rattle.restoring.specs.Fitting.{slot_rises, slot_fits, note_fits, NoteFits}
-use Rattle.restoring.proofs.SlotsBack.{first_of_nine}
 
 -- ---- the test as a statement
 
@@ -77,60 +70,6 @@ module _ (note : List ℕ) where
       ))
       (is_and (is_le (4 + 9 * note_slots note) (length note))
       (is_all (note_slots note) (slot_fits note) SlotFits (λ i l. slot_fits_is i)))
-
--- ---- the test, found slot by slot
-
-module _ (note : List ℕ) (i : ℕ) where
-  pub first_rises : i ≡ 0 → true ≡ slot_rises note i
-  first_rises e = is_same (is_true (inl e)) (slot_rises_is note i)
-
-  pub later_rises : i ≢ 0 → ltb (get_or note (4 + 9 * i - 9) 0) (get_or note (4 + 9 * i) 0) ≡ slot_rises note i
-  later_rises n =
-      let before : get_or note (4 + 9 * (i - 1) + 0) 0 ≡ get_or note (4 + 9 * i - 9) 0
-      = ap (λ (h : ℕ). get_or note h 0) (omega arith) in
-      rw (ne_eqb _ _ n, before, first_of_nine note i) refl
-
-  module _ {r : Bool} (a : r ≡ slot_rises note i) where
-    pub unfit_falling : not r ≡ true → false ≡ slot_fits note i
-    unfit_falling x =
-        is_same (is_false (λ S. when_false (slot_rises_is note i) (refused a x) S.rises)) (slot_fits_is note i)
-
-    pub fits_by_lock : not r ≡ false → get_or note (4 + 9 * i) 0 < get_or note 2 0 → get_or note (4 + 9 * i + 7) 0 ≤ 20
-        → leb (get_or note (4 + 9 * i + 8) 0) 1 ≡ slot_fits note i
-    fits_by_lock x u g =
-        is_same
-        (is_iff (λ k. record {
-          rises = when_true (slot_rises_is note i) (passed a x);
-          in_use = omega (arith, first_of_nine note i);
-          generation = g;
-          lock = k;
-        }) (λ S. S.lock) (is_le (note_nine note i 8) 1))
-        (slot_fits_is note i)
-
-  pub unfit_unused : get_or note 2 0 ≤ get_or note (4 + 9 * i) 0 → false ≡ slot_fits note i
-  unfit_unused l = is_same (is_false (λ S. omega (arith, first_of_nine note i, S.in_use))) (slot_fits_is note i)
-
-  pub unfit_old : 20 < get_or note (4 + 9 * i + 7) 0 → false ≡ slot_fits note i
-  unfit_old l = is_same (is_false (λ S. omega (arith, S.generation))) (slot_fits_is note i)
-
-module _ (note : List ℕ) where
-  pub too_short_lem : length note < 4 + 9 * note_slots note → false ≡ note_fits note
-  too_short_lem l = is_same (is_false (λ N. omega (arith, N.long))) (note_fits_is note)
-
-  pub unfit_slot : (i : ℕ) {r : Bool} → i < note_slots note → r ≡ slot_fits note i → not r ≡ true
-      → false ≡ note_fits note
-  unfolding note_fits
-  unfit_slot i l e x =
-      is_same
-      (is_false (λ p. subst T (all_fails (note_slots note) i (slot_fits note) l (refused e x)) p.1))
-      (is_and (is_self (leb (4 + 9 * note_slots note) (length note))) (is_self (all (note_slots note) (slot_fits note))))
-
-  pub all_fit : 4 + 9 * note_slots note ≤ length note → all (note_slots note) (slot_fits note) ≡ true
-      → true ≡ note_fits note
-  unfolding note_fits
-  all_fit l e =
-      is_same (is_true (le→leb _ _ l, subst T (sym e) tt))
-      (is_and (is_self (leb (4 + 9 * note_slots note) (length note))) (is_self (all (note_slots note) (slot_fits note))))
 
 -- ---- what stands in the restored tables
 

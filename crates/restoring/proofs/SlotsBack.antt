@@ -1,18 +1,18 @@
 -- The slots of a note put back one by one.
 use mathlib.Core.List.{List}
 use mathlib.Core.Path.{◌≡◌, refl, ap, ◌∙◌}
-use Prim.Native.Nat.{ℕ, ◌+◌, ◌*◌, ◌<◌}
+use Prim.Native.Nat.{ℕ, ◌+◌, ◌*◌}
 use native.Mathlib.Numerals.{add-one}
 use native.Mathlib.Omega.{arith}
-use lib.IntN.{ℤ}
-use lib.ListN.{length, get_or, set}
-use Rattle.rules.specs.Notes.{note_slots, old_f, note_nine, put_back, put_back_all}
+use lib.ListN.{get_or, set}
+use Rattle.rules.specs.Notes.{note_nine, put_back, put_back_all}
 use Rattle.rules.specs.Tables.{Mesh, Topology, with_topology, with_locks}
 use Rattle.tables.specs.declared.Counts.{Counts}
 use Rattle.tables.specs.declared.Triangle.{Triangle}
-use Rattle.tables.specs.Lent.{mesh_now, put}
-use Rattle.restoring.specs.Fitting.{NoteFits}
-use Rattle.restoring.specs.Putting.{SlotHeld, SlotRoom, slot_as_triangle}
+use Rattle.tables.proofs.Lending.{same_at_first, same_on}
+use Rattle.tables.specs.declared.Tables.{Tables}
+use Rattle.tables.specs.Lent.{mesh_with, held, put, SameTables}
+use Rattle.restoring.specs.Putting.{slot_as_triangle}
 
 -- ---- one slot
 
@@ -26,66 +26,22 @@ pub one_put : (note : List ℕ) (i : ℕ) (m : Mesh) {t : Topology} {k : ℕ} {x
     → with_locks (set m.locks (get_or note (4 + 9 * i) 0) k) (with_topology t m) ≡ put_back note i m
 one_put note i m a b d = rw (d, a, b, first_of_nine note i) refl
 
--- A note that fits holds each of its slots.
-pub slot_held : {note : List ℕ} → NoteFits note → (i : ℕ) → i < note_slots note → SlotHeld note i
-slot_held N i l = record {
-  long = omega (arith, N.long);
-  generation = N.generations i l;
-  lock = N.locks i l;
-}
-
-pub slot_room_lem : {note c l g k : List ℕ} → NoteFits note → SlotRoom (old_f note) c l g k → (i : ℕ)
-    → i < note_slots note → SlotRoom (note_nine note i 0 + 1) c l g k
-slot_room_lem N R i l = record {
-  triangles = R.triangles;
-  locks = R.locks;
-  room = omega (arith, N.in_use i l, R.room);
-}
-
 -- ---- slot by slot
 
 -- The first i slots of a note have been put into tables.
-pub record PutUpTo (note : List ℕ) (i : ℕ) (c₀ l₀ g₀ k₀ c l g k : List ℕ) : Type 0 where
-  pub corners : length c ≡ length c₀
-  pub links : length l ≡ length l₀
-  pub generations : length g ≡ length g₀
-  pub locks : length k ≡ length k₀
-  pub put : (n : Counts) (positions : List ℤ)
-      → mesh_now n positions c l g k ≡ put_back_all note i (mesh_now n positions c₀ l₀ g₀ k₀)
+pub record PutUpTo (note : List ℕ) (i : ℕ) (old new : Tables) : Type 0 where
+  pub put : (n : Counts) → mesh_with n (held new) ≡ put_back_all note i (mesh_with n (held old))
+  pub lent : SameTables new old
 
-pub none_put : (note c l g k : List ℕ) → PutUpTo note 0 c l g k c l g k
+pub none_put : (note : List ℕ) (old : Tables) → PutUpTo note 0 old old
 unfolding put_back_all
-none_put note c l g k = record {
-  corners = refl;
-  links = refl;
-  generations = refl;
-  locks = refl;
-  put = λ n positions. refl;
-}
+none_put note old = record { put = λ n. refl; lent = same_at_first old }
 
-pub one_more_put : {note : List ℕ} {i : ℕ} {c₀ l₀ g₀ k₀ c l g k c₁ l₁ g₁ k₁ : List ℕ}
-    → PutUpTo note i c₀ l₀ g₀ k₀ c l g k
-    → length c₁ ≡ length c → length l₁ ≡ length l → length g₁ ≡ length g → length k₁ ≡ length k
-    → ((n : Counts) (positions : List ℤ)
-    → mesh_now n positions c₁ l₁ g₁ k₁ ≡ put_back note i (mesh_now n positions c l g k))
-    → PutUpTo note (i + 1) c₀ l₀ g₀ k₀ c₁ l₁ g₁ k₁
+pub one_more_put : {note : List ℕ} {i : ℕ} {old now new : Tables} → PutUpTo note i old now → SameTables new now
+    → ((n : Counts) → mesh_with n (held new) ≡ put_back note i (mesh_with n (held now)))
+    → PutUpTo note (i + 1) old new
 unfolding put_back_all
-one_more_put {note} {i} P a b d e f = record {
-  corners = a ∙ P.corners;
-  links = b ∙ P.links;
-  generations = d ∙ P.generations;
-  locks = e ∙ P.locks;
-  put = λ n positions. rw (add-one) (f n positions ∙ ap (put_back note i) (P.put n positions));
-}
-
-pub room_after : {f : ℕ} {note : List ℕ} {i : ℕ} {c₀ l₀ g₀ k₀ c l g k : List ℕ} → SlotRoom f c₀ l₀ g₀ k₀
-    → PutUpTo note i c₀ l₀ g₀ k₀ c l g k → SlotRoom f c l g k
-room_after R P = record {
-  triangles = record {
-    corners = omega (arith, R.triangles.corners, P.corners, P.generations);
-    links = omega (arith, R.triangles.links, P.links, P.generations);
-    few = omega (arith, R.triangles.few, P.generations);
-  };
-  locks = omega (arith, R.locks, P.locks, P.generations);
-  room = omega (arith, R.room, P.generations);
+one_more_put {note} {i} P L f = record {
+  put = λ n. rw (add-one) (f n ∙ ap (put_back note i) (P.put n));
+  lent = same_on L P.lent;
 }

@@ -1,6 +1,7 @@
 -- What is needed to put the slots of a note into tables.
 use Rattle.std.specs.Prelude.{ℕ, ◌+◌, ◌*◌, ◌≤◌, List, [], ◌∷◌, ◌≡◌, length}
 use Rattle.rules.specs.Notes.{note_nine}
+use Rattle.rules.specs.Spares.{Spares}
 use Rattle.tables.specs.declared.Triangle.{Triangle}
 use Rattle.tables.specs.Lent.{TrianglesAgree}
 
@@ -11,10 +12,10 @@ pub record SlotHeld (note : List ℕ) (i : ℕ) : Type 0 where
   pub lock : note_nine note i 8 ≤ 1
 
 -- Tables of triangles and locks agree in their slots, and there are at least f.
-pub record SlotRoom (f : ℕ) (c l g k : List ℕ) : Type 0 where
-  pub triangles : TrianglesAgree c l g
-  pub locks : length k ≡ length g
-  pub room : f ≤ length g
+pub record SlotRoom (f : ℕ) (s : Spares) : Type 0 where
+  pub triangles : TrianglesAgree s
+  pub locks : length s.locks ≡ length s.generations
+  pub room : f ≤ length s.generations
 
 -- Slot i of a note as a triangle.
 abbrev pub slot_as_triangle : List ℕ → ℕ → Triangle

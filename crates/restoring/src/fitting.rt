@@ -7,32 +7,22 @@ fn slot_rises(note: &[u32], i: usize) -> bool
     requires { 13 + 9 * i ≤ length note.now }
     ensures { result ≡ slot_rises note.now i }
 {
-    if i == 0 {
-        return true;
-    }
     let at = 4 + 9 * i;
-    note[at - 9] < note[at]
+    i == 0 || note[at - 9] < note[at]
 }
 
 // Whether it also lies below the old F, with a generation up to 20 and a lock up to 1.
+#[tactic(auto, unfolding(crate::specs::Fitting::slot_fits))]
 fn slot_fits(note: &[u32], i: usize) -> bool
     requires { 13 + 9 * i ≤ length note.now }
     ensures { result ≡ slot_fits note.now i }
 {
-    if !slot_rises(note, i) {
-        return false;
-    }
     let at = 4 + 9 * i;
-    if note[2] <= note[at] {
-        return false;
-    }
-    if 20 < note[at + 7] {
-        return false;
-    }
-    note[at + 8] <= 1
+    slot_rises(note, i) && note[at] < note[2] && note[at + 7] <= 20 && note[at + 8] <= 1
 }
 
 // Whether a note has as many slots as it says, and each of them fits.
+#[tactic(auto, unfolding(crate::specs::Fitting::note_fits))]
 pub fn note_fits(note: &[u32]) -> bool
     ensures { result ≡ note_fits note.now }
 {
@@ -43,12 +33,10 @@ pub fn note_fits(note: &[u32]) -> bool
     if note.len() < 4 + 9 * slots {
         return false;
     }
-    let mut i: usize = 0;
-    while i < slots {
+    for i in 0..slots {
         if !slot_fits(note, i) {
             return false;
         }
-        i += 1;
     }
     true
 }

@@ -1,12 +1,12 @@
 // The slots of a note put back into tables.
-ghost use Rattle.std.specs.Prelude.{List, ◌≡◌, ◌+◌, ◌<◌, ℤ};
+ghost use Rattle.std.specs.Prelude.{◌≡◌, ◌+◌};
 ghost use Rattle.rules.specs.Notes.{old_f, note_slots, note_nine, put_back, put_back_all};
 ghost use Rattle.tables.specs.declared.Counts.{Counts};
-ghost use Rattle.tables.specs.Lent.{mesh_now};
+ghost use Rattle.tables.specs.Lent.{mesh_with, held, SameTables};
 ghost use Rattle.restoring.specs.Fitting.{NoteFits};
 ghost use Rattle.restoring.specs.Putting.{SlotHeld, SlotRoom, slot_as_triangle};
 
-use tables::Triangle;
+use tables::{Tables, Triangle};
 
 // Slot i of a note as a triangle.
 fn triangle_of(note: &[u32], i: usize) -> Triangle
@@ -24,48 +24,31 @@ fn triangle_of(note: &[u32], i: usize) -> Triangle
 }
 
 // Slot i of a note put into its place.
-fn put_back(
-    corners: &mut [u32],
-    links: &mut [u32],
-    generations: &mut [u8],
-    locks: &mut [u8],
-    note: &[u32],
-    i: usize,
-)
+fn put_back(tables: &mut Tables, note: &[u32], i: usize)
     requires slot_held { SlotHeld note.now i }
-    requires slot_room { SlotRoom (note_nine note.now i 0 + 1) corners.old links.old generations.old locks.old }
-    ensures { (n : Counts) (positions : List ℤ) →
-        mesh_now n positions corners.new links.new generations.new locks.new
-        ≡ put_back note.now i (mesh_now n positions corners.old links.old
-        generations.old locks.old) }
+    requires slot_room { SlotRoom (note_nine note.now i 0 + 1) (held tables.old) }
+    ensures put { (n : Counts) →
+        mesh_with n (held tables.new) ≡ put_back note.now i (mesh_with n (held tables.old)) }
+    ensures lent { SameTables tables.new tables.old }
 {
     let at = 4 + 9 * i;
     let slot = note[at];
     let lock = note[at + 8] as u8;
-    tables::store(corners, links, generations, slot, triangle_of(note, i));
-    locks[slot as usize] = lock;
+    tables.store(slot, triangle_of(note, i));
+    tables.locks[slot as usize] = lock;
 }
 
 // All slots of a note that fits.
-pub fn put_back_all(
-    corners: &mut [u32],
-    links: &mut [u32],
-    generations: &mut [u8],
-    locks: &mut [u8],
-    note: &[u32],
-)
+pub fn put_back_all(tables: &mut Tables, note: &[u32])
     requires note_fits { NoteFits note.now }
-    requires slot_room { SlotRoom (old_f note.now) corners.old links.old generations.old locks.old }
-    ensures { (n : Counts) (positions : List ℤ) →
+    requires slot_room { SlotRoom (old_f note.now) (held tables.old) }
+    ensures put { (n : Counts) →
         let note = note.entry.now in
-        mesh_now n positions corners.new links.new generations.new locks.new
-        ≡ put_back_all note (note_slots note) (mesh_now n positions corners.old links.old
-        generations.old locks.old) }
+        mesh_with n (held tables.new) ≡ put_back_all note (note_slots note) (mesh_with n (held tables.old)) }
+    ensures lent { SameTables tables.new tables.old }
 {
     let slots = note[3] as usize;
-    let mut i: usize = 0;
-    while i < slots {
-        put_back(corners, links, generations, locks, note, i);
-        i += 1;
+    for i in 0..slots {
+        put_back(tables, note, i);
     }
 }

@@ -124,8 +124,8 @@ module _ (m : Topology) (s n h : ℕ) (room : n < m.triangles) (at : AtSide m s 
       (omega (arith, f.size), rw e f.entry)
 
   module _ (p : ℕ) (before : p ≡ previous h) where
-    goes_on_lem : goes_on m.triangles s (n + 1) (link m p) ≡ true → AtSide m s (n + 1) (link m p)
-    goes_on_lem e =
+    goes_to_next : goes_on m.triangles s (n + 1) (link m p) ≡ true → AtSide m s (n + 1) (link m p)
+    goes_to_next e =
         let b = both (ltb (n + 1) m.triangles) _ (rw before at e) in
         let j = m.triangles - (n + 1) in
         let f = front (walk m s) n h (fan_from j m s (rotate m h)) (turn _ (fan_on m s j h b.1)) in
@@ -187,8 +187,8 @@ ends_there t s n k few e = go (goes_on t s n k) refl
 
 module _ {t : ℕ} {links : List ℕ} {s n h : ℕ} (w : OnWalk t links s n h) where
   -- The next entry is the target of h.
-  pub entry_of_lem : (c : List ℕ) (q : ℕ) → q ≡ next h → EntryIs t c links s n (get_or c q 0)
-  entry_of_lem c q e = record {
+  pub entry_at : (c : List ℕ) (q : ℕ) → q ≡ next h → EntryIs t c links s n (get_or c q 0)
+  entry_at c q e = record {
     has = λ v g. (has_entry (topology_of v t c links g) s n h w.more (w.at v c g) q e).0;
     is = λ v g. (has_entry (topology_of v t c links g) s n h w.more (w.at v c g) q e).1;
   }
@@ -200,7 +200,7 @@ module _ {t : ℕ} {links : List ℕ} {s n h : ℕ} (w : OnWalk t links s n h) w
         record {
           more = u.0;
           in_use = u.1;
-          at = λ v c g. goes_on_lem (topology_of v t c links g) s n h w.more (w.at v c g) p before e;
+          at = λ v c g. goes_to_next (topology_of v t c links g) s n h w.more (w.at v c g) p before e;
         }
 
     pub ends : goes_on t s (n + 1) (get_or links p 0) ≡ false → get_or links p 0 ≢ boundary
@@ -210,9 +210,9 @@ module _ {t : ℕ} {links : List ℕ} {s n h : ℕ} (w : OnWalk t links s n h) w
     }
 
     -- At the boundary one entry more is the last: the origin of the side before h.
-    pub ends_at_boundary_lem : t ≤ 65536 → get_or links p 0 ≡ boundary
+    pub ends_at_boundary : t ≤ 65536 → get_or links p 0 ≡ boundary
         → (c : List ℕ) → LengthIs t c links s (n + 1 + 1) × EntryIs t c links s (n + 1) (get_or c p 0)
-    ends_at_boundary_lem few b c = (
+    ends_at_boundary few b c = (
       record { all = λ v g. (last_one v g).0 },
       record {
         has = λ v g. omega (arith, (last_one v g).0);
@@ -243,7 +243,7 @@ module _ {t : ℕ} {links : List ℕ} {s n h : ℕ} (w : OnWalk t links s n h) w
         go : Dec (get_or links p 0 ≡ boundary) → Meets t links s (n + 1) r
         go (yes b) =
             let z : r ≡ n + 1 + 1 = rw (eq-eqb _ _ b, entries_at) at q in
-            made (omega arith) (λ c. rw z (ends_at_boundary_lem few b c).0)
+            made (omega arith) (λ c. rw z (ends_at_boundary few b c).0)
         go (no o) =
             let z : r ≡ n + 1 = rw (ne_eqb _ _ o, entries_at) at q in
             made (omega arith) (λ c. rw z (ends e o c))

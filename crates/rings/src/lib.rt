@@ -30,6 +30,7 @@ fn goes_on(triangles: u32, first: usize, n: usize, k: usize) -> bool
 }
 
 // How many entries the ring has where the walk of n sides ends at k: at the boundary the last neighbour is one more.
+#[tactic(auto, unfolding(crate::specs::Rings::entries_at))]
 fn entries_at(n: usize, k: usize) -> usize
     requires { n ≤ 65536 }
     ensures { result ≡ entries_at n k }
@@ -55,6 +56,7 @@ pub fn walk_from(links: &[u32], triangles: u32, first: usize) -> Walked
 {
     let mut n: usize = 0;
     let mut h = first;
+    // Kept: no plainer: the walk follows the links until it is round, and n counts what it meets.
     let met = loop {
         let k = turned(links, triangles, h);
         n += 1;
@@ -89,6 +91,7 @@ pub fn write_ring(corners: &[u32], links: &[u32], triangles: u32, first: u32, bu
 {
     let mut n: usize = 0;
     let mut h = first as usize;
+    // Kept: no plainer: the same walk, and n counts what it writes.
     loop {
         let e = next(h);
         buffer[n] = corners[e];

@@ -68,13 +68,10 @@ pub fn ring_sums(
         let m = mesh_now counts positions.now corners.now l g k in
         Closed m → RingsAdded m lengths.new sums.new result }
 {
-    let f = counts.triangles;
-    let mut t: u32 = 0;
-    while t < f {
+    for t in 0..counts.triangles {
         if !add_triangle(positions, corners, counts, t, lengths, sums) {
             return false;
         }
-        t += 1;
     }
     true
 }

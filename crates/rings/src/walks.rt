@@ -11,14 +11,12 @@ pub fn fans(links: &[u32], triangles: u32, vertices: u32, starts: &[u32]) -> boo
         → TellsFans vertices triangles c links.now result }
 {
     let mut met: usize = 0;
-    let mut v: usize = 0;
-    while v < vertices as usize {
-        let s = starts[v] as usize;
+    for s in &starts[..vertices as usize] {
+        let s = *s as usize;
         if s == 0 {
             return false;
         }
         met += crate::walk_from(links, triangles, s - 1).sides;
-        v += 1;
     }
     met == 3 * (triangles as usize)
 }

@@ -1,14 +1,15 @@
 -- Parts of the test of a triangle, as the code makes them, and the room that they need in the tables.
 use Rattle.std.specs.Prelude.{ℕ, ◌+◌, ◌*◌, ◌/◌, ◌%◌, ◌≤◌, Bool, not, ◌&&◌, ◌||◌, List, ◌≡◌, eqb, leb, ltb, length, get_or}
 use Rattle.rules.specs.Sound.{role, five_kinds}
+use Rattle.rules.specs.Spares.{Spares}
 use Rattle.rules.specs.Tables.{Topology, sides, next, origin, target, boundary, link, generation}
 
 -- The tables have their entries for each triangle slot, and slots for this many triangles.
-pub record Room (triangles : ℕ) (corners links generations : List ℕ) : Type 0 where
-  pub few_slots : length generations ≤ 65536
-  pub corner_room : 3 * length generations ≤ length corners
-  pub link_room : 3 * length generations ≤ length links
-  pub triangle_room : triangles ≤ length generations
+pub record Room (triangles : ℕ) (s : Spares) : Type 0 where
+  pub few_slots : length s.generations ≤ 65536
+  pub corner_room : 3 * length s.generations ≤ length s.corners
+  pub link_room : 3 * length s.generations ≤ length s.links
+  pub triangle_room : triangles ≤ length s.generations
 
 -- What is read of side h before its link is tested: its place in its triangle, the generation of that, and the vertices
 -- at its ends.

@@ -5,12 +5,14 @@
 ghost use Rattle.std.specs.Prelude.{true, List, ◌≢◌, ◌≡◌, ℕ, ◌+◌, ◌*◌, ◌≤◌, ◌<◌, length, get_or};
 ghost use Rattle.rules.specs.Below.{all};
 ghost use Rattle.rules.specs.Sound.{role_of, five_kinds};
-ghost use Rattle.rules.specs.Tables.{boundary, topology_of};
+ghost use Rattle.rules.specs.Tables.{boundary};
+ghost use Rattle.tables.specs.Lent.{seen, topology_with};
+ghost use Rattle.tables.specs.declared.Counts.{Counts};
 ghost use Rattle.sides.specs.Parts.{Room, SideRead, corners_fit, partner_fits, link_fits, triangle_fits};
 ghost use Rattle.rings.specs.Walks.{Zeroed};
 ghost use Rattle.sides.specs.Starts.{Kept, AllKept};
 
-use tables::BOUNDARY;
+use tables::{BOUNDARY, Counts, View};
 
 // Whether side i of a triangle of generation g and side j of one of generation h are a pair of one of the five kinds.
 // In 32 bits nothing wraps: the generation of a partner may not be tested yet.
@@ -59,6 +61,7 @@ fn kinds_fit(g: u8, i: usize, h: u8, j: usize) -> bool
 }
 
 // Whether three corners are vertices in use, no two the same.
+#[tactic(auto, unfolding(crate::specs::Parts::corners_fit))]
 fn corners_fit(vertices: u32, a: u32, b: u32, c: u32) -> bool
     ensures { result ≡ corners_fit vertices a b c }
 {
@@ -82,30 +85,22 @@ fn corners_fit(vertices: u32, a: u32, b: u32, c: u32) -> bool
 
 // Whether side k links back to side h and starts where h ends, and the two are of a fitting kind. Each side of a pair
 // judges the other so: to leave one out would save less than the branch costs.
-fn partner_fits(
-    corners: &[u32],
-    links: &[u32],
-    generations: &[u8],
-    h: usize,
-    i: usize,
-    g: u8,
-    to: u32,
-    k: usize,
-) -> bool
-    requires generations_len_bound { (length generations.now ≤ 65536) × (3 * length generations.now ≤ length corners.now)
-        × (3 * length generations.now ≤ length links.now) }
-    requires h_bound { (h < 3 * length generations.now) × (k < 3 * length generations.now) }
-    ensures { (v f from : ℕ) → SideRead corners.now generations.now h i g from to
+#[tactic(auto, unfolding(crate::specs::Parts::partner_fits))]
+fn partner_fits(view: &View, h: usize, i: usize, g: u8, to: u32, k: usize) -> bool
+    requires room { (length view.now.generations.now ≤ 65536) × (3 * length view.now.generations.now ≤ length view.now.corners.now)
+        × (3 * length view.now.generations.now ≤ length view.now.links.now) }
+    requires in_use { (h < 3 * length view.now.generations.now) × (k < 3 * length view.now.generations.now) }
+    ensures { (n : Counts) (from : ℕ) → SideRead view.now.corners.now view.now.generations.now h i g from to
         → result ≡ partner_fits
-        (topology_of v f corners.now links.now generations.now) h k }
+        (topology_with n (seen view.now)) h k }
 {
-    if links[k] != h as u32 {
+    if view.links[k] != h as u32 {
         return false;
     }
-    if corners[k] != to {
+    if view.corners[k] != to {
         return false;
     }
-    kinds_fit(g, i, generations[k / 3], k % 3)
+    kinds_fit(g, i, view.generations[k / 3], k % 3)
 }
 
 // The start of a vertex once side h out of it is seen, not on the boundary: the one that it had, else h.
@@ -119,12 +114,10 @@ fn first_kept(start: u32, h: u32) -> u32
 
 // Whether side h, in place i of a triangle of generation g and between these vertices, is on the boundary or has a
 // fitting partner. The start of the vertex that it goes out of is kept.
+#[tactic(auto, unfolding(crate::specs::Parts::link_fits))]
 fn side_fits(
-    corners: &[u32],
-    links: &[u32],
-    generations: &[u8],
-    vertices: u32,
-    triangles: u32,
+    view: &View,
+    counts: Counts,
     h: usize,
     i: usize,
     g: u8,
@@ -132,19 +125,19 @@ fn side_fits(
     to: u32,
     starts: &mut [u32],
 ) -> bool
-    requires room { Room triangles corners.now links.now generations.now × (h < 3 * triangles) }
-    requires side_read { SideRead corners.now generations.now h i g from to × (from < vertices) × (vertices ≤ 32768) }
-    requires all_kept { AllKept vertices corners.now links.now h starts.old }
+    requires room { Room counts.triangles (seen view.now) × (h < 3 * counts.triangles) }
+    requires side_read { SideRead view.now.corners.now view.now.generations.now h i g from to × (from < counts.vertices) × (counts.vertices ≤ 32768) }
+    requires all_kept { AllKept counts.vertices view.now.corners.now view.now.links.now h starts.old }
     ensures value { result ≡ link_fits
-        (topology_of vertices triangles corners.now links.now generations.now)
+        (topology_with counts (seen view.now))
         h }
-    ensures all_kept_2 { result ≡ true
-        → AllKept vertices corners.now links.now (h + 1) starts.new }
+    ensures kept_after { result ≡ true
+        → AllKept counts.vertices view.now.corners.now view.now.links.now (h + 1) starts.new }
 {
     let v = from as usize;
-    let across = links[h];
+    let across = view.links[h];
     let k = across as usize;
-    if 3 * (triangles as usize) <= k {
+    if 3 * (counts.triangles as usize) <= k {
         if across != BOUNDARY {
             return false;
         }
@@ -153,106 +146,54 @@ fn side_fits(
         return true;
     }
     starts[v] = first_kept(starts[v], h as u32);
-    partner_fits(corners, links, generations, h, i, g, to, k)
+    partner_fits(view, h, i, g, to, k)
 }
 
 // Whether triangle t is of generation 20 at most, with three vertices in use for corners and links that fit. The starts
 // of its corners are kept.
-fn triangle_fits(
-    corners: &[u32],
-    links: &[u32],
-    generations: &[u8],
-    vertices: u32,
-    triangles: u32,
-    t: usize,
-    starts: &mut [u32],
-) -> bool
-    requires room { Room triangles corners.now links.now generations.now × (t < triangles) × (vertices ≤ 32768) }
-    requires all_kept { AllKept vertices corners.now links.now (3 * t) starts.old }
+#[tactic(auto, unfolding(crate::specs::Parts::triangle_fits))]
+fn triangle_fits(view: &View, counts: Counts, t: usize, starts: &mut [u32]) -> bool
+    requires room { Room counts.triangles (seen view.now) × (t < counts.triangles) × (counts.vertices ≤ 32768) }
+    requires all_kept { AllKept counts.vertices view.now.corners.now view.now.links.now (3 * t) starts.old }
     ensures value { result ≡ triangle_fits
-        (topology_of vertices triangles corners.now links.now generations.now)
+        (topology_with counts (seen view.now))
         t }
-    ensures all_kept_2 { result ≡ true
-        → AllKept vertices corners.now links.now (3 * t + 3) starts.new }
+    ensures kept_after { result ≡ true
+        → AllKept counts.vertices view.now.corners.now view.now.links.now (3 * t + 3) starts.new }
 {
-    let g = generations[t];
+    let g = view.generations[t];
     if 20 < g {
         return false;
     }
     let h = 3 * t;
-    let a = corners[h];
-    let b = corners[h + 1];
-    let c = corners[h + 2];
-    if !corners_fit(vertices, a, b, c) {
+    let a = view.corners[h];
+    let b = view.corners[h + 1];
+    let c = view.corners[h + 2];
+    if !corners_fit(counts.vertices, a, b, c) {
         return false;
     }
-    if !side_fits(
-        corners,
-        links,
-        generations,
-        vertices,
-        triangles,
-        h,
-        0,
-        g,
-        a,
-        b,
-        starts,
-    ) {
+    if !side_fits(view, counts, h, 0, g, a, b, starts) {
         return false;
     }
-    if !side_fits(
-        corners,
-        links,
-        generations,
-        vertices,
-        triangles,
-        h + 1,
-        1,
-        g,
-        b,
-        c,
-        starts,
-    ) {
+    if !side_fits(view, counts, h + 1, 1, g, b, c, starts) {
         return false;
     }
-    side_fits(
-        corners,
-        links,
-        generations,
-        vertices,
-        triangles,
-        h + 2,
-        2,
-        g,
-        c,
-        a,
-        starts,
-    )
+    side_fits(view, counts, h + 2, 2, g, c, a, starts)
 }
 
 // Whether every triangle fits. The start of each vertex is kept; a zero for each is lent.
-pub fn triangles_fit(
-    corners: &[u32],
-    links: &[u32],
-    generations: &[u8],
-    vertices: u32,
-    triangles: u32,
-    starts: &mut [u32],
-) -> bool
-    requires room { Room triangles corners.now links.now generations.now × (vertices ≤ 32768) }
-    requires zeroed { Zeroed vertices starts.old }
-    ensures value { result ≡ all triangles (triangle_fits
-        (topology_of vertices triangles corners.now links.now generations.now)) }
+pub fn triangles_fit(view: &View, counts: Counts, starts: &mut [u32]) -> bool
+    requires room { Room counts.triangles (seen view.now) × (counts.vertices ≤ 32768) }
+    requires zeroed { Zeroed counts.vertices starts.old }
+    ensures value { result ≡ all counts.triangles (triangle_fits
+        (topology_with counts (seen view.now))) }
     ensures all_kept { result ≡ true
-        → AllKept vertices corners.now links.now (3 * triangles) starts.new }
+        → AllKept counts.vertices view.now.corners.now view.now.links.now (3 * counts.triangles) starts.new }
 {
-    let mut t: usize = 0;
-    while t < triangles as usize {
-        if !triangle_fits(corners, links, generations, vertices, triangles, t, starts) {
+    for t in 0..counts.triangles as usize {
+        if !triangle_fits(view, counts, t, starts) {
             return false;
         }
-        t += 1;
     }
     true
 }

@@ -2,5 +2,4 @@
 pub mod Answers
 pub mod Pairs
 pub mod Triangles
-pub mod Standing
 pub mod Parts

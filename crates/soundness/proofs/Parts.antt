@@ -15,6 +15,7 @@ use Rattle.rules.specs.Sound.{OneFan, Sound, has_one_fan, is_sound}
 use Rattle.rules.specs.Tables.{Mesh, TablesAgree, tables_agree, vertex_slots, triangle_slots, sides, boundary}
 use Rattle.rules.specs.Tables.{lock}
 use Rattle.soundness.proofs.Triangles.{TriangleFits, triangles_are, sound_side_lem, sides_glued, triangle_fits_lem}
+use Rattle.tables.specs.Lent.{spares_now}
 use Rattle.sides.specs.Parts.{Room}
 use Rattle.soundness.specs.Parts.{counts_fit, is_surface}
 
@@ -36,7 +37,7 @@ module _ (m : Mesh) where
 
   -- What is known before the triangles are tested.
   module _ (A : TablesAgree m) (C : CountsFit) where
-    pub room : Room m.topology.triangles m.topology.corners m.topology.links m.topology.generations
+    pub room : Room m.topology.triangles (spares_now m.positions m.topology.corners m.topology.links m.topology.generations m.locks)
     room = record {
       few_slots = A.few_triangles;
       corner_room = omega (arith, A.corners);

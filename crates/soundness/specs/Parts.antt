@@ -1,5 +1,5 @@
 -- Parts of the test of soundness, as the code makes them, and the start that it tells.
-use Rattle.std.specs.Prelude.{ℕ, suc, Bool, true, false, ◌&&◌, leb}
+use Rattle.std.specs.Prelude.{ℕ, Bool, true, false, Option, Some, None, ◌&&◌, leb}
 use Rattle.rules.specs.Below.{all}
 use Rattle.rules.specs.Numbers.{known_rule}
 use Rattle.rules.specs.Ring.{first_side}
@@ -20,6 +20,6 @@ counts_fit m =
 abbrev pub is_surface : Topology → Bool
 is_surface m = all m.triangles (triangle_fits m) && all m.vertices (has_one_fan m)
 
--- One more than the side where the ring of v starts, if it is to be told; else 0.
-abbrev pub start_if : Bool → Topology → ℕ → ℕ
-start_if told m v = elim told [ true ↦ suc (first_side m v) | false ↦ 0 ]
+-- The side where the ring of v starts, if it is to be told.
+abbrev pub start_if : Bool → Topology → ℕ → Option ℕ
+start_if told m v = elim told [ true ↦ Some (first_side m v) | false ↦ None ]

@@ -6,201 +6,136 @@ ghost use Rattle.std.specs.Prelude.{◌≡◌, List, ℕ, ◌≤◌, leb, pos, l
 ghost use Rattle.rules.specs.Below.{all};
 ghost use Rattle.rules.specs.Numbers.{in_range};
 ghost use Rattle.rules.specs.Sound.{is_sound};
-ghost use Rattle.rules.specs.Tables.{Mesh, topology_of, mesh_of, tables_agree};
-ghost use Rattle.tables.specs.Lent.{mesh_now};
+ghost use Rattle.rules.specs.Tables.{Mesh, tables_agree};
+ghost use Rattle.tables.specs.Lent.{seen, mesh_with};
+ghost use Rattle.tables.specs.Refusals.{refused};
+ghost use Rattle.tables.specs.declared.Counts.{Counts};
 ghost use Rattle.tables.specs.Standing.{standing, slot_refusal};
 ghost use Rattle.soundness.specs.Parts.{counts_fit, start_if};
 
-use tables::Counts;
+use tables::refusals::Refusal;
+use tables::{Counts, View};
 
 mod surface;
 
 // Whether the tables agree in their slots and keep to the maxima. The counts do not matter.
-pub fn tables_agree(
-    positions: &[i32],
-    corners: &[u32],
-    links: &[u32],
-    generations: &[u8],
-    locks: &[u8],
-) -> bool
-    ensures { (v f rule : ℕ) → result ≡ tables_agree (mesh_of
-        (topology_of v f corners.now links.now generations.now)
-        positions.now locks.now rule) }
+#[tactic(auto, unfolding(rules::specs::Tables::tables_agree))]
+pub fn tables_agree(view: &View) -> bool
+    ensures { (n : Counts) → result ≡ tables_agree (mesh_with n (seen view.now)) }
 {
-    let vertex_slots = positions.len() / 3;
-    let triangle_slots = generations.len();
+    let vertex_slots = view.positions.len() / 3;
+    let triangle_slots = view.generations.len();
     if 65536 < triangle_slots {
         return false;
     }
     if 32768 < vertex_slots {
         return false;
     }
-    if positions.len() != 3 * vertex_slots {
+    if view.positions.len() != 3 * vertex_slots {
         return false;
     }
-    if corners.len() != 3 * triangle_slots {
+    if view.corners.len() != 3 * triangle_slots {
         return false;
     }
-    if links.len() != 3 * triangle_slots {
+    if view.links.len() != 3 * triangle_slots {
         return false;
     }
-    locks.len() == triangle_slots
+    view.locks.len() == triangle_slots
 }
 
 // Whether the counts are at least 1 and within the slots, and their rule is known.
-fn counts_fit(
-    positions: &[i32],
-    generations: &[u8],
-    vertices: u32,
-    triangles: u32,
-    rule: u32,
-) -> bool
-    ensures { (c l k : List ℕ) → result ≡ counts_fit
-        (mesh_of (topology_of vertices triangles c l generations.now) positions.now k rule) }
+fn counts_fit(view: &View, counts: Counts) -> bool
+    ensures { result ≡ counts_fit (mesh_with counts (seen view.now)) }
 {
-    if !points::known_rule(rule) {
+    if !points::known_rule(counts.rule) {
         return false;
     }
-    if vertices < 1 {
+    if counts.vertices < 1 {
         return false;
     }
-    if triangles < 1 {
+    if counts.triangles < 1 {
         return false;
     }
-    if positions.len() / 3 < vertices as usize {
+    if view.positions.len() / 3 < counts.vertices as usize {
         return false;
     }
-    triangles as usize <= generations.len()
+    counts.triangles as usize <= view.generations.len()
 }
 
 // Whether the first n coordinates are in range. No early return: the loop then reads several at once.
+#[tactic(auto, using(theory::proofs::Numbers::Decide::all_and), unfolding(rules::specs::Below::all))]
 fn coordinates_fit(positions: &[i32], n: usize) -> bool
     requires { n ≤ length positions.now }
     ensures { result ≡ all n (λ i. in_range (get_or positions.now i (pos 0))) }
 {
     let mut fit = true;
-    let mut i: usize = 0;
-    while i < n {
-        fit = fit & points::in_range(positions[i]);
-        i += 1;
+    for x in &positions[..n] {
+        fit &= points::in_range(*x);
     }
     fit
 }
 
 // Whether the first n locks are 0 or 1, read in the same way.
+#[tactic(auto, using(theory::proofs::Numbers::Decide::all_and), unfolding(rules::specs::Below::all))]
 fn locks_fit(locks: &[u8], n: usize) -> bool
     requires { n ≤ length locks.now }
     ensures { result ≡ all n (λ t. leb (get_or locks.now t 0) 1) }
 {
     let mut fit = true;
-    let mut t: usize = 0;
-    while t < n {
-        fit = fit & (locks[t] <= 1);
-        t += 1;
+    for lock in &locks[..n] {
+        fit &= *lock <= 1;
     }
     fit
 }
 
-// One more than the side where the ring of v starts, or than the number of sides, where v has no ring; 0 where the
-// tables are not sound.
-pub fn sound_start(
-    positions: &[i32],
-    corners: &[u32],
-    links: &[u32],
-    generations: &[u8],
-    locks: &[u8],
-    vertices: u32,
-    triangles: u32,
-    rule: u32,
-    v: u32,
-) -> u32
-    ensures { let m = topology_of vertices triangles corners.now links.now
-        generations.now in
-        result ≡ start_if (is_sound (mesh_of m positions.now locks.now rule)) m v }
+// The side where the ring of v starts, or the number of sides, where v has no ring; none where the tables are not
+// sound.
+#[tactic(auto, using(crate::proofs::Parts::parts))]
+pub fn sound_start(view: &View, counts: Counts, v: u32) -> Option<u32>
+    ensures { let m = mesh_with counts (seen view.now) in result ≡ start_if (is_sound m) m.topology v }
 {
-    if !tables_agree(positions, corners, links, generations, locks) {
-        return 0;
+    if !tables_agree(view) {
+        return None;
     }
-    if !counts_fit(positions, generations, vertices, triangles, rule) {
-        return 0;
+    if !counts_fit(view, counts) {
+        return None;
     }
-    if !coordinates_fit(positions, 3 * (vertices as usize)) {
-        return 0;
+    if !coordinates_fit(view.positions, 3 * (counts.vertices as usize)) {
+        return None;
     }
-    if !locks_fit(locks, triangles as usize) {
-        return 0;
+    if !locks_fit(view.locks, counts.triangles as usize) {
+        return None;
     }
-    surface::start(corners, links, generations, vertices, triangles, v)
+    surface::start(view, counts, v)
 }
 
 // Whether the tables are sound.
-pub fn is_sound(
-    positions: &[i32],
-    corners: &[u32],
-    links: &[u32],
-    generations: &[u8],
-    locks: &[u8],
-    vertices: u32,
-    triangles: u32,
-    rule: u32,
-) -> bool
-    ensures { result ≡ is_sound (mesh_of
-        (topology_of vertices triangles corners.now links.now generations.now)
-        positions.now locks.now rule) }
+pub fn is_sound(view: &View, counts: Counts) -> bool
+    ensures { result ≡ is_sound (mesh_with counts (seen view.now)) }
 {
-    sound_start(
-        positions,
-        corners,
-        links,
-        generations,
-        locks,
-        vertices,
-        triangles,
-        rule,
-        0,
-    ) != 0
+    sound_start(view, counts, 0).is_some()
 }
 
-// The first refusal of every call but load: 1, 7 or none.
-pub fn first_refusal(
-    positions: &[i32],
-    corners: &[u32],
-    links: &[u32],
-    generations: &[u8],
-    locks: &[u8],
-    counts: Counts,
-) -> u32
-    ensures { let m = mesh_now counts positions.now corners.now links.now
-        generations.now locks.now in
-        result ≡ standing m }
+// The first refusal of every call but load.
+pub fn first_refusal(view: &View, counts: Counts) -> Result<(), Refusal>
+    ensures { refused result ≡ standing (mesh_with counts (seen view.now)) }
 {
-    if !tables_agree(positions, corners, links, generations, locks) {
-        return 1;
+    if !tables_agree(view) {
+        return Err(Refusal::TablesDisagree);
     }
-    if !is_sound(
-        positions,
-        corners,
-        links,
-        generations,
-        locks,
-        counts.vertices,
-        counts.triangles,
-        counts.rule,
-    ) {
-        return 7;
+    if !is_sound(view, counts) {
+        return Err(Refusal::NotSound);
     }
-    0
+    Ok(())
 }
 
-// The refusal of a call that names slot i of the first n, on a mesh whose own first refusal is `bad`; or 0.
-pub fn slot_refusal(n: u32, i: u32, bad: u32) -> u32
-    ensures { (m : Mesh) → bad ≡ standing m → result ≡ slot_refusal n i m }
+// The refusal of a call that names slot i of the first n, on a mesh that stands or whose own first refusal this is.
+pub fn slot_refusal(n: u32, i: u32, stands: Result<(), Refusal>) -> Result<(), Refusal>
+    ensures { (m : Mesh) → refused stands ≡ standing m → refused result ≡ slot_refusal n i m }
 {
-    if bad != 0 {
-        return bad;
-    }
+    stands?;
     if n <= i {
-        return 8;
+        return Err(Refusal::NotInUse);
     }
-    0
+    Ok(())
 }

@@ -1,13 +1,14 @@
 -- What splits, flips and chains make, as records of the code.
-use Rattle.std.specs.Prelude.{ℕ, suc, ◌+◌, ◌*◌, ◌%◌, ◌≤◌, ◌<◌, List, [], ◌∷◌, ◌≡◌, ℤ, length, get_or}
+use Rattle.std.specs.Prelude.{ℕ, suc, ◌+◌, ◌*◌, ◌%◌, ◌≤◌, ◌<◌, List, [], ◌∷◌, ◌≡◌, length, get_or}
 use Rattle.rules.specs.Calls.{rim_splits_of}
 use Rattle.rules.specs.Conditions.{RoomFor}
 use Rattle.rules.specs.Split as rules
 use Rattle.rules.specs.Split.{settle_all, split_at, chain_end, chain_odd, chain_at}
+use Rattle.rules.specs.Spares.{Spares}
 use Rattle.rules.specs.Tables.{Topology, TablesAgree, boundary, generation, triangle_slots, relink}
 use Rattle.tables.specs.declared.Counts.{Counts}
 use Rattle.tables.specs.declared.Triangle.{Triangle}
-use Rattle.tables.specs.Lent.{mesh_now, entries, put}
+use Rattle.tables.specs.Lent.{mesh_with, entries, put}
 use Rattle.split.specs.declared.Chain.{Chain}
 use Rattle.split.specs.declared.Work.{Work}
 
@@ -17,10 +18,10 @@ use Rattle.split.specs.declared.Work.{Work}
 abbrev pub counts_of : ℕ → Work → Counts
 counts_of rule w = record { vertices = w.vertices; triangles = w.triangles; rule = rule }
 
--- The work done, with a report, which the code does not keep, and what the slices hold.
-abbrev pub work_now : ℕ → List ℕ → Work → List ℤ → List ℕ → List ℕ → List ℕ → List ℕ → rules.Work
-work_now rule report w positions corners links generations locks = record {
-  mesh = mesh_now (counts_of rule w) positions corners links generations locks;
+-- The work done, with a report, which the code does not keep, and what the tables hold.
+abbrev pub work_now : ℕ → List ℕ → Work → Spares → rules.Work
+work_now rule report w s = record {
+  mesh = mesh_with (counts_of rule w) s;
   splits = w.splits;
   flips = w.flips;
   report = report;

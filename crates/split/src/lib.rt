@@ -8,11 +8,11 @@ ghost use Rattle.points.specs.Axes.{each_axis};
 ghost use Rattle.rules.specs.Split.{flip, third_of, settle, settle_all, split_at};
 ghost use Rattle.rules.specs.Tables.{is_base};
 ghost use Rattle.tables.specs.declared.Counts.{Counts};
-ghost use Rattle.tables.specs.Lent.{topology_now, mesh_now, TrianglesAgree, VerticesAgree};
+ghost use Rattle.tables.specs.Lent.{topology_now, topology_with, mesh_with, held, seen, SameTables, SameBeside, TrianglesAgree, VerticesAgree};
 ghost use Rattle.split.specs.Made.{work_now, MaySplit, Hands, replaced, BaseChain};
 
 use points::Point;
-use tables::{Counts, Triangle};
+use tables::{Counts, Tables, Triangle, View};
 
 // The slots in use, and the splits, face and rim, and flips made so far.
 #[derive(Clone, Copy)]
@@ -47,24 +47,25 @@ impl Chain {
 }
 
 // The base that the triangles in slots s and u share is flipped.
-fn flip(corners: &mut [u32], links: &mut [u32], generations: &mut [u8], s: u32, u: u32)
-    requires { TrianglesAgree corners.old links.old generations.old × (s < length generations.old)
-        × (u < length generations.old) × (get_or generations.old s 0 < 255) }
-    ensures { (n : Counts) →
-        topology_now n corners.new links.new generations.new
-        ≡ flip s u (topology_now n corners.old links.old generations.old) }
+fn flip(tables: &mut Tables, s: u32, u: u32)
+    requires { TrianglesAgree (held tables.old) × (s < length tables.old.generations.now)
+        × (u < length tables.old.generations.now) × (get_or tables.old.generations.now s 0 < 255) }
+    ensures flipped { (n : Counts) →
+        topology_with n (held tables.new)
+        ≡ flip s u (topology_with n (held tables.old)) }
+    ensures rest { SameBeside tables.new tables.old }
 {
     let to_s = 3 * s;
     let to_u = 3 * u;
-    let x = tables::triangle_at(corners, links, generations, s);
-    let y = tables::triangle_at(corners, links, generations, u);
+    let x = tables.triangle_at(s);
+    let y = tables.triangle_at(u);
     let pair = shapes::flipped(x, y, s, u);
     let at_s = pair[0];
     let at_u = pair[1];
-    tables::relink(links, x.links[1], to_u);
-    tables::relink(links, y.links[1], to_s);
-    tables::store(corners, links, generations, s, at_s);
-    tables::store(corners, links, generations, u, at_u);
+    tables.relink(x.links[1], to_u);
+    tables.relink(y.links[1], to_s);
+    tables.store(s, at_s);
+    tables.store(u, at_u);
 }
 
 // Whether side h is the base of an odd triangle.
@@ -76,31 +77,25 @@ pub fn is_base(generations: &[u8], h: u32) -> bool
 }
 
 // Where the base of s meets a base, the two triangles are flipped.
-fn settle(
-    corners: &mut [u32],
-    links: &mut [u32],
-    generations: &mut [u8],
-    work: Work,
-    s: u32,
-) -> Work
-    requires { TrianglesAgree corners.old links.old generations.old × (s < length generations.old)
-        × (get_or generations.old s 0 < 255) × (work.flips < 4294967295) }
-    ensures { (rule : ℕ) (positions : List ℤ) (locks report : List ℕ) → (more : List ℕ) × (
-        work_now rule more result positions corners.new links.new generations.new locks
+fn settle(tables: &mut Tables, work: Work, s: u32) -> Work
+    requires { TrianglesAgree (held tables.old) × (s < length tables.old.generations.now)
+        × (get_or tables.old.generations.now s 0 < 255) × (work.flips < 4294967295) }
+    ensures settled { (rule : ℕ) (report : List ℕ) → (more : List ℕ) × (
+        work_now rule more result (held tables.new)
         ≡ settle s
-        (work_now rule report work positions corners.old links.old generations.old
-        locks)) }
+        (work_now rule report work (held tables.old))) }
+    ensures lent { SameTables tables.new tables.old }
 {
     let i = 3 * (s as usize);
-    let h = links[i];
-    if is_base(generations, h) {
+    let h = tables.links[i];
+    if is_base(tables.view().generations, h) {
         let after = Work {
             vertices: work.vertices,
             triangles: work.triangles,
             splits: work.splits,
             flips: work.flips + 1,
         };
-        flip(corners, links, generations, s, h / 3);
+        flip(tables, s, h / 3);
         after
     } else {
         work
@@ -110,9 +105,7 @@ fn settle(
 // Three triangles in the place of x, which is in slot t: in slots t, f and f + 1. The partners of the sides 1 and 2
 // of x are told their new places.
 fn replace(
-    corners: &mut [u32],
-    links: &mut [u32],
-    generations: &mut [u8],
+    tables: &mut Tables,
     t: u32,
     f: u32,
     x: Triangle,
@@ -120,57 +113,45 @@ fn replace(
     to_1: u32,
     to_2: u32,
 )
-    requires { TrianglesAgree corners.old links.old generations.old × (t < length generations.old)
-        × (f + 2 ≤ length generations.old) }
-    ensures { (n : Counts) →
-        topology_now n corners.new links.new generations.new
+    requires { TrianglesAgree (held tables.old) × (t < length tables.old.generations.now)
+        × (f + 2 ≤ length tables.old.generations.now) }
+    ensures replaced { (n : Counts) →
+        topology_with n (held tables.new)
         ≡ replaced t f x three to_1 to_2
-        (topology_now n corners.old links.old generations.old) }
+        (topology_with n (held tables.old)) }
+    ensures rest { SameBeside tables.new tables.old }
 {
     let e = f + 1;
     let at_t = three[0];
     let at_f = three[1];
     let at_e = three[2];
-    tables::relink(links, x.links[1], to_1);
-    tables::relink(links, x.links[2], to_2);
-    tables::store(corners, links, generations, t, at_t);
-    tables::store(corners, links, generations, f, at_f);
-    tables::store(corners, links, generations, e, at_e);
+    tables.relink(x.links[1], to_1);
+    tables.relink(x.links[2], to_2);
+    tables.store(t, at_t);
+    tables.store(f, at_f);
+    tables.store(e, at_e);
 }
 
 // The nearest third of the sum of the corners h, i and j of t.
-fn third_of(positions: &[i32], corners: &[u32], t: u32, h: usize, i: usize, j: usize) -> Point
-    requires { VerticesAgree positions.now × (3 * t + 2 < length corners.now) × (h < 3) × (i < 3) × (j < 3) }
-    ensures { (n : Counts) (links generations locks : List ℕ) →
-        result ≡ each_axis (third_of h i j
-        (mesh_now n positions.now corners.now links generations locks) t) }
+fn third_of(tables: &Tables, t: u32, h: usize, i: usize, j: usize) -> Point
+    requires { VerticesAgree tables.now.positions.now × (3 * t + 2 < length tables.now.corners.now) × (h < 3) × (i < 3) × (j < 3) }
+    ensures { (n : Counts) → result ≡ each_axis (third_of h i j (mesh_with n (held tables.now)) t) }
 {
     let first = 3 * (t as usize);
-    let a = tables::point_at(positions, corners[first + h]);
-    let b = tables::point_at(positions, corners[first + i]);
-    let c = tables::point_at(positions, corners[first + j]);
+    let a = tables::point_at(tables.positions, tables.corners[first + h]);
+    let b = tables::point_at(tables.positions, tables.corners[first + i]);
+    let c = tables::point_at(tables.positions, tables.corners[first + j]);
     Point::thirds(a, b, c)
 }
 
 // The cut of the face split of t: the new vertex is placed at the centre.
-fn face_cut(
-    positions: &mut [i32],
-    corners: &mut [u32],
-    links: &mut [u32],
-    generations: &mut [u8],
-    locks: &mut [u8],
-    work: Work,
-    t: u32,
-) -> Work
+fn face_cut(tables: &mut Tables, work: Work, t: u32) -> Work
     requires { ((rule : ℕ) × (report : List ℕ) ×
-        MaySplit t (work_now rule report work positions.old corners.old links.old generations.old locks.old))
-        × (get_or generations.old t 0 % 2 ≡ 0) }
-    ensures { (rule : ℕ) (report : List ℕ) → (more : List ℕ) × Hands t (work_now rule report work
-        positions.old corners.old links.old generations.old
-        locks.old)
-        (t ∷ work.triangles ∷ (work.triangles + 1) ∷ []) (work_now rule more result
-        positions.new corners.new links.new generations.new
-        locks.new) }
+        MaySplit t (work_now rule report work (held tables.old)))
+        × (get_or tables.old.generations.now t 0 % 2 ≡ 0) }
+    ensures cut { (rule : ℕ) (report : List ℕ) → (more : List ℕ) × Hands t (work_now rule report work (held tables.old))
+        (t ∷ work.triangles ∷ (work.triangles + 1) ∷ []) (work_now rule more result (held tables.new)) }
+    ensures lent { SameTables tables.new tables.old }
 {
     let p = work.vertices;
     let f = work.triangles;
@@ -182,34 +163,23 @@ fn face_cut(
     };
     let to_f = 3 * f;
     let to_e = 3 * (f + 1);
-    let centre = third_of(positions, corners, t, 0, 1, 2);
-    tables::store_point(positions, p, centre);
-    let x = tables::triangle_at(corners, links, generations, t);
+    let centre = third_of(tables, t, 0, 1, 2);
+    tables::store_point(tables.positions, p, centre);
+    let x = tables.triangle_at(t);
     let three = shapes::children(x, t, f, p);
-    replace(corners, links, generations, t, f, x, three, to_f, to_e);
-    tables::unlock_two(locks, f);
+    replace(tables, t, f, x, three, to_f, to_e);
+    tables::unlock_two(tables.locks, f);
     after
 }
 
 // The cut of the rim split of t: the two new vertices are placed at the thirds of its base.
-fn rim_cut(
-    positions: &mut [i32],
-    corners: &mut [u32],
-    links: &mut [u32],
-    generations: &mut [u8],
-    locks: &mut [u8],
-    work: Work,
-    t: u32,
-) -> Work
+fn rim_cut(tables: &mut Tables, work: Work, t: u32) -> Work
     requires { ((rule : ℕ) × (report : List ℕ) ×
-        MaySplit t (work_now rule report work positions.old corners.old links.old generations.old locks.old))
-        × (get_or generations.old t 0 % 2 ≡ 1) }
-    ensures { (rule : ℕ) (report : List ℕ) → (more : List ℕ) × Hands t (work_now rule report work
-        positions.old corners.old links.old generations.old
-        locks.old)
-        (t ∷ (work.triangles + 1) ∷ []) (work_now rule more result
-        positions.new corners.new links.new generations.new
-        locks.new) }
+        MaySplit t (work_now rule report work (held tables.old)))
+        × (get_or tables.old.generations.now t 0 % 2 ≡ 1) }
+    ensures cut { (rule : ℕ) (report : List ℕ) → (more : List ℕ) × Hands t (work_now rule report work (held tables.old))
+        (t ∷ (work.triangles + 1) ∷ []) (work_now rule more result (held tables.new)) }
+    ensures lent { SameTables tables.new tables.old }
 {
     let v = work.vertices;
     let w = v + 1;
@@ -222,120 +192,93 @@ fn rim_cut(
     };
     let to_t = 3 * t;
     let to_e = 3 * (f + 1);
-    let first = third_of(positions, corners, t, 0, 0, 1);
-    let second = third_of(positions, corners, t, 0, 1, 1);
-    tables::store_point(positions, v, first);
-    tables::store_point(positions, w, second);
-    let x = tables::triangle_at(corners, links, generations, t);
+    let first = third_of(tables, t, 0, 0, 1);
+    let second = third_of(tables, t, 0, 1, 1);
+    tables::store_point(tables.positions, v, first);
+    tables::store_point(tables.positions, w, second);
+    let x = tables.triangle_at(t);
     let three = shapes::rim_children(x, t, f, v);
-    replace(corners, links, generations, t, f, x, three, to_e, to_t);
-    tables::unlock_two(locks, f);
+    replace(tables, t, f, x, three, to_e, to_t);
+    tables::unlock_two(tables.locks, f);
     after
 }
 
 // What the cut of a face split leaves is settled: t, f and e, in this order.
-fn settle_three(
-    corners: &mut [u32],
-    links: &mut [u32],
-    generations: &mut [u8],
-    work: Work,
-    t: u32,
-    f: u32,
-    e: u32,
-) -> Work
-    requires { TrianglesAgree corners.old links.old generations.old × (t < length generations.old)
-        × (f < length generations.old) × (e < length generations.old) × (get_or generations.old t 0 < 23)
-        × (get_or generations.old f 0 < 23) × (get_or generations.old e 0 < 23) × (work.flips + 3 ≤ 4294967295) }
-    ensures { (rule : ℕ) (positions : List ℤ) (locks report : List ℕ) → (more : List ℕ) × (
-        work_now rule more result positions corners.new links.new generations.new locks
+fn settle_three(tables: &mut Tables, work: Work, t: u32, f: u32, e: u32) -> Work
+    requires { TrianglesAgree (held tables.old) × (t < length tables.old.generations.now)
+        × (f < length tables.old.generations.now) × (e < length tables.old.generations.now) × (get_or tables.old.generations.now t 0 < 23)
+        × (get_or tables.old.generations.now f 0 < 23) × (get_or tables.old.generations.now e 0 < 23) × (work.flips + 3 ≤ 4294967295) }
+    ensures settled { (rule : ℕ) (report : List ℕ) → (more : List ℕ) × (
+        work_now rule more result (held tables.new)
         ≡ settle_all (t ∷ f ∷ e ∷ [])
-        (work_now rule report work positions corners.old links.old generations.old
-        locks)) }
+        (work_now rule report work (held tables.old))) }
+    ensures lent { SameTables tables.new tables.old }
 {
-    let one = settle(corners, links, generations, work, t);
-    let two = settle(corners, links, generations, one, f);
-    settle(corners, links, generations, two, e)
+    let one = settle(tables, work, t);
+    let two = settle(tables, one, f);
+    settle(tables, two, e)
 }
 
 // What the cut of a rim split leaves is settled: t and e, in this order.
-fn settle_two(
-    corners: &mut [u32],
-    links: &mut [u32],
-    generations: &mut [u8],
-    work: Work,
-    t: u32,
-    e: u32,
-) -> Work
-    requires { TrianglesAgree corners.old links.old generations.old × (t < length generations.old)
-        × (e < length generations.old) × (get_or generations.old t 0 < 23) × (get_or generations.old e 0 < 23)
+fn settle_two(tables: &mut Tables, work: Work, t: u32, e: u32) -> Work
+    requires { TrianglesAgree (held tables.old) × (t < length tables.old.generations.now)
+        × (e < length tables.old.generations.now) × (get_or tables.old.generations.now t 0 < 23) × (get_or tables.old.generations.now e 0 < 23)
         × (work.flips + 2 ≤ 4294967295) }
-    ensures { (rule : ℕ) (positions : List ℤ) (locks report : List ℕ) → (more : List ℕ) × (
-        work_now rule more result positions corners.new links.new generations.new locks
+    ensures settled { (rule : ℕ) (report : List ℕ) → (more : List ℕ) × (
+        work_now rule more result (held tables.new)
         ≡ settle_all (t ∷ e ∷ [])
-        (work_now rule report work positions corners.old links.old generations.old
-        locks)) }
+        (work_now rule report work (held tables.old))) }
+    ensures lent { SameTables tables.new tables.old }
 {
-    let one = settle(corners, links, generations, work, t);
-    settle(corners, links, generations, one, e)
+    let one = settle(tables, work, t);
+    settle(tables, one, e)
 }
 
 // The split of t, with its flips: the face split of an even triangle, the rim split of an odd one. Each has a settling
 // of its own: with one for both, a face split would take 25 to 33 instructions more.
-pub fn split_at(
-    positions: &mut [i32],
-    corners: &mut [u32],
-    links: &mut [u32],
-    generations: &mut [u8],
-    locks: &mut [u8],
-    work: Work,
-    t: u32,
-) -> Work
+pub fn split_at(tables: &mut Tables, work: Work, t: u32) -> Work
     requires { (rule : ℕ) × (report : List ℕ) ×
-        MaySplit t (work_now rule report work positions.old corners.old links.old generations.old
-        locks.old) }
-    ensures { (rule : ℕ) (report : List ℕ) → (more : List ℕ) × (
-        work_now rule more result positions.new corners.new links.new
-        generations.new locks.new
-        ≡ split_at t (work_now rule report work
-        positions.old corners.old links.old generations.old
-        locks.old)) }
+        MaySplit t (work_now rule report work (held tables.old)) }
+    ensures split { (rule : ℕ) (report : List ℕ) → (more : List ℕ) × (
+        work_now rule more result (held tables.new)
+        ≡ split_at t (work_now rule report work (held tables.old))) }
+    ensures lent { SameTables tables.new tables.old }
 {
     let f = work.triangles;
-    if tables::generation_at(generations, t) % 2 == 0 {
-        let cut = face_cut(positions, corners, links, generations, locks, work, t);
-        settle_three(corners, links, generations, cut, t, f, f + 1)
+    if tables::generation_at(tables.view().generations, t) % 2 == 0 {
+        let cut = face_cut(tables, work, t);
+        settle_three(tables, cut, t, f, f + 1)
     } else {
-        let cut = rim_cut(positions, corners, links, generations, locks, work, t);
-        settle_two(corners, links, generations, cut, t, f + 1)
+        let cut = rim_cut(tables, work, t);
+        settle_two(tables, cut, t, f + 1)
     }
 }
 
 // The base chain of t: from an odd triangle on to the one across its base, until an even one or the boundary. Its steps
 // are at most as many as the generation of t says, so that the slots have room.
-pub fn base_chain(links: &[u32], generations: &[u8], t: u32) -> Chain
-    requires { get_or generations.now t 0 ≤ 20 }
-    ensures { (n : Counts) (corners : List ℕ) →
-        BaseChain (topology_now n corners links.now generations.now) t result }
+pub fn base_chain(view: &View, t: u32) -> Chain
+    requires { get_or view.now.generations.now t 0 ≤ 20 }
+    ensures { (n : Counts) → BaseChain (topology_with n (seen view.now)) t result }
 {
     let mut slots: [u32; 20] = [0; 20];
     let mut odd: u32 = 0;
     let mut end = t;
-    let mut steps = tables::generation_at(generations, t);
+    let mut steps = tables::generation_at(view.generations, t);
     while 0 < steps {
-        if tables::generation_at(generations, end) % 2 == 0 {
+        if tables::generation_at(view.generations, end) % 2 == 0 {
             break;
         }
         let i = odd as usize;
         slots[i] = end;
         odd += 1;
-        let across = tables::base_link(links, end);
+        let across = tables::base_link(view.links, end);
         if across == tables::BOUNDARY {
             break;
         }
         end = across / 3;
         steps -= 1;
     }
-    let rim = tables::generation_at(generations, end) as u32 % 2;
+    let rim = tables::generation_at(view.generations, end) as u32 % 2;
     Chain {
         odd,
         end,

@@ -1,7 +1,7 @@
 // The whole step on sound tables: what it refuses, and its work.
 #![tactic(auto)]
 
-ghost use Rattle.std.specs.Prelude.{List, ◌≡◌, ℕ, ◌≤◌, ℤ, length};
+ghost use Rattle.std.specs.Prelude.{List, ◌≡◌, ℕ, ◌*◌, ◌≤◌, ℤ, length};
 ghost use Rattle.theory.proofs.Calls.Carried.{StepFound};
 ghost use Rattle.theory.proofs.Steps.Closed.{closed_step};
 ghost use Rattle.rules.specs.Calls.{some_locked, whole_step_refusal, whole_step_call, worked};
@@ -9,110 +9,85 @@ ghost use Rattle.rules.specs.Sound.{Sound};
 ghost use Rattle.rules.specs.Step.{whole_step};
 ghost use Rattle.rules.specs.Tables.{topology_of, mesh_of};
 ghost use Rattle.tables.specs.Answers.{worked_outcome};
-ghost use Rattle.tables.specs.Lent.{mesh_now};
+ghost use Rattle.tables.specs.Lent.{held, seen, mesh_with, SameTables};
+ghost use Rattle.tables.specs.Refusals.{refused};
 ghost use Rattle.rings.specs.Sums.{Cleared, RingSums};
 ghost use Rattle.step.specs.Stepped.{stepped};
 
-use tables::{Counts, Worked};
+use tables::refusals::Refusal;
+use tables::{Counts, Tables, View, Worked};
 
 // Whether some triangle is locked.
+#[tactic(auto, using(theory::proofs::Numbers::Decide::any_none), unfolding(rules::specs::Calls::some_locked))]
 fn some_locked(locks: &[u8], triangles: u32) -> bool
     requires { triangles ≤ length locks.now }
     ensures { (v rule : ℕ) (p : List ℤ) (c l g : List ℕ) →
         result ≡ some_locked (mesh_of (topology_of v triangles c l g) p locks.now rule) }
 {
     let mut some = false;
-    let mut t: usize = 0;
-    while t < triangles as usize {
-        some = some | (locks[t] == 1);
-        t += 1;
+    for lock in &locks[..triangles as usize] {
+        some |= *lock == 1;
     }
     some
 }
 
 // All old triangles split and flipped: their children, with the centres of the old triangles as new vertices.
-fn split_all(
-    positions: &mut [i32],
-    corners: &mut [u32],
-    links: &mut [u32],
-    generations: &mut [u8],
-    locks: &mut [u8],
-    counts: Counts,
-)
-    requires { StepFound (mesh_now counts positions.old corners.old links.old generations.old locks.old) }
-    ensures { mesh_now (stepped counts) positions.new corners.new links.new
-        generations.new locks.new
-        ≡ closed_step (mesh_now counts positions.old corners.old links.old
-        generations.old locks.old) }
+fn split_all(tables: &mut Tables, counts: Counts)
+    requires { StepFound (mesh_with counts (held tables.old)) }
+    ensures split { mesh_with (stepped counts) (held tables.new)
+        ≡ closed_step (mesh_with counts (held tables.old)) }
+    ensures lent { SameTables tables.new tables.old }
 {
     let f = counts.triangles;
-    let g = generations[0] + 2;
+    let g = tables.generations[0] + 2;
+    let positions = &mut *tables.positions;
+    let corners = &mut *tables.corners;
     dividing::place_centres(positions, corners, counts);
-    dividing::write_all(corners, links, counts);
-    dividing::set_generations(generations, 3 * (f as usize), g);
-    dividing::unlock_new(locks, f);
+    dividing::write_all(tables.corners, tables.links, counts);
+    dividing::set_generations(tables.generations, 3 * (f as usize), g);
+    dividing::unlock_new(tables.locks, f);
 }
 
-// The number that the step is refused with; 0 where it is not, and then the two arrays, zero at first, have the length
-// of each ring and the sum of its positions.
-fn refusal(
-    positions: &[i32],
-    corners: &[u32],
-    links: &[u32],
-    generations: &[u8],
-    locks: &[u8],
-    counts: Counts,
-    lengths: &mut [u8],
-    sums: &mut [i32],
-) -> u32
-    requires { Sound (mesh_now counts positions.now corners.now links.now generations.now locks.now)
+// What the step is refused with. Where it is not, the two arrays, zero at first, have the length of each ring and the
+// sum of its positions.
+fn refusal(view: &View, counts: Counts, lengths: &mut [u8], sums: &mut [i32]) -> Result<(), Refusal>
+    requires { Sound (mesh_with counts (seen view.now))
         × Cleared counts.vertices lengths.old sums.old }
-    ensures { let m = mesh_now counts positions.now corners.now links.now
-        generations.now locks.now in
-        (result ≡ whole_step_refusal m) × (result ≡ 0 → RingSums m lengths.new sums.new) }
+    ensures { let m = mesh_with counts (seen view.now) in
+        (refused result ≡ whole_step_refusal m) × (refused result ≡ 0 → RingSums m lengths.new sums.new) }
 {
     let f = counts.triangles;
-    if !moving::closed_even(links, generations, f) {
-        return 12;
+    if !moving::closed_even(view.links, view.generations, f) {
+        return Err(Refusal::NotUniform);
     }
-    if generations[0] == 20 {
-        return 9;
+    if view.generations[0] == 20 {
+        return Err(Refusal::Generation);
     }
-    if !rings::sums::ring_sums(positions, corners, counts, lengths, sums) {
-        return 13;
+    if !rings::sums::ring_sums(view.positions, view.corners, counts, lengths, sums) {
+        return Err(Refusal::RingLong);
     }
-    if some_locked(locks, f) {
-        return 19;
+    if some_locked(view.locks, f) {
+        return Err(Refusal::Locked);
     }
-    if !tables::has_room(positions, generations, counts, f, 0) {
-        return 11;
+    if !view.has_room(counts, f, 0) {
+        return Err(Refusal::NoSlots);
     }
-    0
+    Ok(())
 }
 
 // The work of the step, with the length of each ring and the sum of its positions.
-fn whole_step(
-    positions: &mut [i32],
-    corners: &mut [u32],
-    links: &mut [u32],
-    generations: &mut [u8],
-    locks: &mut [u8],
-    counts: Counts,
-    lengths: &[u8],
-    sums: &[i32],
-) -> Worked
-    requires { let m = mesh_now counts positions.old corners.old links.old generations.old locks.old in
+fn whole_step(tables: &mut Tables, counts: Counts, lengths: &[u8], sums: &[i32]) -> Worked
+    requires { let m = mesh_with counts (held tables.old) in
         StepFound m × RingSums m lengths.now sums.now }
-    ensures { worked_outcome result positions.new corners.new links.new generations.new
-        locks.new
-        ≡ worked (whole_step (mesh_now counts positions.old corners.old links.old
-        generations.old locks.old)) }
+    ensures stepped { worked_outcome result (held tables.new)
+        ≡ worked (whole_step (mesh_with counts (held tables.old))) }
+    ensures lent { SameTables tables.new tables.old }
 {
     let v = counts.vertices;
     let f = counts.triangles;
     let rule = counts.rule;
-    split_all(positions, corners, links, generations, locks, counts);
-    moving::move_all(positions, v, rule, lengths, sums);
+    split_all(tables, counts);
+    moving::move_all(tables.positions, v, rule, lengths, sums);
     Worked {
         refusal: 0,
         splits: f,
@@ -126,196 +101,48 @@ fn whole_step(
 }
 
 // The whole step, with two arrays lent, zero at first, for the length of each ring and the sum of its positions.
-fn step_by(
-    positions: &mut [i32],
-    corners: &mut [u32],
-    links: &mut [u32],
-    generations: &mut [u8],
-    locks: &mut [u8],
-    counts: Counts,
-    lengths: &mut [u8],
-    sums: &mut [i32],
-) -> Worked
-    requires { Sound (mesh_now counts positions.old corners.old links.old generations.old locks.old)
+fn step_by(tables: &mut Tables, counts: Counts, lengths: &mut [u8], sums: &mut [i32]) -> Worked
+    requires { Sound (mesh_with counts (held tables.old))
         × Cleared counts.vertices lengths.old sums.old }
-    ensures { worked_outcome result positions.new corners.new links.new generations.new
-        locks.new
-        ≡ whole_step_call (mesh_now counts positions.old corners.old links.old
-        generations.old locks.old) }
+    ensures stepped { worked_outcome result (held tables.new)
+        ≡ whole_step_call (mesh_with counts (held tables.old)) }
+    ensures lent { SameTables tables.new tables.old }
 {
-    let refusal = refusal(
-        positions,
-        corners,
-        links,
-        generations,
-        locks,
-        counts,
-        lengths,
-        sums,
-    );
-    if refusal != 0 {
-        return Worked {
-            refusal,
-            splits: 0,
-            flips: 0,
-            counts,
-        };
+    match refusal(&tables.view(), counts, lengths, sums) {
+        Err(refusal) => Worked::refused(refusal, counts),
+        Ok(()) => whole_step(tables, counts, lengths, sums),
     }
-    whole_step(
-        positions,
-        corners,
-        links,
-        generations,
-        locks,
-        counts,
-        lengths,
-        sums,
-    )
 }
 
-// The same for up to 128 vertices.
-fn step_within_128(
-    positions: &mut [i32],
-    corners: &mut [u32],
-    links: &mut [u32],
-    generations: &mut [u8],
-    locks: &mut [u8],
-    counts: Counts,
-) -> Worked
-    requires { Sound (mesh_now counts positions.old corners.old links.old generations.old locks.old)
-        × (counts.vertices ≤ 128) }
-    ensures { worked_outcome result positions.new corners.new links.new generations.new
-        locks.new
-        ≡ whole_step_call (mesh_now counts positions.old corners.old links.old
-        generations.old locks.old) }
+// The same for up to N vertices, of which there are no more than 32,768, with room for the S sums on their axes.
+fn step_within<const N: usize, const S: usize>(tables: &mut Tables, counts: Counts) -> Worked
+    requires sound { Sound (mesh_with counts (held tables.old)) }
+    requires slots { (counts.vertices ≤ N) × (N ≤ 32768) × (S ≡ 3 * N) }
+    ensures stepped { worked_outcome result (held tables.new)
+        ≡ whole_step_call (mesh_with counts (held tables.old)) }
+    ensures lent { SameTables tables.new tables.old }
 {
-    let mut lengths = [0u8; 128];
-    let mut sums = [0i32; 384];
-    step_by(
-        positions,
-        corners,
-        links,
-        generations,
-        locks,
-        counts,
-        &mut lengths,
-        &mut sums,
-    )
-}
-
-// The same for up to 2048 vertices.
-fn step_within_2048(
-    positions: &mut [i32],
-    corners: &mut [u32],
-    links: &mut [u32],
-    generations: &mut [u8],
-    locks: &mut [u8],
-    counts: Counts,
-) -> Worked
-    requires { Sound (mesh_now counts positions.old corners.old links.old generations.old locks.old)
-        × (counts.vertices ≤ 2048) }
-    ensures { worked_outcome result positions.new corners.new links.new generations.new
-        locks.new
-        ≡ whole_step_call (mesh_now counts positions.old corners.old links.old
-        generations.old locks.old) }
-{
-    let mut lengths = [0u8; 2048];
-    let mut sums = [0i32; 6144];
-    step_by(
-        positions,
-        corners,
-        links,
-        generations,
-        locks,
-        counts,
-        &mut lengths,
-        &mut sums,
-    )
-}
-
-// The same for up to 12288 vertices. A mesh in one piece that has room for a step has no more.
-fn step_within_12288(
-    positions: &mut [i32],
-    corners: &mut [u32],
-    links: &mut [u32],
-    generations: &mut [u8],
-    locks: &mut [u8],
-    counts: Counts,
-) -> Worked
-    requires { Sound (mesh_now counts positions.old corners.old links.old generations.old locks.old)
-        × (counts.vertices ≤ 12288) }
-    ensures { worked_outcome result positions.new corners.new links.new generations.new
-        locks.new
-        ≡ whole_step_call (mesh_now counts positions.old corners.old links.old
-        generations.old locks.old) }
-{
-    let mut lengths = [0u8; 12288];
-    let mut sums = [0i32; 36864];
-    step_by(
-        positions,
-        corners,
-        links,
-        generations,
-        locks,
-        counts,
-        &mut lengths,
-        &mut sums,
-    )
-}
-
-// The same for up to 32768 vertices.
-fn step_within_32768(
-    positions: &mut [i32],
-    corners: &mut [u32],
-    links: &mut [u32],
-    generations: &mut [u8],
-    locks: &mut [u8],
-    counts: Counts,
-) -> Worked
-    requires { Sound (mesh_now counts positions.old corners.old links.old generations.old locks.old)
-        × (counts.vertices ≤ 32768) }
-    ensures { worked_outcome result positions.new corners.new links.new generations.new
-        locks.new
-        ≡ whole_step_call (mesh_now counts positions.old corners.old links.old
-        generations.old locks.old) }
-{
-    let mut lengths = [0u8; 32768];
-    let mut sums = [0i32; 98304];
-    step_by(
-        positions,
-        corners,
-        links,
-        generations,
-        locks,
-        counts,
-        &mut lengths,
-        &mut sums,
-    )
+    let mut lengths = [0u8; N];
+    let mut sums = [0i32; S];
+    step_by(tables, counts, &mut lengths, &mut sums)
 }
 
 // The whole step on sound tables. All is decided before anything lent is written, and a small mesh has little to clear.
-pub fn smoothing_step(
-    positions: &mut [i32],
-    corners: &mut [u32],
-    links: &mut [u32],
-    generations: &mut [u8],
-    locks: &mut [u8],
-    counts: Counts,
-) -> Worked
-    requires { Sound (mesh_now counts positions.old corners.old links.old generations.old locks.old) }
-    ensures { worked_outcome result positions.new corners.new links.new generations.new
-        locks.new
-        ≡ whole_step_call (mesh_now counts positions.old corners.old links.old
-        generations.old locks.old) }
+// A mesh in one piece that has room for a step has no more than 12,288 vertices.
+pub fn smoothing_step(tables: &mut Tables, counts: Counts) -> Worked
+    requires { Sound (mesh_with counts (held tables.old)) }
+    ensures stepped { worked_outcome result (held tables.new)
+        ≡ whole_step_call (mesh_with counts (held tables.old)) }
+    ensures lent { SameTables tables.new tables.old }
 {
     if counts.vertices <= 128 {
-        return step_within_128(positions, corners, links, generations, locks, counts);
+        return step_within::<128, 384>(tables, counts);
     }
     if counts.vertices <= 2048 {
-        return step_within_2048(positions, corners, links, generations, locks, counts);
+        return step_within::<2048, 6144>(tables, counts);
     }
     if counts.vertices <= 12288 {
-        return step_within_12288(positions, corners, links, generations, locks, counts);
+        return step_within::<12288, 36864>(tables, counts);
     }
-    step_within_32768(positions, corners, links, generations, locks, counts)
+    step_within::<32768, 98304>(tables, counts)
 }

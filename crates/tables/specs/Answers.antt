@@ -1,14 +1,15 @@
--- Answers of calls, with what the lent slices hold afterwards, as outcomes of the rules.
+-- Answers of calls, with what the lent tables hold afterwards, as outcomes of the rules.
 use Rattle.std.specs.Prelude.{ℕ, List, ℤ}
 use Rattle.rules.specs.Calls.{Outcome, answer_of, no_room, table_room, outcome_of, zero_point}
+use Rattle.rules.specs.Spares.{Spares}
 use Rattle.rules.specs.Tables.{Mesh}
-use Rattle.tables.specs.Lent.{mesh_now}
+use Rattle.tables.specs.Lent.{mesh_with}
 use Rattle.tables.specs.declared.Worked.{Worked}
 
 -- Of a call that may change the mesh.
-abbrev pub worked_outcome : Worked → List ℤ → List ℕ → List ℕ → List ℕ → List ℕ → Outcome
-worked_outcome a positions corners links generations locks =
-    let m = mesh_now a.counts positions corners links generations locks in
+abbrev pub worked_outcome : Worked → Spares → Outcome
+worked_outcome a s =
+    let m = mesh_with a.counts s in
     outcome_of (answer_of a.refusal a.splits a.flips 0 zero_point m) m no_room
 
 -- Of a call that reads m, refuses with n or with 0, and leaves this table.

@@ -5,14 +5,38 @@ ghost use Rattle.std.specs.Prelude.{List, ◌≡◌, ℕ, ◌+◌, ◌*◌, ◌/
 ghost use Rattle.rules.specs.Calls.{room_for};
 ghost use Rattle.rules.specs.Split.{new_unlocked};
 ghost use Rattle.rules.specs.Tables.{put_three, relink};
+ghost use Rattle.tables.specs.Refusals.{number};
 ghost use Rattle.tables.specs.declared.Counts.{Counts};
-ghost use Rattle.tables.specs.Lent.{mesh_now, topology_now, TrianglesAgree, VerticesAgree};
-ghost use Rattle.tables.specs.Lent.{triangle_at, entries, put, point_in, put_point};
+ghost use Rattle.tables.specs.Lent.{held, seen, mesh_with, topology_with, topology_now, SameSizes, SameBeside};
+ghost use Rattle.tables.specs.Lent.{TrianglesAgree, VerticesAgree, triangle_at, entries, put, point_in, put_point};
 
 use points::Point;
 
+use crate::refusals::Refusal;
+
 pub mod copies;
+pub mod refusals;
 pub mod sides;
+
+// The five tables of a mesh, lent for writing.
+#[derive(Drop)]
+pub struct Tables<'a> {
+    pub positions: &'a mut [i32],
+    pub corners: &'a mut [u32],
+    pub links: &'a mut [u32],
+    pub generations: &'a mut [u8],
+    pub locks: &'a mut [u8],
+}
+
+// The same tables, lent for reading.
+#[derive(Clone, Copy)]
+pub struct View<'a> {
+    pub positions: &'a [i32],
+    pub corners: &'a [u32],
+    pub links: &'a [u32],
+    pub generations: &'a [u8],
+    pub locks: &'a [u8],
+}
 
 // The slots in use, which are the first of their tables, and the rule of rounding, 1 or 2.
 #[repr(C)]
@@ -33,6 +57,25 @@ pub struct Worked {
     pub counts: Counts,
 }
 
+impl Worked {
+    // The answer of such a call that is refused.
+    pub fn refused(refusal: Refusal, counts: Counts) -> Self
+        ensures { result ≡ record {
+          refusal = number refusal;
+          splits = 0;
+          flips = 0;
+          counts = counts;
+        } }
+    {
+        Self {
+            refusal: refusal.number(),
+            splits: 0,
+            flips: 0,
+            counts,
+        }
+    }
+}
+
 // What a side without a partner links to.
 pub const BOUNDARY: u32 = 4294967295;
 
@@ -44,20 +87,80 @@ pub struct Triangle {
     pub generation: u8,
 }
 
-// The triangle in slot t.
-pub fn triangle_at(corners: &[u32], links: &[u32], generations: &[u8], t: u32) -> Triangle
-    requires { TrianglesAgree corners.now links.now generations.now × (t < length generations.now) }
-    ensures { (n : Counts) →
-        result ≡ triangle_at (topology_now n corners.now links.now generations.now) t }
-{
-    let slot = t as usize;
-    let i = 3 * slot;
-    let c = [corners[i], corners[i + 1], corners[i + 2]];
-    let l = [links[i], links[i + 1], links[i + 2]];
-    Triangle {
-        corners: c,
-        links: l,
-        generation: generations[slot],
+impl View<'_> {
+    // The triangle in slot t.
+    pub fn triangle_at(&self, t: u32) -> Triangle
+        requires { TrianglesAgree (seen self.now) × (t < length self.now.generations.now) }
+        ensures { (n : Counts) → result ≡ triangle_at (topology_with n (seen self.now)) t }
+    {
+        let slot = t as usize;
+        let i = 3 * slot;
+        let c = [self.corners[i], self.corners[i + 1], self.corners[i + 2]];
+        let l = [self.links[i], self.links[i + 1], self.links[i + 2]];
+        Triangle {
+            corners: c,
+            links: l,
+            generation: self.generations[slot],
+        }
+    }
+
+    // Whether there are slots for so many splits. Each makes two triangles and a vertex, and the rim splits among them
+    // a vertex more.
+    pub fn has_room(&self, counts: Counts, splits: u32, rim: u32) -> bool
+        ensures { result ≡ room_for (splits + rim) (2 * splits) (mesh_with counts (seen self.now)) }
+    {
+        let vertices = counts.vertices as u64 + (splits as u64 + rim as u64);
+        let triangles = counts.triangles as u64 + 2 * (splits as u64);
+        vertices <= self.positions.len() as u64 / 3 && triangles <= self.generations.len() as u64
+    }
+}
+
+impl Tables<'_> {
+    // The tables as they stand, for reading.
+    pub fn view(&self) -> View<'_>
+        ensures same { seen result ≡ held self.now }
+        ensures sizes { SameSizes (seen result) (held self.now) }
+    {
+        View {
+            positions: self.positions,
+            corners: self.corners,
+            links: self.links,
+            generations: self.generations,
+            locks: self.locks,
+        }
+    }
+
+    // The triangle in slot t.
+    pub fn triangle_at(&self, t: u32) -> Triangle
+        requires { TrianglesAgree (held self.now) × (t < length self.now.generations.now) }
+        ensures { (n : Counts) → result ≡ triangle_at (topology_with n (held self.now)) t }
+    {
+        self.view().triangle_at(t)
+    }
+
+    // The triangle x stored in slot t.
+    pub fn store(&mut self, t: u32, x: Triangle)
+        requires { TrianglesAgree (held self.old) × (t < length self.old.generations.now) }
+        ensures stored { (n : Counts) →
+            topology_with n (held self.new) ≡ put t x (topology_with n (held self.old)) }
+        ensures rest { SameBeside self.new self.old }
+    {
+        let c = x.corners;
+        let l = x.links;
+        store_three(self.corners, t, c);
+        store_three(self.links, t, l);
+        self.generations[t as usize] = x.generation;
+    }
+
+    // Side h linked to side k. The boundary has no slot, so that nothing is written where h is the boundary.
+    pub fn relink(&mut self, h: u32, k: u32)
+        ensures linked { (n : Counts) → topology_with n (held self.new) ≡ relink h k (topology_with n (held self.old)) }
+        ensures rest { SameBeside self.new self.old }
+    {
+        let i = h as usize;
+        if i < self.links.len() {
+            self.links[i] = k;
+        }
     }
 }
 
@@ -92,21 +195,6 @@ fn store_three(table: &mut [u32], t: u32, x: [u32; 3])
     table[i + 2] = x[2];
 }
 
-// The triangle x stored in slot t.
-pub fn store(corners: &mut [u32], links: &mut [u32], generations: &mut [u8], t: u32, x: Triangle)
-    requires { TrianglesAgree corners.old links.old generations.old × (t < length generations.old) }
-    ensures { (n : Counts) →
-        topology_now n corners.new links.new generations.new
-        ≡ put t x (topology_now n corners.old links.old generations.old) }
-{
-    let c = x.corners;
-    let l = x.links;
-    let slot = t as usize;
-    store_three(corners, t, c);
-    store_three(links, t, l);
-    generations[slot] = x.generation;
-}
-
 // The locks of slot f and the next cleared, which are the new slots of a split.
 pub fn unlock_two(locks: &mut [u8], f: u32)
     requires { f + 2 ≤ length locks.old }
@@ -115,18 +203,6 @@ pub fn unlock_two(locks: &mut [u8], f: u32)
     let slot = f as usize;
     locks[slot] = 0;
     locks[slot + 1] = 0;
-}
-
-// Side h linked to side k. The boundary has no slot, so that nothing is written where h is the boundary.
-pub fn relink(links: &mut [u32], h: u32, k: u32)
-    ensures { (n : Counts) (corners generations : List ℕ) →
-        topology_now n corners links.new generations
-        ≡ relink h k (topology_now n corners links.old generations) }
-{
-    let i = h as usize;
-    if i < links.len() {
-        links[i] = k;
-    }
 }
 
 // The point in slot v of a table that has this slot.
@@ -167,22 +243,4 @@ pub fn store_point(positions: &mut [i32], v: u32, p: Point)
     positions[i] = x;
     positions[i + 1] = y;
     positions[i + 2] = z;
-}
-
-// Whether there are slots for so many splits. Each makes two triangles and a vertex, and the rim splits among them a
-// vertex more.
-pub fn has_room(
-    positions: &[i32],
-    generations: &[u8],
-    counts: Counts,
-    splits: u32,
-    rim: u32,
-) -> bool
-    ensures { (corners links locks : List ℕ) →
-        result ≡ room_for (splits + rim) (2 * splits)
-        (mesh_now counts positions.now corners links generations.now locks) }
-{
-    let vertices = counts.vertices as u64 + (splits as u64 + rim as u64);
-    let triangles = counts.triangles as u64 + 2 * (splits as u64);
-    vertices <= positions.len() as u64 / 3 && triangles <= generations.len() as u64
 }

@@ -1,11 +1,9 @@
 -- The restored mesh in tables that are cut to what the present mesh uses.
 use mathlib.Core.List.{List}
 use mathlib.Core.Path.{◌≡◌, refl, sym, ap, ◌∙◌}
-use Prim.Native.Nat.{ℕ, zero, suc, ◌*◌, ◌≤◌}
-use native.Mathlib.Omega.{arith}
-use lib.IntN.{ℤ, pos}
-use lib.ListN.{length, take, replicate, length-replicate}
-use lib.Seq.{length-take-le}
+use Prim.Native.Nat.{ℕ, zero, suc, ◌*◌}
+use lib.IntN.{pos}
+use lib.ListN.{take}
 use Rattle.theory.proofs.Numbers.Take.{take_set, take_three}
 use Rattle.theory.proofs.Spares.Copies.{copied_all}
 use Rattle.rules.specs.Notes.{old_v, old_f, note_slots, note_nine, put_back, put_back_all, restored}
@@ -14,8 +12,7 @@ use Rattle.rules.specs.Spares.{Spares, copied}
 use Rattle.rules.specs.Tables.{Mesh, with_topology, with_counts}
 use Rattle.refining.proofs.Batching.{has_slots}
 use Rattle.tables.specs.declared.Counts.{Counts}
-use Rattle.tables.specs.Lent.{mesh_now, spares_now, HasSlots}
-use Rattle.restoring.specs.Putting.{SlotRoom}
+use Rattle.tables.specs.Lent.{mesh_now, mesh_with}
 use Rattle.undoing.specs.Trying.{cut, JustSlots}
 
 -- ---- slots put back into cut tables
@@ -55,97 +52,31 @@ module _ (note : List ℕ) where
 
 -- ---- the copy of a mesh in tables with just its slots
 
-pub just_slots : {n : Counts} {p : List ℤ} {c l g k : List ℕ} → JustSlots n p c l g k → HasSlots n p c l g k
-just_slots J = record {
-  positions = omega (arith, J.positions);
-  corners = omega (arith, J.corners);
-  links = omega (arith, J.links);
-  generations = omega (arith, J.generations);
-  locks = omega (arith, J.locks);
-}
+module _ (n : Counts) (s : Spares) (S : Sound (mesh_with n s)) {room copy : Spares} (J : JustSlots n room)
+    (e : copy ≡ copied (mesh_with n s) room) where
+  -- The copy is the mesh in cut tables, with whatever counts.
+  copy_is_cut : (o : Counts)
+      → mesh_with o copy
+      ≡ mesh_now o (take (3 * n.vertices) s.positions) (take (3 * n.triangles) s.corners) (take (3 * n.triangles) s.links)
+      (take n.triangles s.generations) (take n.triangles s.locks)
+  unfolding copied
+  copy_is_cut o =
+      let R = has_slots n S in
+      let positions = ap (λ (x : Spares). x.positions) e ∙ copied_all (pos 0) _ room.positions s.positions R.positions J.positions in
+      let corners = ap (λ (x : Spares). x.corners) e ∙ copied_all 0 _ room.corners s.corners R.corners J.corners in
+      let links = ap (λ (x : Spares). x.links) e ∙ copied_all 0 _ room.links s.links R.links J.links in
+      let generations =
+      ap (λ (x : Spares). x.generations) e ∙ copied_all 0 _ room.generations s.generations R.generations J.generations in
+      let locks = ap (λ (x : Spares). x.locks) e ∙ copied_all 0 _ room.locks s.locks R.locks J.locks in
+      rw (positions, corners, links, generations, locks) refl
 
--- The first slots of tables are just as many.
-pub first_slots : (n : Counts) (p : List ℤ) (c l g k : List ℕ) → HasSlots n p c l g k
-    → JustSlots n (take (3 * n.vertices) p) (take (3 * n.triangles) c) (take (3 * n.triangles) l)
-    (take n.triangles g) (take n.triangles k)
-first_slots n p c l g k R = record {
-  positions = length-take-le (3 * n.vertices) p R.positions;
-  corners = length-take-le (3 * n.triangles) c R.corners;
-  links = length-take-le (3 * n.triangles) l R.links;
-  generations = length-take-le n.triangles g R.generations;
-  locks = length-take-le n.triangles k R.locks;
-}
-
--- Tables of k slots have room for up to k vertices and triangles.
-pub slots_within : (n : Counts) (k : ℕ) (z : ℤ) → n.vertices ≤ k → n.triangles ≤ k
-    → HasSlots n (replicate (3 * k) z) (replicate (3 * k) 0) (replicate (3 * k) 0) (replicate k 0) (replicate k 0)
-slots_within n k z v f =
-    let p = length-replicate {A = ℤ} (3 * k) z in
-    let s = length-replicate {A = ℕ} (3 * k) 0 in
-    let t = length-replicate {A = ℕ} k 0 in
-    record {
-      positions = omega arith;
-      corners = omega arith;
-      links = omega arith;
-      generations = omega arith;
-      locks = omega arith;
-    }
-
--- Tables of the greatest size have room for every sound mesh, whatever they hold.
-pub greatest_slots : (n : Counts) {p : List ℤ} {c l g k : List ℕ} {q : List ℤ} {c₁ l₁ g₁ k₁ : List ℕ}
-    → Sound (mesh_now n p c l g k)
-    → 98304 ≡ length q → 196608 ≡ length c₁ → 196608 ≡ length l₁ → 65536 ≡ length g₁ → 65536 ≡ length k₁
-    → HasSlots n q c₁ l₁ g₁ k₁
-greatest_slots n S a b d e f = record {
-  positions = omega (arith, S.vertex_room, S.tables.few_vertices);
-  corners = omega (arith, S.triangle_room, S.tables.few_triangles);
-  links = omega (arith, S.triangle_room, S.tables.few_triangles);
-  generations = omega (arith, S.triangle_room, S.tables.few_triangles);
-  locks = omega (arith, S.triangle_room, S.tables.few_triangles);
-}
-
-module _ (n : Counts) (p : List ℤ) (c l g k : List ℕ) (S : Sound (mesh_now n p c l g k)) where
-  -- A note's slots have room there.
-  pub just_room : {q : List ℤ} {c₀ l₀ g₀ k₀ c₁ l₁ g₁ k₁ : List ℕ} {f : ℕ} → JustSlots n q c₀ l₀ g₀ k₀
-      → length c₁ ≡ length c₀ → length l₁ ≡ length l₀ → length g₁ ≡ length g₀ → length k₁ ≡ length k₀
-      → f ≤ n.triangles → SlotRoom f c₁ l₁ g₁ k₁
-  just_room J a b d e r = record {
-    triangles = record {
-      corners = omega (arith, J.corners, J.generations, a, d);
-      links = omega (arith, J.links, J.generations, b, d);
-      few = omega (arith, J.generations, d, S.triangle_room, S.tables.few_triangles);
-    };
-    locks = omega (arith, J.locks, J.generations, d, e);
-    room = omega (arith, J.generations, d);
-  }
-
-  module _ {q₀ q : List ℤ} {c₀ l₀ g₀ k₀ c₁ l₁ g₁ k₁ : List ℕ} (J : JustSlots n q₀ c₀ l₀ g₀ k₀)
-      (e : spares_now q c₁ l₁ g₁ k₁ ≡ copied (mesh_now n p c l g k) (spares_now q₀ c₀ l₀ g₀ k₀)) where
-    -- The copy is the mesh in cut tables, with whatever counts.
-    copy_is_cut : (o : Counts)
-        → mesh_now o q c₁ l₁ g₁ k₁
-        ≡ mesh_now o (take (3 * n.vertices) p) (take (3 * n.triangles) c) (take (3 * n.triangles) l)
-        (take n.triangles g) (take n.triangles k)
-    unfolding copied
-    copy_is_cut o =
-        let R = has_slots n S in
-        let positions = ap (λ (x : Spares). x.positions) e ∙ copied_all (pos 0) _ q₀ p R.positions J.positions in
-        let corners = ap (λ (x : Spares). x.corners) e ∙ copied_all 0 _ c₀ c R.corners J.corners in
-        let links = ap (λ (x : Spares). x.links) e ∙ copied_all 0 _ l₀ l R.links J.links in
-        let generations =
-        ap (λ (x : Spares). x.generations) e ∙ copied_all 0 _ g₀ g R.generations J.generations in
-        let locks = ap (λ (x : Spares). x.locks) e ∙ copied_all 0 _ k₀ k R.locks J.locks in
-        rw (positions, corners, links, generations, locks) refl
-
-    -- With the slots of a note it is the restored mesh.
-    pub copy_restored : (note : List ℕ) {c₂ l₂ g₂ k₂ : List ℕ}
-        → ((o : Counts) (r : List ℤ)
-        → mesh_now o r c₂ l₂ g₂ k₂ ≡ put_back_all note (note_slots note) (mesh_now o r c₁ l₁ g₁ k₁))
-        → mesh_now (record { vertices = old_v note; triangles = old_f note; rule = n.rule })
-        q c₂ l₂ g₂ k₂
-        ≡ cut n.vertices n.triangles (restored note (mesh_now n p c l g k))
-    copy_restored note put =
-        let o : Counts = record { vertices = old_v note; triangles = old_f note; rule = n.rule } in
-        put o q
-        ∙ ap (put_back_all note (note_slots note)) (copy_is_cut o)
-        ∙ restored_cut note n.vertices n.triangles (mesh_now n p c l g k)
+  -- With the slots of a note it is the restored mesh.
+  pub copy_restored : (note : List ℕ) {back : Spares}
+      → ((o : Counts) → mesh_with o back ≡ put_back_all note (note_slots note) (mesh_with o copy))
+      → mesh_with (record { vertices = old_v note; triangles = old_f note; rule = n.rule }) back
+      ≡ cut n.vertices n.triangles (restored note (mesh_with n s))
+  copy_restored note put =
+      let o : Counts = record { vertices = old_v note; triangles = old_f note; rule = n.rule } in
+      put o
+      ∙ ap (put_back_all note (note_slots note)) (copy_is_cut o)
+      ∙ restored_cut note n.vertices n.triangles (mesh_with n s)

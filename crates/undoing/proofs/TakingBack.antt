@@ -1,33 +1,30 @@
 -- What comes of a take-back, by its refusal.
-use mathlib.Core.Bool.{Bool, true, false, not, ◌&&◌}
+use mathlib.Core.Bool.{Bool, not}
 use mathlib.Core.List.{List, [], ◌∷◌}
 use mathlib.Core.Logic.{◌≢◌}
 use mathlib.Core.Path.{◌≡◌, refl, sym, ap, ◌∙◌}
 use Prim.Native.Nat.{ℕ, ◌≤◌}
 use native.Mathlib.Omega.{arith}
-use lib.IntN.{ℤ}
 use Rattle.theory.proofs.Calls.CallRefusals.{take_back_refusal_first}
 use Rattle.theory.proofs.Calls.Carried.{take_back_found}
 use Rattle.theory.proofs.Calls.FirstThatHolds.{two_kept, two_passed, none_hold, refuses, carries}
-use Rattle.theory.proofs.Numbers.Decide.{when_true, stable}
+use Rattle.theory.proofs.Numbers.Decide.{stable}
 use Rattle.theory.proofs.Soundness.SoundTest.{sound_is}
 use Rattle.rules.specs.Calls.{no_room, refused_with, worked, first_of, ◌if◌}
 use Rattle.rules.specs.Notes.{old_v, old_f, note_slots, put_back_all, restored, accepted, take_back_refusal}
 use Rattle.rules.specs.Notes.{take_back_call}
 use Rattle.rules.specs.Sound.{Sound, is_sound}
+use Rattle.rules.specs.Spares.{Spares}
 use Rattle.rules.specs.Split.{at_first}
 use Rattle.rules.specs.Tables.{Mesh, tables_agree}
-use Rattle.tables.proofs.Standing.{standing_sound}
 use Rattle.tables.specs.Standing.{standing}
-use Rattle.theory.proofs.Numbers.Answers.{refused, passed}
 use Rattle.tables.specs.declared.Counts.{Counts}
-use Rattle.tables.specs.Lent.{mesh_now}
-use Rattle.restoring.specs.Fitting.{note_fits, NoteFits}
+use Rattle.tables.specs.Lent.{mesh_with}
+use Rattle.restoring.specs.Fitting.{NoteFits}
 use Rattle.restoring.specs.Putting.{SlotRoom}
-use Rattle.undoing.specs.Trying.{accepted_cut}
-use Rattle.undoing.proofs.AcceptedCut.{accepted_counts, accepted_tried}
+use Rattle.undoing.proofs.AcceptedCut.{accepted_counts}
 use Rattle.undoing.proofs.CutTables.{recounted_back}
-use Rattle.restoring.proofs.NoteTests.{note_fits_is, accepted_fits}
+use Rattle.restoring.proofs.NoteTests.{accepted_fits}
 
 -- ---- the refusal, found test by test
 
@@ -36,30 +33,11 @@ module _ (note : List ℕ) (m : Mesh) (r : ℕ) (s : r ≡ standing m) where
   unfolding take_back_refusal
   refused_standing = two_kept (not (tables_agree m)) (not (is_sound m)) (21 if not (accepted note m) ∷ []) r s
 
-  module _ (z : r ≡ 0) where
-    -- The refusal by the answers of the tests. A test that was not made stands for itself.
-    by_tests : {a b : Bool} → note_fits note ≡ a → accepted_cut note m ≡ b
-        → first_of (21 if not (a && b) ∷ []) ≡ take_back_refusal note m
-    unfolding take_back_refusal
-    by_tests a b =
-        sym (two_passed (not (tables_agree m)) (not (is_sound m)) (21 if not (accepted note m) ∷ []) r s z
-        ∙ rw (accepted_tried note m (standing_sound m r s z), a, b) refl)
-
-    module _ {q : Bool} (c : q ≡ note_fits note) where
-      pub refused_unfit : not q ≡ true → 21 ≡ take_back_refusal note m
-      refused_unfit x = by_tests (refused c x) refl
-
-      module _ (x : not q ≡ false) where
-        -- What may then be tried.
-        pub may_try : NoteFits note × Sound m
-        may_try = (when_true (note_fits_is note) (passed c x), standing_sound m r s z)
-
-        module _ {k : Bool} (d : k ≡ accepted_cut note m) where
-          pub refused_tried : not k ≡ true → 21 ≡ take_back_refusal note m
-          refused_tried y = by_tests (passed c x) (refused d y)
-
-          pub not_refused : not k ≡ false → 0 ≡ take_back_refusal note m
-          not_refused y = by_tests (passed c x) (passed d y)
+  -- On a sound mesh it is 21 or none, by the answer of the test.
+  pub refused_by_note : r ≡ 0 → {b : Bool} → b ≡ accepted note m → first_of (21 if not b ∷ []) ≡ take_back_refusal note m
+  unfolding take_back_refusal
+  refused_by_note z e =
+      sym (two_passed (not (tables_agree m)) (not (is_sound m)) (21 if not (accepted note m) ∷ []) r s z ∙ rw e refl)
 
 -- ---- what comes of it
 
@@ -84,8 +62,8 @@ module _ (note : List ℕ) (m : Mesh) (r : ℕ) (e : r ≡ take_back_refusal not
 
 -- ---- the lent tables
 
-module _ (n : Counts) (p : List ℤ) (c l g k : List ℕ) where
-  pub sound_room : {f : ℕ} → Sound (mesh_now n p c l g k) → f ≤ n.triangles → SlotRoom f c l g k
+module _ (n : Counts) (s : Spares) where
+  pub sound_room : {f : ℕ} → Sound (mesh_with n s) → f ≤ n.triangles → SlotRoom f s
   sound_room S b = record {
     triangles = record {
       corners = S.tables.corners;
@@ -97,12 +75,11 @@ module _ (n : Counts) (p : List ℤ) (c l g k : List ℕ) where
   }
 
   -- With the slots of a note and its counts they are restored.
-  pub put_restored : (note : List ℕ) {c₁ l₁ g₁ k₁ : List ℕ}
-      → ((o : Counts) (q : List ℤ)
-      → mesh_now o q c₁ l₁ g₁ k₁ ≡ put_back_all note (note_slots note) (mesh_now o q c l g k))
-      → mesh_now (record { vertices = old_v note; triangles = old_f note; rule = n.rule }) p c₁ l₁ g₁ k₁
-      ≡ restored note (mesh_now n p c l g k)
+  pub put_restored : (note : List ℕ) {back : Spares}
+      → ((o : Counts) → mesh_with o back ≡ put_back_all note (note_slots note) (mesh_with o s))
+      → mesh_with (record { vertices = old_v note; triangles = old_f note; rule = n.rule }) back
+      ≡ restored note (mesh_with n s)
   unfolding restored
   put_restored note put =
-      put (record { vertices = old_v note; triangles = old_f note; rule = n.rule }) p
-      ∙ recounted_back note (old_v note) (old_f note) (mesh_now n p c l g k) (note_slots note)
+      put (record { vertices = old_v note; triangles = old_f note; rule = n.rule })
+      ∙ recounted_back note (old_v note) (old_f note) (mesh_with n s) (note_slots note)

@@ -1,8 +1,9 @@
 -- A note tried in tables of its own, which have no more slots than the present mesh uses.
-use Rattle.std.specs.Prelude.{ℕ, ◌*◌, ◌≤◌, Bool, ◌&&◌, List, ◌≡◌, eqb, leb, ℤ, length, take}
+use Rattle.std.specs.Prelude.{ℕ, ◌*◌, Bool, ◌&&◌, List, ◌≡◌, eqb, leb, length, take}
 use Rattle.rules.specs.Calls.{refine_refusal}
 use Rattle.rules.specs.Notes.{noted_triangle, old_v, old_f, restored, refined, same_in_use}
 use Rattle.rules.specs.Sound.{is_sound}
+use Rattle.rules.specs.Spares.{Spares}
 use Rattle.rules.specs.Tables.{Mesh, topology_of, mesh_of}
 use Rattle.tables.specs.declared.Counts.{Counts}
 
@@ -29,14 +30,9 @@ accepted_cut note m =
     && refines_to (noted_triangle note) (cut v f (restored note m)) m
 
 -- Tables with just the slots for so many vertices and triangles.
-pub record JustSlots (n : Counts) (p : List ℤ) (c l g k : List ℕ) : Type 0 where
-  pub positions : length p ≡ 3 * n.vertices
-  pub corners : length c ≡ 3 * n.triangles
-  pub links : length l ≡ 3 * n.triangles
-  pub generations : length g ≡ n.triangles
-  pub locks : length k ≡ n.triangles
-
--- So many slots are enough for the vertices and for the triangles.
-pub record Within (k : ℕ) (n : Counts) : Type 0 where
-  pub vertices : n.vertices ≤ k
-  pub triangles : n.triangles ≤ k
+pub record JustSlots (n : Counts) (s : Spares) : Type 0 where
+  pub positions : length s.positions ≡ 3 * n.vertices
+  pub corners : length s.corners ≡ 3 * n.triangles
+  pub links : length s.links ≡ 3 * n.triangles
+  pub generations : length s.generations ≡ n.triangles
+  pub locks : length s.locks ≡ n.triangles

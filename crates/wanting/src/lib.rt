@@ -13,7 +13,7 @@ ghost use Rattle.rules.specs.Split.{at_first, refine};
 ghost use Rattle.rules.specs.Tables.{Mesh};
 ghost use Rattle.tables.specs.Answers.{worked_outcome};
 ghost use Rattle.tables.specs.declared.Counts.{Counts};
-ghost use Rattle.tables.specs.Lent.{topology_now, mesh_now, point_in};
+ghost use Rattle.tables.specs.Lent.{topology_now, mesh_with, held, SameTables, point_in};
 ghost use Rattle.reporting.specs.Told.{Told, told_unless};
 ghost use Rattle.refining.specs.Batches.{Begins};
 ghost use Rattle.wanting.specs.Wanting.{Looks, SeenFrom, MarksFit, Marking, Stale, nearby, MarkedFrom};
@@ -21,7 +21,7 @@ ghost use Rattle.wanting.specs.Wanting.{Mended, Marked, Unmarked, Unseen, Boxes}
 
 use points::Point;
 use refining::spares::Batch;
-use tables::{Counts, Worked};
+use tables::{Counts, Tables, Worked};
 
 // Whether vertex v lies in the box, its faces included.
 fn in_box(positions: &[i32], v: u32, low: Point, high: Point) -> bool
@@ -152,17 +152,17 @@ fn mend_after(
     before: u32,
     triangles: u32,
     odd: &[u32],
-    near: &[u32; 4],
+    beside: &[u32; 4],
     below: u32,
     bits: &mut [u64],
     words: &mut [u64],
 )
     requires { (b : Box) × (t : ℕ) × (x : Mesh) × (y : Mesh) ×
-        Stale b t x y odd.now near.now bits.old words.old
+        Stale b t x y odd.now beside.now bits.old words.old
         × Looks b y corners.now generations.now inside.now below
         × (before ≡ x.topology.triangles) × (triangles ≡ y.topology.triangles) }
     ensures { (b : Box) (t : ℕ) (x y : Mesh) →
-        Stale b t x y odd.now near.now bits.old words.old
+        Stale b t x y odd.now beside.now bits.old words.old
         → Looks b y corners.now generations.now inside.now below
         → before ≡ x.topology.triangles → triangles ≡ y.topology.triangles
         → Marking b y bits.new words.new }
@@ -182,7 +182,7 @@ fn mend_after(
         generations,
         inside,
         triangles,
-        near,
+        beside,
         below,
         bits,
         words,
@@ -201,11 +201,7 @@ fn mend_after(
 
 // Refines triangle t of a sound mesh, told from place `at` of the report on, and puts the marks right.
 fn refine_marked(
-    positions: &mut [i32],
-    corners: &mut [u32],
-    links: &mut [u32],
-    generations: &mut [u8],
-    locks: &mut [u8],
+    tables: &mut Tables,
     counts: Counts,
     t: u32,
     low: Point,
@@ -218,40 +214,28 @@ fn refine_marked(
     at: usize,
 ) -> Worked
     requires { Marked (box_of low high below)
-        (mesh_now counts positions.old corners.old links.old generations.old locks.old)
+        (mesh_with counts (held tables.old))
         inside.old bits.old words.old
-        × Sound (mesh_now counts positions.old corners.old links.old generations.old locks.old)
+        × Sound (mesh_with counts (held tables.old))
         × (t < counts.triangles) }
-    ensures locks_after { worked_outcome result positions.new corners.new links.new generations.new
-        locks.new
-        ≡ refine_call t (mesh_now counts positions.old corners.old links.old
-        generations.old locks.old) }
+    ensures refined { worked_outcome result (held tables.new)
+        ≡ refine_call t (mesh_with counts (held tables.old)) }
     ensures marked { result.refusal ≡ 0 → Marked (box_of low high below)
-        (mesh_now result.counts positions.new corners.new links.new
-        generations.new locks.new) inside.new bits.new words.new }
-    ensures told { Told (told_unless result.refusal (refine t (at_first (mesh_now counts positions.old
-        corners.old links.old generations.old locks.old))).report)
+        (mesh_with result.counts (held tables.new)) inside.new bits.new words.new }
+    ensures told { Told (told_unless result.refusal (refine t (at_first (mesh_with counts (held tables.old)))).report)
         report.old report.new at }
+    ensures lent { SameTables tables.new tables.old }
 {
-    let chain = split::base_chain(links, generations, t);
+    let before = tables.view();
+    let chain = split::base_chain(&before, t);
     let slots = chain.slots;
-    let near = with_neighbours(links, chain.end);
-    let done = refining::refine(
-        positions,
-        corners,
-        links,
-        generations,
-        locks,
-        counts,
-        t,
-        0,
-        report,
-        at,
-    );
+    let near = with_neighbours(before.links, chain.end);
+    let done = refining::refine(tables, counts, t, Ok(()), report, at);
     if done.refusal == 0 {
         let reached = done.counts;
+        let after = tables.view();
         mark_inside(
-            positions,
+            after.positions,
             counts.vertices,
             reached.vertices,
             low,
@@ -259,8 +243,8 @@ fn refine_marked(
             inside,
         );
         mend_after(
-            corners,
-            generations,
+            after.corners,
+            after.generations,
             inside,
             counts.triangles,
             reached.triangles,
@@ -278,11 +262,7 @@ fn refine_marked(
 // turns are told where the report has room.
 // Kept: no plainer: the next triangle is the lowest mark that a refine leaves, and its number says whether there is one.
 pub fn refine_wanted(
-    positions: &mut [i32],
-    corners: &mut [u32],
-    links: &mut [u32],
-    generations: &mut [u8],
-    locks: &mut [u8],
+    tables: &mut Tables,
     counts: Counts,
     low: Point,
     high: Point,
@@ -294,20 +274,20 @@ pub fn refine_wanted(
 ) -> Batch
     requires { ((m : Mesh) × (s : Spares) ×
         Begins m s m.topology.generations
-        (mesh_now counts positions.old corners.old links.old generations.old locks.old))
-        × Unmarked (length generations.old) bits.old words.old
-        × Unseen (length positions.old / 3) inside.old }
-    ensures { (m : Mesh) (s : Spares) →
-        Begins m s m.topology.generations (mesh_now counts positions.old corners.old
-        links.old generations.old locks.old)
-        → Boxes (box_of low high below) m s result (mesh_now result.counts positions.new corners.new
-        links.new generations.new locks.new)
+        (mesh_with counts (held tables.old)))
+        × Unmarked (length tables.old.generations.now) bits.old words.old
+        × Unseen (length tables.old.positions.now / 3) inside.old }
+    ensures boxed { (m : Mesh) (s : Spares) →
+        Begins m s m.topology.generations (mesh_with counts (held tables.old))
+        → Boxes (box_of low high below) m s result (mesh_with result.counts (held tables.new))
         × Told (refine_in_box (box_of low high below) m).work.report report.old report.new 0 }
+    ensures lent { SameTables tables.new tables.old }
 {
-    mark_inside(positions, 0, counts.vertices, low, high, inside);
+    let first = tables.view();
+    mark_inside(first.positions, 0, counts.vertices, low, high, inside);
     mark_from(
-        corners,
-        generations,
+        first.corners,
+        first.generations,
         inside,
         0,
         counts.triangles,
@@ -322,11 +302,7 @@ pub fn refine_wanted(
     let mut t = marks::lowest(bits, words);
     while t < reached.triangles {
         let done = refine_marked(
-            positions,
-            corners,
-            links,
-            generations,
-            locks,
+            tables,
             reached,
             t,
             low,

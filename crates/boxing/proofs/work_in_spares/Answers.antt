@@ -1,48 +1,38 @@
 -- `boxing::work_in_spares` meets its contract.
-use Rattle.rules.specs.Spares.{Spares}
-use Rattle.rules.specs.Tables.{Mesh}
-use Rattle.tables.specs.Lent.{mesh_now, spares_now}
+use native.Mathlib.Omega.{arith}
 use Rattle.refining.proofs.Batching.{slots_there, may_begin}
+use Rattle.wanting.proofs.Begins.{begins_sound}
 use Rattle.boxing.proofs.work_in_spares.Goals as goal
 
 pub copy_mesh-requires : goal.copy_mesh-requires
 copy_mesh-requires c =
     let (there, spare) = slots_there c.args.counts c.requires in
-    record { has_slots = there; has_slots_2 = spare }
+    record { own_slots = there; spare_slots = spare }
 
-pub refine_within_2048-requires : goal.refine_within_2048-requires
-refine_within_2048-requires c =
-    let mesh_of : Mesh = mesh_now c.args.counts c.args.positions.now c.args.corners.now c.args.links.now c.args.generations.now
-    c.args.locks.now in
-    let spares_of : Spares = spares_now c.args.spare_positions.now c.args.spare_corners.now c.args.spare_links.now
-    c.args.spare_generations.now c.args.spare_locks.now in (
-      (mesh_of, spares_of, may_begin c.requires c.copy_mesh.ensures),
-      c.if-spare_generations-le2048.true,
-      c.if-spare_positions-le6144.true,
-    )
+pub refine_within-requires-clause-begins : goal.refine_within-requires-clause-begins
+refine_within-requires-clause-begins c = (_, _, may_begin c.requires c.copy_mesh.ensures.copied)
 
-pub returns-then-spare_positions-le6144 : goal.returns-then-spare_positions-le6144
-returns-then-spare_positions-le6144 c =
-    let mesh_of : Mesh = mesh_now c.args.counts c.args.positions.now c.args.corners.now c.args.links.now c.args.generations.now
-    c.args.locks.now in
-    let spares_of : Spares = spares_now c.args.spare_positions.now c.args.spare_corners.now c.args.spare_links.now
-    c.args.spare_generations.now c.args.spare_locks.now in
-    c.refine_within_2048.ensures mesh_of spares_of
-    (may_begin c.requires c.copy_mesh.ensures)
+pub returns-then-spares-le6144-clause-boxed : goal.returns-then-spares-le6144-clause-boxed
+returns-then-spares-le6144-clause-boxed c =
+    (c.refine_within.ensures.boxed _ _ (may_begin c.requires c.copy_mesh.ensures.copied)).0
 
-pub refine_within_65536-requires : goal.refine_within_65536-requires
-refine_within_65536-requires c =
-    let mesh_of : Mesh = mesh_now c.args.counts c.args.positions.now c.args.corners.now c.args.links.now c.args.generations.now
-    c.args.locks.now in
-    let spares_of : Spares = spares_now c.args.spare_positions.now c.args.spare_corners.now c.args.spare_links.now
-    c.args.spare_generations.now c.args.spare_locks.now in
-    (mesh_of, spares_of, may_begin c.requires c.copy_mesh.ensures)
+pub returns-then-spares-le6144-clause-told : goal.returns-then-spares-le6144-clause-told
+returns-then-spares-le6144-clause-told c =
+    (c.refine_within.ensures.boxed _ _ (may_begin c.requires c.copy_mesh.ensures.copied)).1
 
-pub returns : goal.returns
-returns c =
-    let mesh_of : Mesh = mesh_now c.args.counts c.args.positions.now c.args.corners.now c.args.links.now c.args.generations.now
-    c.args.locks.now in
-    let spares_of : Spares = spares_now c.args.spare_positions.now c.args.spare_corners.now c.args.spare_links.now
-    c.args.spare_generations.now c.args.spare_locks.now in
-    c.refine_within_65536.ensures mesh_of spares_of
-    (may_begin c.requires c.copy_mesh.ensures)
+pub refine_within-requires-2-clause-begins : goal.refine_within-requires-2-clause-begins
+refine_within-requires-2-clause-begins c = (_, _, may_begin c.requires c.copy_mesh.ensures.copied)
+
+pub refine_within-requires-2-clause-vertices : goal.refine_within-requires-2-clause-vertices
+refine_within-requires-2-clause-vertices c =
+    omega (arith, (begins_sound (may_begin c.requires c.copy_mesh.ensures.copied)).tables.few_vertices)
+
+pub refine_within-requires-2-clause-triangles : goal.refine_within-requires-2-clause-triangles
+refine_within-requires-2-clause-triangles c =
+    omega (arith, (begins_sound (may_begin c.requires c.copy_mesh.ensures.copied)).tables.few_triangles)
+
+pub returns-clause-boxed : goal.returns-clause-boxed
+returns-clause-boxed c = (c.refine_within-2.ensures.boxed _ _ (may_begin c.requires c.copy_mesh.ensures.copied)).0
+
+pub returns-clause-told : goal.returns-clause-told
+returns-clause-told c = (c.refine_within-2.ensures.boxed _ _ (may_begin c.requires c.copy_mesh.ensures.copied)).1

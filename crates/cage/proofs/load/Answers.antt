@@ -1,64 +1,56 @@
 -- `cage::load` meets its contract.
 use native.Mathlib.Omega.{arith}
-use mathlib.Core.Path.{sym, ◌∙◌}
-use Rattle.theory.proofs.Calls.Carried.{LoadFound, load_found}
+use mathlib.Core.Path.{refl, sym}
+use Rattle.theory.proofs.Calls.Carried.{load_found}
 use Rattle.theory.proofs.Loads.LoadTests.{load_refused, load_carried}
-use Rattle.tables.specs.Lent.{mesh_now}
-use Rattle.judging.specs.Loading.{Sized}
+use Rattle.tables.proofs.Refusing.{number_some}
 use Rattle.cage.proofs.Sizes.{sized}
 use Rattle.cage.proofs.Written.{written}
 use Rattle.cage.proofs.load.Goals as goal
 
+pub returns-in-Err-clause-loaded : goal.returns-in-Err-clause-loaded
+returns-in-Err-clause-loaded c =
+    let sides = c.in-Err.ensures.sides in
+    let same = sides.left.refused (number_some c.in-Err.refusal) in
+    rw (c.refused.ensures, sides.positions, same.0, same.1, sides.generations, sides.locks)
+    (load_refused _ _ _ (c.in-Err.ensures.value c.args.counts) (number_some c.in-Err.refusal))
+
 pub number_at-v-requires : goal.number_at-v-requires
 number_at-v-requires c =
-    let found : LoadFound c.args.rule c.args.cage.now (mesh_now c.args.counts c.args.positions.now c.args.corners.now
-    c.args.links.now c.args.generations.now c.args.locks.now) = load_found _ _ _ (sym (c.load_sides-refusal.ensures.value _) ∙ c.if-refusal-eq0.true) in
+    let found = load_found _ _ _ (sym (c.in_default.ensures.value c.args.counts)) in
     omega (arith, found.sizes.header)
 
 pub number_at-f-requires : goal.number_at-f-requires
 number_at-f-requires c =
-    let found : LoadFound c.args.rule c.args.cage.now (mesh_now c.args.counts c.args.positions.now c.args.corners.now
-    c.args.links.now c.args.generations.now c.args.locks.now) = load_found _ _ _ (sym (c.load_sides-refusal.ensures.value _) ∙ c.if-refusal-eq0.true) in
+    let found = load_found _ _ _ (sym (c.in_default.ensures.value c.args.counts)) in
     omega (arith, found.sizes.header)
 
 pub place-requires : goal.place-requires
 place-requires c =
-    let found : LoadFound c.args.rule c.args.cage.now (mesh_now c.args.counts c.args.positions.now c.args.corners.now
-    c.args.links.now c.args.generations.now c.args.locks.now) = load_found _ _ _ (sym (c.load_sides-refusal.ensures.value _) ∙ c.if-refusal-eq0.true) in
-    let sizes : Sized c.args.cage.now c.number_at-v.result c.number_at-f.result = let F = found in
-    sized c.number_at-v.ensures c.number_at-f.ensures F.agree F.sizes in
-    let F = found in
-    let Z = sizes in
+    let found = load_found _ _ _ (sym (c.in_default.ensures.value c.args.counts)) in
+    let sizes = sized c.number_at-v.ensures c.number_at-f.ensures found.agree found.sizes in
     record {
-      count_in_bounds = omega (arith, Z.size);
-      count_in_bounds_2 = omega (arith, F.sizes.vertex_room, Z.vertices);
+      coordinates_in_cage = omega (arith, sizes.size);
+      position_room =
+          omega (arith, found.sizes.vertex_room, sizes.vertices, c.load_sides.ensures.lent.sizes.positions);
     }
 
 pub clear-requires : goal.clear-requires
 clear-requires c =
-    let found : LoadFound c.args.rule c.args.cage.now (mesh_now c.args.counts c.args.positions.now c.args.corners.now
-    c.args.links.now c.args.generations.now c.args.locks.now) = load_found _ _ _ (sym (c.load_sides-refusal.ensures.value _) ∙ c.if-refusal-eq0.true) in
-    let sizes : Sized c.args.cage.now c.number_at-v.result c.number_at-f.result = let F = found in
-    sized c.number_at-v.ensures c.number_at-f.ensures F.agree F.sizes in
-    omega (arith, found.sizes.triangle_room, sizes.triangles)
+    let found = load_found _ _ _ (sym (c.in_default.ensures.value c.args.counts)) in
+    let sizes = sized c.number_at-v.ensures c.number_at-f.ensures found.agree found.sizes in
+    omega (arith, found.sizes.triangle_room, sizes.triangles, c.load_sides.ensures.lent.sizes.generations)
 
-pub clear-requires-then-refusal-eq0 : goal.clear-requires-then-refusal-eq0
-clear-requires-then-refusal-eq0 c =
-    let found : LoadFound c.args.rule c.args.cage.now (mesh_now c.args.counts c.args.positions.now c.args.corners.now
-    c.args.links.now c.args.generations.now c.args.locks.now) = load_found _ _ _ (sym (c.load_sides-refusal.ensures.value _) ∙ c.if-refusal-eq0.true) in
-    let sizes : Sized c.args.cage.now c.number_at-v.result c.number_at-f.result = let F = found in
-    sized c.number_at-v.ensures c.number_at-f.ensures F.agree F.sizes in
-    let F = found in
-    omega (arith, F.agree.locks, F.sizes.triangle_room, sizes.triangles)
+pub clear-requires-2 : goal.clear-requires-2
+clear-requires-2 c =
+    let found = load_found _ _ _ (sym (c.in_default.ensures.value c.args.counts)) in
+    let sizes = sized c.number_at-v.ensures c.number_at-f.ensures found.agree found.sizes in
+    omega (arith, found.agree.locks, found.sizes.triangle_room, sizes.triangles, c.load_sides.ensures.lent.sizes.locks)
 
-pub returns-then-refusal-eq0 : goal.returns-then-refusal-eq0
-returns-then-refusal-eq0 c =
-    rw c.if-refusal-eq0.true
-    (load_carried _ _ _ (sym c.if-refusal-eq0.true ∙ c.load_sides-refusal.ensures.value _)
-    (written _ _ _ _ _ _ _ _ c.if-refusal-eq0.true c.number_at-v.ensures c.number_at-f.ensures c.load_sides-refusal.ensures.sides_left
-    c.place.ensures c.clear.ensures c.clear-then-refusal-eq0.ensures))
-
-pub returns : goal.returns
-returns c =
-    let same = c.load_sides-refusal.ensures.sides_left.refused c.if-refusal-eq0.false in
-    rw (same.0, same.1) (load_refused _ _ _ (c.load_sides-refusal.ensures.value _) c.if-refusal-eq0.false)
+pub returns-clause-loaded : goal.returns-clause-loaded
+returns-clause-loaded c =
+    let sides = c.in_default.ensures.sides in
+    load_carried _ _ _ (c.in_default.ensures.value c.args.counts)
+    (written _ _ _ _ _ _ _ _ refl c.number_at-v.ensures c.number_at-f.ensures sides.left
+    (rw sides.positions at c.place.ensures) (rw sides.generations at c.clear.ensures)
+    (rw sides.locks at c.clear-2.ensures))

@@ -22,13 +22,11 @@ loop-i-init c =
 
 pub loop-i-preserved : goal.loop-i-preserved
 loop-i-preserved c =
-    let fits = coordinate_fits c.args.cage.now in (
-      omega arith,
-      all_and _ fits c.loop-i.invariant.1
-          (c.in_range-fit.ensures ∙ ap in_range (returned w32 c.signed_at.type_inv c.signed_at.ensures)),
-    )
+    let fits = coordinate_fits c.args.cage.now in
+    all_and _ fits c.loop-i.invariant
+    (c.in_range-fit.ensures ∙ ap in_range (returned w32 c.signed_at.type_inv c.signed_at.ensures))
 
 pub returns : goal.returns
 returns c =
     let e : c.loop-i.i ≡ c.args.count = omega arith in
-    rw e at c.loop-i.invariant.1
+    rw e at c.loop-i.invariant

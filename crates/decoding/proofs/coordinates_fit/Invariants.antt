@@ -1,4 +1,4 @@
-use Prim.Native.Nat.{◌+◌, ◌-◌, ◌*◌, ◌≤◌}
+use Prim.Native.Nat.{◌+◌, ◌*◌}
 use mathlib.Core.Path.{◌≡◌}
 use Rattle.rules.specs.Below.{all}
 use Rattle.rules.specs.Numbers.{number_at, signed, in_range}
@@ -6,8 +6,4 @@ use Rattle.decoding.proofs.coordinates_fit.Given as goal
 
 abbrev pub invariant-loop-i : goal.invariant-loop-i
 invariant-loop-i l =
-    (l.i ≤ l.count) × (l.fit ≡ all l.i (λ k. in_range (signed (number_at l.cage (8 + 4 * k)))))
-
-abbrev pub decreases-loop-i : goal.decreases-loop-i
-decreases-loop-i l =
-    l.count - l.i
+    l.fit ≡ all l.i (λ k. in_range (signed (number_at l.cage (8 + 4 * k))))

@@ -30,10 +30,10 @@ loop-t-init c =
 
 pub loop-t-preserved : goal.loop-t-preserved
 loop-t-preserved c =
-    (omega arith, all_three _ _ c.loop-t.invariant.1 c.triangle_fits-fit.ensures)
+    all_three _ _ c.loop-t.invariant c.triangle_fits-fit.ensures
 
 pub returns : goal.returns
 unfolding corners_fit
 returns c =
     let e : c.loop-t.t ≡ c.args.triangles = omega arith in
-    rw e at c.loop-t.invariant.1
+    rw e at c.loop-t.invariant

@@ -1,4 +1,4 @@
-use Prim.Native.Nat.{◌-◌, ◌*◌, ◌≤◌}
+use Prim.Native.Nat.{◌*◌}
 use mathlib.Core.Path.{◌≡◌}
 use Rattle.rules.specs.Below.{all}
 use Rattle.decoding.specs.Decoded.{corner_fits}
@@ -6,8 +6,4 @@ use Rattle.decoding.proofs.corners_fit.Given as goal
 
 abbrev pub invariant-loop-t : goal.invariant-loop-t
 invariant-loop-t l =
-    (l.t ≤ l.triangles) × (l.fit ≡ all (3 * l.t) (corner_fits l.vertices l.corners))
-
-abbrev pub decreases-loop-t : goal.decreases-loop-t
-decreases-loop-t l =
-    l.triangles - l.t
+    l.fit ≡ all (3 * l.t) (corner_fits l.vertices l.corners)

@@ -2,7 +2,6 @@
 use borrow.Author.Rules.{rules}
 use native.Mathlib.Omega.{arith}
 use mathlib.Core.Path.{◌≡◌}
-use lib.ListN.{length-set}
 use Rattle.theory.proofs.Numbers.Fill.{fill_more}
 use Rattle.rules.specs.Below.{fill}
 use Rattle.decoding.proofs.decode.Goals as goal
@@ -14,9 +13,9 @@ loop-i-init c =
 
 pub loop-i-preserved : goal.loop-i-preserved
 loop-i-preserved c =
-    (omega arith, simp length-set c.loop-i.invariant.1, fill_more _ _ _ c.loop-i.invariant.2 c.number_at.ensures)
+    fill_more _ _ _ c.loop-i.invariant c.number_at.ensures
 
 pub returns : goal.returns
 returns c =
     let e : c.loop-i.i ≡ c.args.count = omega arith in
-    rw e at c.loop-i.invariant.2
+    rw e at c.loop-i.invariant

@@ -1,14 +1,9 @@
-use Prim.Native.Nat.{◌+◌, ◌-◌, ◌*◌, ◌≤◌}
+use Prim.Native.Nat.{◌+◌, ◌*◌}
 use mathlib.Core.Path.{◌≡◌}
-use lib.ListN.{length}
 use Rattle.rules.specs.Below.{fill}
 use Rattle.rules.specs.Numbers.{number_at}
 use Rattle.decoding.proofs.decode.Given as goal
 
 abbrev pub invariant-loop-i : goal.invariant-loop-i
 invariant-loop-i l =
-    (l.i ≤ l.count) × (length l.corners ≡ length l.initial.corners) × (l.corners ≡ fill l.i (λ k. number_at l.cage (l.from + 4 * k)) l.initial.corners)
-
-abbrev pub decreases-loop-i : goal.decreases-loop-i
-decreases-loop-i l =
-    l.count - l.i
+    l.corners ≡ fill l.i (λ k. number_at l.cage (l.from + 4 * k)) l.initial.corners

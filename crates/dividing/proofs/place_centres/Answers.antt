@@ -1,10 +1,10 @@
 -- `dividing::place_centres` meets its contract: the corners of a triangle still stand where they stood.
 use Prim.Native.Nat.{ℕ, ◌+◌, ◌*◌, ◌/◌, ◌<◌}
 use native.Mathlib.Omega.{arith}
-use mathlib.Core.List.{List, []}
+use mathlib.Core.List.{List}
 use mathlib.Core.Path.{◌≡◌, refl, ap, ◌∙◌}
 use lib.IntN.{ℤ, pos}
-use lib.ListN.{length, get_or}
+use lib.ListN.{get_or}
 use Rattle.points.specs.Axes.{each_axis}
 use Rattle.points.specs.declared.Point.{Point}
 use Rattle.theory.proofs.Links.Rows.{put_rows, rows_more}
@@ -13,7 +13,7 @@ use Rattle.rules.specs.Split.{centre}
 use Rattle.rules.specs.Tables.{Mesh, with_positions, origin, coordinate}
 use Rattle.tables.specs.declared.Counts.{Counts}
 use Rattle.tables.specs.Lent.{mesh_now, put_point}
-use Rattle.dividing.proofs.ChildRows.{few_vertices_lem, corner_room_lem, length_placed}
+use Rattle.dividing.proofs.ChildRows.{corner_room}
 use Rattle.dividing.proofs.place_centres.Goals as goal
 
 none_placed : (m : Mesh) → m.positions ≡ with_centres 0 m
@@ -45,44 +45,27 @@ module _ (m : Mesh) (t : ℕ) (corner : (h : ℕ) → h / 3 ≡ t → origin m.t
       (rows_more (pos 0) _ _ m.positions t)
 
 pub loop-t-init : goal.loop-t-init
-loop-t-init c =
-    (omega arith, λ l g k rule. none_placed _)
+loop-t-init c = λ l g k rule. none_placed _
 
 pub centre_in-p-requires : goal.centre_in-p-requires
 centre_in-p-requires c =
-    let sized : length c.loop-t.positions ≡ length c.args.positions.now = ap length (c.loop-t.invariant.1 [] [] [] 1) ∙ length_placed _ c.loop-t.t in
     let (_, _, _, R) = c.requires in
-    let size = sized in
     let room = R.sound.vertex_room in (
-      omega (arith, corner_room_lem _ R),
+      omega (arith, corner_room _ R),
       omega (arith, R.sound.corner (3 * c.loop-t.t) (omega arith)),
       omega (arith, R.sound.corner (3 * c.loop-t.t + 1) (omega arith)),
       omega (arith, R.sound.corner (3 * c.loop-t.t + 2) (omega arith)),
     )
 
-pub overflow_add-v : goal.overflow_add-v
-overflow_add-v c =
-    let (_, _, _, R) = c.requires in
-    omega (arith, few_vertices_lem _ R, c.loop-t-test.true)
-
-pub store_point-requires : goal.store_point-requires
-store_point-requires c =
-    let sized : length c.loop-t.positions ≡ length c.args.positions.now = ap length (c.loop-t.invariant.1 [] [] [] 1) ∙ length_placed _ c.loop-t.t in
-    let (_, _, _, R) = c.requires in
-    omega (arith, R.room.vertices, sized, c.loop-t-test.true)
-
 pub loop-t-preserved : goal.loop-t-preserved
-loop-t-preserved c =
-    let (_, _, _, R) = c.requires in (
-      omega arith,
-      λ l g k rule.
-          let n' : Counts = record { vertices = c.args.counts.vertices; triangles = c.args.counts.triangles; rule = rule } in
-          one_placed (mesh_now n' c.args.positions.now c.args.corners.now l g k) c.loop-t.t
-          (λ h e. R.sound.corner h (omega (arith, c.loop-t-test.true))) (c.loop-t.invariant.1 l g k rule)
-          (c.centre_in-p.ensures n' l g k) c.store_point.ensures,
-    )
+loop-t-preserved c = λ l g k rule.
+    let (_, _, _, R) = c.requires in
+    let n' : Counts = record { vertices = c.args.counts.vertices; triangles = c.args.counts.triangles; rule = rule } in
+    one_placed (mesh_now n' c.args.positions.now c.args.corners.now l g k) c.loop-t.t
+    (λ h e. R.sound.corner h (omega (arith, c.loop-t-test.true))) (c.loop-t.invariant l g k rule)
+    (c.centre_in-p.ensures n' l g k) c.store_point.ensures
 
 pub returns : goal.returns
 returns c l g k =
     let e : c.loop-t.t ≡ c.args.counts.triangles = omega arith in
-    rw e at (c.loop-t.invariant.1 l g k c.args.counts.rule)
+    rw e at (c.loop-t.invariant l g k c.args.counts.rule)

@@ -1,4 +1,4 @@
-use Prim.Native.Nat.{ℕ, ◌-◌, ◌≤◌}
+use Prim.Native.Nat.{ℕ}
 use mathlib.Core.List.{List}
 use mathlib.Core.Path.{◌≡◌}
 use Rattle.theory.proofs.Steps.Closed.{with_centres}
@@ -7,9 +7,5 @@ use Rattle.dividing.proofs.place_centres.Given as goal
 
 abbrev pub invariant-loop-t : goal.invariant-loop-t
 invariant-loop-t l =
-    (l.t ≤ l.f) × ((ls g k : List ℕ) (rule : ℕ) →
-    l.positions ≡ with_centres l.t (mesh_of (topology_of l.v l.f l.corners ls g) l.initial.positions k rule))
-
-abbrev pub decreases-loop-t : goal.decreases-loop-t
-decreases-loop-t l =
-    l.f - l.t
+    (ls g k : List ℕ) (rule : ℕ) →
+    l.positions ≡ with_centres l.t (mesh_of (topology_of l.v l.t-end l.corners ls g) l.initial.positions k rule)

@@ -1,31 +1,23 @@
 -- `dividing::set_generations` meets its contract.
+use Prim.Native.Nat.{ℕ, zero, suc, ◌≤◌}
+use native.Mathlib.Numerals.{add-one}
 use native.Mathlib.Omega.{arith}
-use mathlib.Core.Path.{◌≡◌, refl, ap, ◌∙◌}
-use lib.ListN.{length}
-use Rattle.theory.proofs.Numbers.Fill.{length_fill, fill_more}
+use mathlib.Core.List.{List, ◌++◌}
+use mathlib.Core.Path.{◌≡◌, sym, ap, ◌∙◌}
+use lib.ListN.{length, set, drop, replicate}
+use Rattle.std.proofs.lemmas.List.{length-take-le}
+use Rattle.std.proofs.lemmas.List.Edits.{fill_none, fill_more}
 use Rattle.rules.specs.Below.{fill}
 use Rattle.dividing.proofs.set_generations.Goals as goal
 
-pub loop-t-init : goal.loop-t-init
+-- The first n entries x, and the later ones as they were.
+filled : (n x : ℕ) (l : List ℕ) → n ≤ length l → replicate n x ++ drop n l ≡ fill n (λ _. x) l
 unfolding fill
-loop-t-init c =
-    (omega arith, refl)
-
-pub bounds-generations-t : goal.bounds-generations-t
-bounds-generations-t c =
-    let sized : length c.loop-t.generations ≡ length c.args.generations.now = ap length c.loop-t.invariant.1 ∙ length_fill _ _ _ in
-    omega (arith, sized, c.requires)
-
-pub loop-t-preserved : goal.loop-t-preserved
-loop-t-preserved c =
-    (omega arith, fill_more _ _ _ c.loop-t.invariant.1 refl)
-
-pub shape_of-generations : goal.shape_of-generations
-shape_of-generations c =
-    let sized : length c.loop-t.generations ≡ length c.args.generations.now = ap length c.loop-t.invariant.1 ∙ length_fill _ _ _ in
-    sized
+filled zero x l b = sym (fill_none l x)
+filled (suc n) x l b =
+    rw add-one at (sym (fill_more n x l (omega arith))) ∙ ap (λ (k : List ℕ). set k n x) (filled n x l (omega arith))
 
 pub returns : goal.returns
 returns c =
-    let e : c.loop-t.t ≡ c.args.n = omega arith in
-    rw e at c.loop-t.invariant.1
+    rw (c.fill.ensures.after (λ y e. e), length-take-le c.args.n c.args.generations.now c.requires)
+    (filled c.args.n c.args.g c.args.generations.now c.requires)

@@ -1,4 +1,4 @@
-use Prim.Native.Nat.{◌-◌, ◌*◌, ◌≤◌}
+use Prim.Native.Nat.{◌*◌}
 use mathlib.Core.List.{[]}
 use mathlib.Core.Path.{◌≡◌}
 use Rattle.theory.proofs.Links.Rows.{put_rows}
@@ -10,9 +10,5 @@ use Rattle.dividing.proofs.write_all.Given as goal
 abbrev pub invariant-loop-t : goal.invariant-loop-t
 invariant-loop-t l =
     let d = topology_now l.counts l.initial.corners l.initial.links [] in
-    (l.t ≤ l.f) × (l.corners ≡ put_rows (3 * l.t) (child_of d) (child_corners d) l.initial.corners)
+    (l.corners ≡ put_rows (3 * l.t) (child_of d) (child_corners d) l.initial.corners)
     × (l.links ≡ put_rows (3 * l.t) (child_of d) (child_links d) l.initial.links)
-
-abbrev pub decreases-loop-t : goal.decreases-loop-t
-decreases-loop-t l =
-    l.f - l.t

@@ -6,22 +6,6 @@ use Rattle.tables.specs.Lent.{topology_now}
 use Rattle.dividing.proofs.ChildRows.{rows_of, child_rows}
 use Rattle.dividing.proofs.write_children.Goals as goal
 
-pub store_child-requires : goal.store_child-requires
-store_child-requires c =
-    (omega (arith, c.requires.in_use, c.requires.corner_room), omega (arith, c.requires.in_use, c.requires.link_room))
-
-pub store_child-requires-2 : goal.store_child-requires-2
-store_child-requires-2 c =
-    (omega (arith, c.requires.in_use, c.requires.corner_room, c.store_child.auto), omega (arith, c.requires.in_use, c.requires.link_room, c.store_child.auto))
-
-pub overflow_add-e-2 : goal.overflow_add-e-2
-overflow_add-e-2 c =
-    omega (arith, c.requires.in_use, c.requires.few_triangles)
-
-pub store_child-requires-3 : goal.store_child-requires-3
-store_child-requires-3 c =
-    (omega (arith, c.requires.in_use, c.requires.corner_room, c.store_child.auto, c.store_child-2.auto), omega (arith, c.requires.in_use, c.requires.link_room, c.store_child.auto, c.store_child-2.auto))
-
 pub returns : goal.returns
 returns c g =
     let d = topology_now c.args.counts c.args.corners.now c.args.links.now g in

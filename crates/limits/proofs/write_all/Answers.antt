@@ -14,11 +14,8 @@ use Rattle.rules.specs.Step.{limit_coordinate, limit_positions}
 use Rattle.rules.specs.Tables.{Mesh}
 use Rattle.tables.specs.Lent.{point_in, put_point}
 use Rattle.moving.specs.Moves.{Movable}
+use Rattle.limits.proofs.write_all.Invariants.{limit_at}
 use Rattle.limits.proofs.write_all.Goals as goal
-
--- The limits as the table has them.
-abbrev limit_at : Mesh → ℕ → ℤ
-limit_at m i = limit_coordinate m (i / 3) (i % 3)
 
 -- The next vertex, v.
 module _ {n rule v : ℕ} {m : Mesh} {positions : List ℤ} {lengths : List ℕ} {sums : List ℤ}
@@ -45,48 +42,15 @@ module _ {n rule v : ℕ} {m : Mesh} {positions : List ℤ} {lengths : List ℕ}
 
 pub loop-v-init : goal.loop-v-init
 unfolding fill
-loop-v-init c =
-    (omega arith, refl, λ m M. refl)
-
-pub bounds-lengths-v : goal.bounds-lengths-v
-bounds-lengths-v c =
-    let in_use_lem : c.loop-v.v < c.requires.0.0.topology.vertices = omega (arith, c.requires.0.1.all, c.loop-v-test.true) in
-    omega (arith, in_use_lem, c.requires.0.1.rings.length_room)
-
-pub overflow_cast-n-in-loop-v : goal.overflow_cast-n-in-loop-v
-overflow_cast-n-in-loop-v c =
-    let in_use_lem : c.loop-v.v < c.requires.0.0.topology.vertices = omega (arith, c.requires.0.1.all, c.loop-v-test.true) in
-    omega (arith, c.requires.0.1.rings.few c.loop-v.v in_use_lem)
-
-pub point_in-p-requires : goal.point_in-p-requires
-point_in-p-requires c =
-    omega (arith, c.requires.0.1.room, c.loop-v-test.true)
-
-pub point_in-sum-requires : goal.point_in-sum-requires
-point_in-sum-requires c =
-    let in_use_lem : c.loop-v.v < c.requires.0.0.topology.vertices = omega (arith, c.requires.0.1.all, c.loop-v-test.true) in
-    omega (arith, in_use_lem, c.requires.0.1.rings.sum_room)
-
-pub limit-requires : goal.limit-requires
-limit-requires c =
-    let in_use_lem : c.loop-v.v < c.requires.0.0.topology.vertices = omega (arith, c.requires.0.1.all, c.loop-v-test.true) in
-    (c.requires.0.1.rings.some c.loop-v.v in_use_lem, c.requires.0.1.rings.few c.loop-v.v in_use_lem)
-
-pub store_point-requires : goal.store_point-requires
-store_point-requires c =
-    omega (arith, c.requires.1, c.loop-v.invariant.1, c.loop-v-test.true)
+loop-v-init c = λ m M. refl
 
 pub loop-v-preserved : goal.loop-v-preserved
-loop-v-preserved c = (
-  omega arith,
-  omega (arith, c.store_point.auto, c.loop-v.invariant.1),
-  λ m M.
-      one_written M c.loop-v-test.true _ _ _ _ (c.loop-v.invariant.2 m M) c.point_in-p.ensures
-      c.point_in-sum.ensures c.limit.ensures c.store_point.ensures,
-)
+loop-v-preserved c = λ m M.
+    one_written M c.loop-v-test.true _ _ _ _ (c.loop-v.invariant m M) c.point_in-p.ensures
+    c.point_in-sum.ensures c.limit.ensures c.store_point.ensures
 
 pub returns : goal.returns
 unfolding limit_positions
 returns c m M =
     let e : c.loop-v.v ≡ m.topology.vertices = omega (arith, M.all) in
-    rw e at (c.loop-v.invariant.2 m M)
+    rw e at (c.loop-v.invariant m M)

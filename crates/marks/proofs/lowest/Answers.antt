@@ -1,89 +1,51 @@
 -- `marks::lowest` meets its contract.
-use borrow.Author.Count.{below_more}
 use native.Mathlib.Omega.{arith}
-use Prim.Native.Nat.{◌<◌}
-use mathlib.Core.Path.{sym}
+use mathlib.Core.Path.{◌≡◌, sym}
+use mathlib.Core.List.{List}
+use Prim.Native.Nat.{ℕ, ◌^◌, ◌<◌}
 use lib.Count.{trailing_le}
 use lib.ListN.{length, get_or}
-use Rattle.marks.proofs.Tables.{FirstWord, lowest_in, lowest_none, word_found, lowest_found}
+use Rattle.std.specs.Prelude.{Some}
+use Rattle.marks.specs.Marks.{Levels}
+use Rattle.marks.proofs.Tables.{lowest_in, first_word, first_found, none_found, lowest_none, word_found, lowest_found}
 use Rattle.marks.proofs.lowest.Goals as goal
 
-pub overflow_mul-i : goal.overflow_mul-i
-overflow_mul-i c =
-    let first : FirstWord c.args.words.now c.loop-k.k = record { past = c.loop-k.invariant.1; some = c.if-above-ne0.true; fits = (c.type_inv.words c.loop-k.k).fits } in
-    let within : lowest_in c.args.words.now c.loop-k.k
-    < length c.args.bits.now = word_found c.args.bits.now c.args.words.now c.requires.0 c.loop-k.k first in
-    omega (arith, within)
+-- The word that the first one above marks is in the table.
+within : {bits words : List ℕ} {k : ℕ} → Levels bits words → Some k ≡ first_word words → get_or words k 0 < 2 ^ 64
+    → lowest_in words k < length bits
+within L e l = word_found _ _ L _ (first_found _ _ e l)
 
-pub overflow_cast-i : goal.overflow_cast-i
-overflow_cast-i c =
-    let first : FirstWord c.args.words.now c.loop-k.k = record { past = c.loop-k.invariant.1; some = c.if-above-ne0.true; fits = (c.type_inv.words c.loop-k.k).fits } in
-    let within : lowest_in c.args.words.now c.loop-k.k
-    < length c.args.bits.now = word_found c.args.bits.now c.args.words.now c.requires.0 c.loop-k.k first in
-    omega (arith, within)
+pub returns-in_default : goal.returns-in_default
+returns-in_default c = sym (lowest_none _ _ c.requires.0 (none_found _ c.in_default.ensures))
+
+pub overflow_mul-i : goal.overflow_mul-i
+overflow_mul-i c = omega (arith, within c.requires.0 c.in-Some.ensures (c.type_inv.words _).fits)
 
 pub overflow_add-i : goal.overflow_add-i
-overflow_add-i c =
-    let first : FirstWord c.args.words.now c.loop-k.k = record { past = c.loop-k.invariant.1; some = c.if-above-ne0.true; fits = (c.type_inv.words c.loop-k.k).fits } in
-    let within : lowest_in c.args.words.now c.loop-k.k
-    < length c.args.bits.now = word_found c.args.bits.now c.args.words.now c.requires.0 c.loop-k.k first in
-    omega (arith, within)
+overflow_add-i c = omega (arith, within c.requires.0 c.in-Some.ensures (c.type_inv.words _).fits)
 
-pub overflow_cast-result : goal.overflow_cast-result
-overflow_cast-result c =
-    let first : FirstWord c.args.words.now c.loop-k.k = record { past = c.loop-k.invariant.1; some = c.if-above-ne0.true; fits = (c.type_inv.words c.loop-k.k).fits } in
-    let within : lowest_in c.args.words.now c.loop-k.k
-    < length c.args.bits.now = word_found c.args.bits.now c.args.words.now c.requires.0 c.loop-k.k first in
-    omega (arith, within)
+pub overflow_cast-result-2 : goal.overflow_cast-result-2
+overflow_cast-result-2 c = omega (arith, within c.requires.0 c.in-Some.ensures (c.type_inv.words _).fits)
 
-pub overflow_mul-result : goal.overflow_mul-result
-overflow_mul-result c =
-    let first : FirstWord c.args.words.now c.loop-k.k = record { past = c.loop-k.invariant.1; some = c.if-above-ne0.true; fits = (c.type_inv.words c.loop-k.k).fits } in
-    let within : lowest_in c.args.words.now c.loop-k.k
-    < length c.args.bits.now = word_found c.args.bits.now c.args.words.now c.requires.0 c.loop-k.k first in
-    omega (arith, within)
+pub overflow_mul-result-2 : goal.overflow_mul-result-2
+overflow_mul-result-2 c = omega (arith, within c.requires.0 c.in-Some.ensures (c.type_inv.words _).fits)
 
 pub offset_bounds-bits-i : goal.offset_bounds-bits-i
-offset_bounds-bits-i c =
-    let first : FirstWord c.args.words.now c.loop-k.k = record { past = c.loop-k.invariant.1; some = c.if-above-ne0.true; fits = (c.type_inv.words c.loop-k.k).fits } in
-    let within : lowest_in c.args.words.now c.loop-k.k
-    < length c.args.bits.now = word_found c.args.bits.now c.args.words.now c.requires.0 c.loop-k.k first in
-    omega (arith, within)
+offset_bounds-bits-i c = omega (arith, within c.requires.0 c.in-Some.ensures (c.type_inv.words _).fits)
 
 pub bounds-bits-i : goal.bounds-bits-i
-bounds-bits-i c =
-    let first : FirstWord c.args.words.now c.loop-k.k = record { past = c.loop-k.invariant.1; some = c.if-above-ne0.true; fits = (c.type_inv.words c.loop-k.k).fits } in
-    let within : lowest_in c.args.words.now c.loop-k.k
-    < length c.args.bits.now = word_found c.args.bits.now c.args.words.now c.requires.0 c.loop-k.k first in
-    within
+bounds-bits-i c = within c.requires.0 c.in-Some.ensures (c.type_inv.words _).fits
 
 pub overflow_add-result : goal.overflow_add-result
 overflow_add-result c =
-    let first : FirstWord c.args.words.now c.loop-k.k = record { past = c.loop-k.invariant.1; some = c.if-above-ne0.true; fits = (c.type_inv.words c.loop-k.k).fits } in
-    let within : lowest_in c.args.words.now c.loop-k.k
-    < length c.args.bits.now = word_found c.args.bits.now c.args.words.now c.requires.0 c.loop-k.k first in
-    let i = lowest_in c.args.words.now c.loop-k.k in
-    omega (arith, within, trailing_le 64 (get_or c.args.bits.now i 0))
-
-pub returns-then-above-ne0 : goal.returns-then-above-ne0
-returns-then-above-ne0 c =
-    let first : FirstWord c.args.words.now c.loop-k.k = record { past = c.loop-k.invariant.1; some = c.if-above-ne0.true; fits = (c.type_inv.words c.loop-k.k).fits } in
-    sym (lowest_found c.args.bits.now c.args.words.now c.requires.0 c.loop-k.k first
-    (c.type_inv.bits (lowest_in c.args.words.now c.loop-k.k)).fits)
-
-pub loop-k-preserved : goal.loop-k-preserved
-loop-k-preserved c =
-    (omega arith, below_more _ _ c.loop-k.invariant.1 c.if-above-ne0.false)
-
-pub overflow_cast-result-2 : goal.overflow_cast-result-2
-overflow_cast-result-2 c =
-    omega arith
-
-pub overflow_mul-result-2 : goal.overflow_mul-result-2
-overflow_mul-result-2 c =
-    omega arith
+    let i = lowest_in c.args.words.now c.in-Some.k in
+    omega (
+      arith,
+      within c.requires.0 c.in-Some.ensures (c.type_inv.words _).fits,
+      trailing_le 64 (get_or c.args.bits.now i 0),
+    )
 
 pub returns : goal.returns
 returns c =
-    sym (lowest_none c.args.bits.now c.args.words.now c.requires.0
-    (λ m l. c.loop-k.invariant.1 m (omega arith)))
+    sym (lowest_found _ _ c.requires.0 _ (first_found _ _ c.in-Some.ensures (c.type_inv.words _).fits)
+    (c.type_inv.bits _).fits)

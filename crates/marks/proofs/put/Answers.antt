@@ -3,5 +3,4 @@ use Rattle.marks.proofs.Tables.{mark_put}
 use Rattle.marks.proofs.put.Goals as goal
 
 pub returns : goal.returns
-returns c =
-    mark_put c.args.table.now c.args.i c.with_bit.result c.args.on c.requires c.with_bit.ensures
+returns c = mark_put _ _ _ _ c.requires c.with_bit.ensures

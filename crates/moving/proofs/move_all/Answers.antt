@@ -41,51 +41,9 @@ module _ {n rule v : ℕ} {m : Mesh} {positions : List ℤ} {lengths : List ℕ}
 
 pub loop-v-init : goal.loop-v-init
 unfolding move_vertices
-loop-v-init c =
-    (omega arith, refl, λ m M. refl)
-
-pub bounds-lengths-v : goal.bounds-lengths-v
-bounds-lengths-v c =
-    let in_use_lem : c.loop-v.v < c.requires.0.topology.vertices = omega (arith, c.requires.1.all, c.loop-v-test.true) in
-    omega (arith, in_use_lem, c.requires.1.rings.length_room)
-
-pub overflow_cast-n-in-loop-v : goal.overflow_cast-n-in-loop-v
-overflow_cast-n-in-loop-v c =
-    let in_use_lem : c.loop-v.v < c.requires.0.topology.vertices = omega (arith, c.requires.1.all, c.loop-v-test.true) in
-    omega (arith, c.requires.1.rings.few c.loop-v.v in_use_lem)
-
-pub point_in-p-requires : goal.point_in-p-requires
-point_in-p-requires c =
-    omega (arith, c.requires.1.room, c.loop-v.invariant.1, c.loop-v-test.true)
-
-pub point_in-sum-requires : goal.point_in-sum-requires
-point_in-sum-requires c =
-    let in_use_lem : c.loop-v.v < c.requires.0.topology.vertices = omega (arith, c.requires.1.all, c.loop-v-test.true) in
-    omega (arith, in_use_lem, c.requires.1.rings.sum_room)
-
-pub moved-requires : goal.moved-requires
-moved-requires c =
-    let in_use_lem : c.loop-v.v < c.requires.0.topology.vertices = omega (arith, c.requires.1.all, c.loop-v-test.true) in
-    (c.requires.1.rings.some c.loop-v.v in_use_lem, c.requires.1.rings.few c.loop-v.v in_use_lem)
-
-pub store_point-requires : goal.store_point-requires
-store_point-requires c =
-    omega (arith, c.requires.1.room, c.loop-v.invariant.1, c.loop-v-test.true)
+loop-v-init c = λ m M. refl
 
 pub loop-v-preserved : goal.loop-v-preserved
-loop-v-preserved c = (
-  omega arith,
-  omega (arith, c.store_point.auto, c.loop-v.invariant.1),
-  λ m M.
-      one_moved M c.loop-v-test.true _ _ _ (c.loop-v.invariant.2 m M) c.point_in-p.ensures
-      c.point_in-sum.ensures c.moved.ensures c.store_point.ensures,
-)
-
-pub shape_of-positions : goal.shape_of-positions
-shape_of-positions c =
-    c.loop-v.invariant.1
-
-pub returns : goal.returns
-returns c m M =
-    let e : c.loop-v.v ≡ c.args.vertices = omega arith in
-    rw e at (c.loop-v.invariant.2 m M)
+loop-v-preserved c = λ m M.
+    one_moved M c.loop-v-test.true _ _ _ (c.loop-v.invariant m M) c.point_in-p.ensures
+    c.point_in-sum.ensures c.moved.ensures c.store_point.ensures

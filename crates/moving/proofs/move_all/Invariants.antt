@@ -1,6 +1,4 @@
-use Prim.Native.Nat.{◌-◌, ◌≤◌}
 use mathlib.Core.Path.{◌≡◌}
-use lib.ListN.{length}
 use Rattle.rules.specs.Step.{move_vertices}
 use Rattle.rules.specs.Tables.{Mesh}
 use Rattle.moving.specs.Moves.{Movable}
@@ -8,9 +6,4 @@ use Rattle.moving.proofs.move_all.Given as goal
 
 abbrev pub invariant-loop-v : goal.invariant-loop-v
 invariant-loop-v l =
-    (l.v ≤ l.vertices) × (length l.positions ≡ length l.initial.positions)
-    × ((m : Mesh) → Movable l.vertices l.rule m l.initial.positions l.lengths l.sums → l.positions ≡ move_vertices l.v m l.initial.positions)
-
-abbrev pub decreases-loop-v : goal.decreases-loop-v
-decreases-loop-v l =
-    l.vertices - l.v
+    (m : Mesh) → Movable l.vertices l.rule m l.initial.positions l.lengths l.sums → l.positions ≡ move_vertices l.v m l.initial.positions

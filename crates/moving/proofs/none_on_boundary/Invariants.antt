@@ -1,4 +1,3 @@
-use Prim.Native.Nat.{◌-◌, ◌≤◌}
 use mathlib.Core.Bool.{not}
 use mathlib.Core.Path.{◌≡◌}
 use lib.Dec.{eqb}
@@ -7,10 +6,6 @@ use Rattle.rules.specs.Below.{all}
 use Rattle.rules.specs.Tables.{boundary}
 use Rattle.moving.proofs.none_on_boundary.Given as goal
 
-abbrev pub invariant-loop-h : goal.invariant-loop-h
-invariant-loop-h l =
-    (l.h ≤ l.n) × (l.inner ≡ all l.h (λ i. not (eqb (get_or l.links i 0) boundary)))
-
-abbrev pub decreases-loop-h : goal.decreases-loop-h
-decreases-loop-h l =
-    l.n - l.h
+abbrev pub invariant-loop-link : goal.invariant-loop-link
+invariant-loop-link l =
+    l.inner ≡ all l.link-index (λ i. not (eqb (get_or l.links i 0) boundary))

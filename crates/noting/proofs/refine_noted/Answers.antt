@@ -1,39 +1,51 @@
 -- `noting::refine_noted` meets its contract.
 use mathlib.Core.Path.{refl, sym}
+use Rattle.std.specs.Prelude.{Ok, Err}
 use Rattle.rules.specs.Tables.{Mesh}
-use Rattle.tables.specs.Lent.{mesh_now}
-use Rattle.noting.proofs.Noted.{noted_refused, noted_short, noted_carried}
-use Rattle.refining.proofs.Refusing.{finds_goes}
-use Rattle.noting.proofs.refine_noted.Goals.{After-find}
+use Rattle.tables.specs.Lent.{held, mesh_with}
+use Rattle.tables.proofs.Refusing.{number_some}
+use Rattle.noting.proofs.Noted.{noted_refused, noted_short, noted_carried, notes_seen, goes_seen}
+use Rattle.refining.proofs.Refusing.{finds_goes, stands_seen, found_seen}
+use Rattle.refining.specs.Finding.{Finds}
+use Rattle.noting.proofs.refine_noted.Goals.{After-find, In-Ok}
 use Rattle.noting.proofs.refine_noted.Goals as goal
 
 abbrev mesh_of : After-find → Mesh
-mesh_of c =
-    mesh_now c.args.counts c.args.positions.now c.args.corners.now c.args.links.now c.args.generations.now
-    c.args.locks.now
+mesh_of c = mesh_with c.args.counts (held c.args.tables.now)
 
-pub returns-in-Err : goal.returns-in-Err
-returns-in-Err c =
-    let ((e, x), _) = c.in-Err.ensures c.args.corners.now c.requires in
-    noted_refused c.args.t c.args.note.now (mesh_of (goal.at.returns-in-Err c).After-find) _ e x
+found : (c : In-Ok) → Finds c.args.t (mesh_with c.args.counts (held c.args.tables.now)) (Ok c.in-Ok.chain)
+found c = found_seen c.args.counts c.view.ensures.same c.args.t (Ok c.in-Ok.chain) c.in-Ok.ensures
+
+pub find-requires : goal.find-requires
+find-requires c = stands_seen c.args.counts c.view.ensures.same c.requires
+
+pub returns-in-Err-clause-refined : goal.returns-in-Err-clause-refined
+returns-in-Err-clause-refined c =
+    let F = found_seen c.args.counts c.view.ensures.same c.args.t (Err c.in-Err.refusal) c.in-Err.ensures in
+    rw c.refused.ensures
+    (noted_refused c.args.t c.args.note.now (mesh_of (goal.at.returns-in-Err-clause-refined c).After-find) _ F.0
+    (number_some c.in-Err.refusal))
 
 pub note_changes-requires : goal.note_changes-requires
-note_changes-requires c = (c.args.positions.now, finds_goes (c.in-Ok.ensures c.args.corners.now c.requires))
+note_changes-requires c =
+    goes_seen c.args.counts c.view-2.ensures.same (finds_goes (found (goal.at.note_changes-requires c).In-Ok))
 
 pub carry_out-requires : goal.carry_out-requires
-carry_out-requires c = finds_goes (c.in-Ok.ensures c.args.corners.now c.requires)
+carry_out-requires c = finds_goes (found (goal.at.carry_out-requires c).In-Ok)
 
-pub returns-in-Ok-note_changes : goal.returns-in-Ok-note_changes
-returns-in-Ok-note_changes c =
-    let F = c.in-Ok.ensures c.args.corners.now c.requires in
-    let N = c.in-Ok-note_changes.ensures c.args.positions.now (finds_goes F) in
-    noted_carried c.args.t c.args.note.now (mesh_of (goal.at.returns-in-Ok-note_changes c).After-find) 0 (sym F.0)
-    N.refusal _ c.carry_out.ensures.locks_after refl N.written
+pub returns-in-Ok-note_changes-clause-refined : goal.returns-in-Ok-note_changes-clause-refined
+returns-in-Ok-note_changes-clause-refined c =
+    let F = found (goal.at.returns-in-Ok-note_changes-clause-refined c).In-Ok in
+    let N =
+    notes_seen c.args.counts c.view-2.ensures.same (Ok c.in-Ok-note_changes.field-0) c.in-Ok-note_changes.ensures in
+    noted_carried c.args.t c.args.note.now (mesh_of (goal.at.returns-in-Ok-note_changes-clause-refined c).After-find) 0
+    (sym F.0) N.refusal _ c.carry_out.ensures.refined refl N.written
 
-pub returns-in-Err-note_changes : goal.returns-in-Err-note_changes
-returns-in-Err-note_changes c =
-    let F = c.in-Ok.ensures c.args.corners.now c.requires in
-    let N = c.in-Err-note_changes.ensures c.args.positions.now (finds_goes F) in
-    let (e, x) = N.refusal in
-    noted_short c.args.t c.args.note.now (mesh_of (goal.at.returns-in-Err-note_changes c).After-find) _ (sym F.0) e x
-    N.short
+pub returns-in-Err-note_changes-clause-refined : goal.returns-in-Err-note_changes-clause-refined
+returns-in-Err-note_changes-clause-refined c =
+    let F = found (goal.at.returns-in-Err-note_changes-clause-refined c).In-Ok in
+    let N =
+    notes_seen c.args.counts c.view-2.ensures.same (Err c.in-Err-note_changes.refusal) c.in-Err-note_changes.ensures in
+    rw c.refused-in-Err-note_changes.ensures
+    (noted_short c.args.t c.args.note.now (mesh_of (goal.at.returns-in-Err-note_changes-clause-refined c).After-find) _
+    (sym F.0) N.refusal (number_some c.in-Err-note_changes.refusal) N.short)

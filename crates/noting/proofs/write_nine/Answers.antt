@@ -2,7 +2,7 @@
 use mathlib.Core.Path.{◌≡◌, ◌∙◌}
 use native.Mathlib.Omega.{arith}
 use lib.ListN.{length, length-set}
-use Rattle.tables.specs.Lent.{mesh_now}
+use Rattle.tables.specs.Lent.{seen, mesh_with}
 use Rattle.noting.proofs.Writing.{nine_written}
 use Rattle.noting.proofs.write_nine.Goals as goal
 
@@ -15,21 +15,11 @@ copy_four-requires-2 c =
     let long : length c.copy_four.new.note ≡ length c.args.note.now = c.copy_four.auto.note ∙ length-set c.args.note.now _ _ in
     (omega (arith, c.requires.0.links, c.requires.2), omega (arith, long, c.requires.3))
 
-pub overflow_cast-note : goal.overflow_cast-note
-overflow_cast-note c =
-    let start = c in
-    omega (arith, c.type_inv.generations start.args.s)
-
 pub bounds-note-at-2 : goal.bounds-note-at-2
 bounds-note-at-2 c =
     let long : length c.copy_four.new.note ≡ length c.args.note.now = c.copy_four.auto.note ∙ length-set c.args.note.now _ _ in
     let links_long : length c.copy_four-2.new.note ≡ length c.args.note.now = c.copy_four-2.auto.note ∙ long in
     omega (arith, links_long, c.requires.3)
-
-pub overflow_cast-note-2 : goal.overflow_cast-note-2
-overflow_cast-note-2 c =
-    let start = c in
-    omega (arith, c.type_inv.locks start.args.s)
 
 pub bounds-note-at-3 : goal.bounds-note-at-3
 bounds-note-at-3 c =
@@ -44,7 +34,7 @@ shape_of-note c =
     simp length-set links_long
 
 pub returns : goal.returns
-returns c n p =
+returns c n =
     let args = c.args in
-    nine_written (mesh_now n p args.corners.now args.links.now args.generations.now args.locks.now)
+    nine_written (mesh_with n (seen args.view.now))
     args.s args.at args.note.now c.copy_four.ensures c.copy_four-2.ensures

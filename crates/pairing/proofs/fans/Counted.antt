@@ -19,11 +19,11 @@ use Rattle.decoding.specs.Decoded.{decoded}
 use Rattle.pairing.specs.Pairing.{Last, Threads}
 
 -- Vertex w, with the threads of all.
-pub record Threaded (v f : ℕ) (corners links heads nexts : List ℕ) (w : ℕ) : Type 0 where
+pub record AtVertex (v f : ℕ) (corners links heads nexts : List ℕ) (w : ℕ) : Type 0 where
   pub threads : Threads (decoded v f corners) (3 * f) heads nexts
   pub in_use : w < v
 
-module _ {v f : ℕ} {corners links heads nexts : List ℕ} {w : ℕ} (K : Threaded v f corners links heads nexts w)
+module _ {v f : ℕ} {corners links heads nexts : List ℕ} {w : ℕ} (K : AtVertex v f corners links heads nexts w)
     {p : ℕ} (e : p ≡ get_or heads w 0) where
   T : Threads (decoded v f corners) (3 * f) heads nexts
   T = K.threads

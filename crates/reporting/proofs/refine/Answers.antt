@@ -4,7 +4,6 @@ use native.Mathlib.Omega.{arith}
 use mathlib.Core.Bool.{Bool, true}
 use mathlib.Core.List.{List, []}
 use lib.Dec.{leb}
-use lib.IntN.{ℤ}
 use lib.ListN.{length}
 use mathlib.Core.Path.{◌≡◌, refl, sym, ap, ◌∙◌, subst}
 use Rattle.theory.proofs.Calls.Carried.{RefineFound}
@@ -15,9 +14,11 @@ use Rattle.rules.specs.Tables.{Mesh}
 use Rattle.split.specs.declared.Work.{Work}
 use Rattle.split.specs.Made.{work_now}
 use Rattle.reporting.specs.Told.{Tells, Told}
-use Rattle.reporting.proofs.Telling.{tells_none, splits_are, fits_from, tells_if}
+use Rattle.reporting.proofs.Telling.{fits_seen, tells_none, splits_are, fits_from, tells_if}
 use Rattle.reporting.proofs.Turns.{end_within, Turned, turn_may_split, turn_asks, turn_done}
-use Rattle.tables.specs.Lent.{mesh_now}
+use Rattle.rules.specs.Spares.{Spares}
+use Rattle.tables.specs.Lent.{held, mesh_with}
+use Rattle.tables.proofs.Lending.{same_on}
 use Rattle.reporting.proofs.refine.Goals.{After-fits-telling, After-split_at-work, After-tell_split-told, After-across_last-end, After-split_at-work-in-loop-left}
 use Rattle.reporting.proofs.refine.Goals as goal
 
@@ -26,13 +27,13 @@ none_left : {t left : ℕ} {m : Mesh} {slots : List ℕ} {w : rules.Work} → Re
 none_left {t} {m = m} {slots} {w} R z N = refining_ends R (subst (λ (k : ℕ). Refining t m slots k w) z N)
 
 -- Its report is that of the refine, told where the whole has room.
-told_whole : (rule : ℕ) (report : List ℕ) (work : Work) (p : List ℤ) (c l g k : List ℕ) {x : rules.Work} {r s : List ℕ}
-    {at end : ℕ} {b : Bool} → work_now rule report work p c l g k ≡ x → (b ≡ true → Tells report r s at end)
+told_whole : (rule : ℕ) (report : List ℕ) (work : Work) (tables : Spares) {x : rules.Work} {r s : List ℕ}
+    {at end : ℕ} {b : Bool} → work_now rule report work tables ≡ x → (b ≡ true → Tells report r s at end)
     → b ≡ leb (length x.report) (length r - at) → length s ≡ length r
-    → (work_now rule x.report work p c l g k ≡ x) × Told x.report r s at
-told_whole rule report work p c l g k {x} {r} {s} {at} {end} e T f z =
+    → (work_now rule x.report work tables ≡ x) × Told x.report r s at
+told_whole rule report work tables {x} {r} {s} {at} {end} e T f z =
     let q : report ≡ x.report = ap (λ (w : rules.Work). w.report) e in (
-      subst (λ (j : List ℕ). work_now rule j work p c l g k ≡ x) q e,
+      subst (λ (j : List ℕ). work_now rule j work tables ≡ x) q e,
       (end, tells_if (λ i. subst (λ (j : List ℕ). Tells j r s at end) q (T i)) f z),
     )
 
@@ -40,9 +41,7 @@ told_whole rule report work p c l g k {x} {r} {s} {at} {end} e T f z =
 
 -- The mesh that is refined, and the work of which nothing is done.
 abbrev mesh_of : After-fits-telling → Mesh
-mesh_of c =
-    mesh_now c.args.counts c.args.positions.now c.args.corners.now c.args.links.now c.args.generations.now
-    c.args.locks.now
+mesh_of c = mesh_with c.args.counts (held c.args.tables.now)
 
 abbrev whole : After-fits-telling → List ℕ
 whole c = (rules.refine c.args.t (rules.at_first (mesh_of c))).report
@@ -65,8 +64,8 @@ some_split c = omega (arith, c.splits-splits.ensures)
 fitted : (c : After-fits-telling)
     → c.fits-telling.result ≡ leb (length (whole c)) (length c.args.report.now - c.args.at)
 fitted c =
-    c.fits-telling.ensures c.args.t c.args.counts c.args.positions.now c.args.corners.now c.args.locks.now
-    c.requires.0 c.requires.1
+    fits_seen c.args.t c.args.counts c.args.chain _ c.view.ensures.same
+    (c.fits-telling.ensures c.args.t c.args.counts) c.requires.0 c.requires.1
     ∙ ap (leb (length (whole c))) c.saturating_sub.ensures
 
 room : (c : After-fits-telling) → c.fits-telling.result ≡ true
@@ -77,32 +76,28 @@ room c f = fits_from c.args.at (length c.args.report.now) c.requires.0 (sym (fit
 
 abbrev first : After-split_at-work → List ℕ → rules.Work
 first c report =
-    work_now c.args.counts.rule report c.split_at-work.result c.split_at-work.new.positions
-    c.split_at-work.new.corners c.split_at-work.new.links c.split_at-work.new.generations c.split_at-work.new.locks
+    work_now c.args.counts.rule report c.split_at-work.result (held c.split_at-work.new.tables)
 
 abbrev so_far : After-across_last-end → List ℕ → rules.Work
 so_far c report =
-    work_now c.args.counts.rule report c.loop-left.work c.loop-left.positions c.loop-left.corners c.loop-left.links
-    c.loop-left.generations c.loop-left.locks
+    work_now c.args.counts.rule report c.loop-left.work (held c.loop-left.tables)
 
 more : (c : After-across_last-end) → 0 < c.loop-left.left - 1
 more c = omega (arith, c.loop-left-test.true)
 
 at_end : (c : After-across_last-end)
-    → c.across_last-end.result ≡ chain_end (so_far c c.loop-left.invariant.0).mesh.topology c.args.t
-at_end c = c.across_last-end.ensures ∙ sym (c.loop-left.invariant.2 (more c)).next
+    → c.across_last-end.result ≡ chain_end (so_far c c.loop-left.invariant.1).mesh.topology c.args.t
+at_end c = c.across_last-end.ensures ∙ sym (c.loop-left.invariant.3 (more c)).next
 
 abbrev next : After-split_at-work-in-loop-left → List ℕ → rules.Work
 next c report =
-    work_now c.args.counts.rule report c.split_at-work-in-loop-left.result
-    c.split_at-work-in-loop-left.new.positions c.split_at-work-in-loop-left.new.corners
-    c.split_at-work-in-loop-left.new.links c.split_at-work-in-loop-left.new.generations
-    c.split_at-work-in-loop-left.new.locks
+    work_now c.args.counts.rule report c.split_at-work-in-loop-left.result (held c.split_at-work-in-loop-left.new.tables)
 
 -- ---- the answers
 
 pub fits-telling-requires : goal.fits-telling-requires
-fits-telling-requires c = end_within c.requires.0 c.requires.1.end
+fits-telling-requires c =
+    omega (arith, c.view.ensures.sizes, end_within c.requires.0 c.requires.1.end)
 
 pub split_at-work-requires : goal.split_at-work-requires
 split_at-work-requires c =
@@ -113,7 +108,7 @@ pub tell_split-told-requires : goal.tell_split-told-requires
 tell_split-told-requires c =
     let start = (goal.at.tell_split-told-requires c).After-fits-telling in
     let split = (goal.at.tell_split-told-requires c).After-split_at-work in
-    let (report, e) = c.split_at-work.ensures c.args.counts.rule [] in
+    let (report, e) = c.split_at-work.ensures.split c.args.counts.rule [] in
     turn_asks c.requires.0 (begun start).refining (some_split start) c.requires.1.end (first split report) e
     (begun start) (room start)
 
@@ -121,15 +116,15 @@ pub loop-left-init : goal.loop-left-init
 loop-left-init c =
     let start = (goal.at.loop-left-init c).After-fits-telling in
     let split = (goal.at.loop-left-init c).After-split_at-work in
-    let (report, e) = c.split_at-work.ensures c.args.counts.rule [] in
+    let (report, e) = c.split_at-work.ensures.split c.args.counts.rule [] in
     let (T, N) =
     turn_done c.requires.0 (begun start).refining (some_split start) c.requires.1.end (first split report) e
     (begun start) c.tell_split-told.ensures c.tell_split-told.auto.report in
-    (report, T, N)
+    (c.split_at-work.ensures.lent, report, T, N)
 
 pub across_last-end-requires : goal.across_last-end-requires
 across_last-end-requires c =
-    let (report, T, N) = c.loop-left.invariant in
+    let (_, report, T, N) = c.loop-left.invariant in
     let more : 0 < c.loop-left.left - 1 = omega (arith, c.loop-left-test.true) in (
       more,
       omega (arith, few_splits c.requires.0, T.refining.splits),
@@ -139,7 +134,7 @@ across_last-end-requires c =
 pub split_at-work-requires-in-loop-left : goal.split_at-work-requires-in-loop-left
 split_at-work-requires-in-loop-left c =
     let turn = (goal.at.split_at-work-requires-in-loop-left c).After-across_last-end in
-    let (report, T, N) = c.loop-left.invariant in
+    let (_, report, T, N) = c.loop-left.invariant in
     (c.args.counts.rule, report, turn_may_split c.requires.0 T.refining (more turn) (at_end turn))
 
 pub tell_split-told-requires-in-loop-left : goal.tell_split-told-requires-in-loop-left
@@ -147,25 +142,24 @@ tell_split-told-requires-in-loop-left c =
     let start = (goal.at.tell_split-told-requires-in-loop-left c).After-fits-telling in
     let turn = (goal.at.tell_split-told-requires-in-loop-left c).After-across_last-end in
     let split = (goal.at.tell_split-told-requires-in-loop-left c).After-split_at-work-in-loop-left in
-    let (report, T, N) = c.loop-left.invariant in
-    let (after, e) = c.split_at-work-in-loop-left.ensures c.args.counts.rule report in
+    let (_, report, T, N) = c.loop-left.invariant in
+    let (after, e) = c.split_at-work-in-loop-left.ensures.split c.args.counts.rule report in
     turn_asks c.requires.0 T.refining (more turn) (at_end turn) (next split after) e T (room start)
 
 pub loop-left-preserved : goal.loop-left-preserved
 loop-left-preserved c =
     let turn = (goal.at.loop-left-preserved c).After-across_last-end in
     let split = (goal.at.loop-left-preserved c).After-split_at-work-in-loop-left in
-    let (report, T, N) = c.loop-left.invariant in
-    let (after, e) = c.split_at-work-in-loop-left.ensures c.args.counts.rule report in
+    let (_, report, T, N) = c.loop-left.invariant in
+    let (after, e) = c.split_at-work-in-loop-left.ensures.split c.args.counts.rule report in
     let (U, B) =
     turn_done c.requires.0 T.refining (more turn) (at_end turn) (next split after) e T
     c.tell_split-told-in-loop-left.ensures c.tell_split-told-in-loop-left.auto.report in
-    (after, U, B)
+    (same_on c.split_at-work-in-loop-left.ensures.lent c.loop-left.invariant.0, after, U, B)
 
-pub returns : goal.returns
-returns c =
-    let start = (goal.at.returns c).After-fits-telling in
-    let (report, T, N) = c.loop-left.invariant in
+pub returns-clause-refined : goal.returns-clause-refined
+returns-clause-refined c =
+    let start = (goal.at.returns-clause-refined c).After-fits-telling in
+    let (_, report, T, N) = c.loop-left.invariant in
     let done : c.loop-left.left - 1 ≡ 0 = omega (arith, c.loop-left-test.false) in
-    told_whole c.args.counts.rule report c.loop-left.work c.loop-left.positions c.loop-left.corners c.loop-left.links
-    c.loop-left.generations c.loop-left.locks (none_left c.requires.0 done T.refining) T.tells (fitted start) T.size
+    told_whole c.args.counts.rule report c.loop-left.work (held c.loop-left.tables) (none_left c.requires.0 done T.refining) T.tells (fitted start) T.size

@@ -33,22 +33,22 @@ module _ (l g : List ℕ) (t f : ℕ) where
 
 -- Each is told, and there is room for those after it.
 first_told : (c : After-tell_flip-first) →
-    Tells (one c.args.links.now c.args.generations.now c.args.t c.args.f) c.tell_slots-slots.new.report
+    Tells (one c.args.tables.now.links.now c.args.tables.now.generations.now c.args.t c.args.f) c.tell_slots-slots.new.report
     c.tell_flip-first.new.report c.tell_slots-slots.result c.tell_flip-first.result
-first_told c = answered c.args.links.now c.args.t c.is_flipped.ensures c.tell_flip-first.ensures
+first_told c = answered c.args.tables.now.links.now c.args.t c.is_flipped.ensures c.tell_flip-first.ensures
 
 first_room : (c : After-tell_flip-first) →
-    let l = c.args.links.now in
-    let g = c.args.generations.now in
+    let l = c.args.tables.now.links.now in
+    let g = c.args.tables.now.generations.now in
     c.tell_flip-first.result + length (two l g c.args.t c.args.f ++ three l g c.args.t c.args.f)
     ≤ length c.tell_flip-first.new.report
 first_room c =
     room_then _ (first_told c) (room_then _ c.tell_slots-slots.ensures (c.requires.4 c.if-not-telling.false))
 
 second_told : (c : After-tell_flip-second) →
-    Tells (two c.args.links.now c.args.generations.now c.args.t c.args.f) c.tell_flip-first.new.report
+    Tells (two c.args.tables.now.links.now c.args.tables.now.generations.now c.args.t c.args.f) c.tell_flip-first.new.report
     c.tell_flip-second.new.report c.tell_flip-first.result c.tell_flip-second.result
-second_told c = answered c.args.links.now c.args.f c.is_second_flipped.ensures c.tell_flip-second.ensures
+second_told c = answered c.args.tables.now.links.now c.args.f c.is_second_flipped.ensures c.tell_flip-second.ensures
 
 pub returns-then-not-telling : goal.returns-then-not-telling
 returns-then-not-telling c q = absurd (true≢false (sym q ∙ c.if-not-telling.true))
@@ -62,14 +62,14 @@ tell_slots-slots-requires c = (
 pub tell_flip-first-requires : goal.tell_flip-first-requires
 tell_flip-first-requires c = (
   omega (arith, c.requires.0, c.requires.2),
-  asked c.args.links.now c.args.t _ _ c.is_flipped.ensures
+  asked c.args.tables.now.links.now c.args.t _ _ c.is_flipped.ensures
       (room_first _ _ _ _ (room_then _ c.tell_slots-slots.ensures (c.requires.4 c.if-not-telling.false))),
 )
 
 pub tell_flip-second-requires : goal.tell_flip-second-requires
 tell_flip-second-requires c = (
   omega (arith, c.requires.1, c.requires.2),
-  asked c.args.links.now c.args.f _ _ c.is_second_flipped.ensures
+  asked c.args.tables.now.links.now c.args.f _ _ c.is_second_flipped.ensures
       (room_first _ _ _ _ (first_room (goal.at.tell_flip-second-requires c).After-tell_flip-first)),
 )
 
@@ -78,7 +78,7 @@ tell_flip-requires c =
     let first = (goal.at.tell_flip-requires c).After-tell_flip-first in
     let second = (goal.at.tell_flip-requires c).After-tell_flip-second in (
       omega (arith, c.requires.1, c.requires.2),
-      asked c.args.links.now (c.args.f + 1) _ _ c.is_flipped-2.ensures
+      asked c.args.tables.now.links.now (c.args.f + 1) _ _ c.is_flipped-2.ensures
           (room_then _ (second_told second) (first_room first)),
     )
 
@@ -86,6 +86,6 @@ pub returns : goal.returns
 returns c q =
     let first = (goal.at.returns c).After-tell_flip-first in
     let second = (goal.at.returns c).After-tell_flip-second in
-    tells_split c.args.links.now c.args.generations.now c.args.t c.args.f c.tell_slots-slots.ensures
+    tells_split c.args.tables.now.links.now c.args.tables.now.generations.now c.args.t c.args.f c.tell_slots-slots.ensures
     (first_told first) (second_told second)
-    (answered c.args.links.now (c.args.f + 1) c.is_flipped-2.ensures c.tell_flip.ensures)
+    (answered c.args.tables.now.links.now (c.args.f + 1) c.is_flipped-2.ensures c.tell_flip.ensures)

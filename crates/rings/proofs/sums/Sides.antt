@@ -36,8 +36,8 @@ module _ {n : Counts} {positions : List ℤ} {corners : List ℕ} (A : Summable 
   onto_use : d < n.vertices
   onto_use = A.corner (next h) (next_lt h n.triangles b)
 
-  in_range_lem : (j k : ℕ) → j < 3 * n.triangles → k < 3 → InRange (ahead positions corners j k)
-  in_range_lem j k l i =
+  ahead_in_range : (j k : ℕ) → j < 3 * n.triangles → k < 3 → InRange (ahead positions corners j k)
+  ahead_in_range j k l i =
       A.range (3 * get_or corners (next j) 0 + k) (omega (arith, A.corner (next j) (next_lt j n.triangles l)))
 
   -- Coordinate k of the sum with it.
@@ -50,8 +50,8 @@ module _ {n : Counts} {positions : List ℤ} {corners : List ℕ} (A : Summable 
       let c = S.counted o from_use in
       let e = one_out positions corners o h refl in
       record {
-        low = sum_low positions corners o (h + 1) k s (λ j l. in_range_lem j k (omega arith) i) 2147483648 (omega arith);
-        high = sum_high positions corners o (h + 1) k s (λ j l. in_range_lem j k (omega arith) i) 2147483647 (omega arith);
+        low = sum_low positions corners o (h + 1) k s (λ j l. ahead_in_range j k (omega arith) i) 2147483648 (omega arith);
+        high = sum_high positions corners o (h + 1) k s (λ j l. ahead_in_range j k (omega arith) i) 2147483647 (omega arith);
       }
 
   fits : SideFits positions o d lengths sums

@@ -1,5 +1,5 @@
 -- `sides::side_fits` meets its contract.
-use borrow.Author.Tests.{lt-ltb, le-ltb, eq-eqb, ne_eqb}
+use borrow.Author.Tests.{lt-ltb, ne_eqb}
 use Prim.Native.Nat.{ℕ, ◌*◌, ◌<◌}
 use native.Mathlib.Omega.{arith}
 use mathlib.Core.Bool.{Bool}
@@ -7,7 +7,6 @@ use mathlib.Core.Logic.{◌≢◌}
 use mathlib.Core.Path.{◌≡◌, refl}
 use Rattle.rules.specs.Tables.{Topology, sides, boundary, link}
 use Rattle.sides.specs.Parts.{partner_fits, link_fits}
-use Rattle.theory.proofs.Numbers.Answers.{never}
 use Rattle.sides.proofs.Starts.{kept_boundary, side_seen}
 use Rattle.sides.proofs.side_fits.Goals as goal
 
@@ -20,31 +19,15 @@ linked_by : (m : Topology) (h : ℕ) {r : Bool} → link m h < sides m → sides
 unfolding link_fits
 linked_by m h l f e = rw (ne_eqb _ _ (not_boundary _ _ l f), lt-ltb _ _ l, link_fits) e
 
-pub overflow_cast-k : goal.overflow_cast-k
-overflow_cast-k c =
-    omega (arith, c.type_inv.links c.args.h)
-
-pub returns-then-across : goal.returns-then-across
-unfolding link_fits
-returns-then-across c =
-    record {
-      value = rw (ne_eqb _ _ c.if-across.true, le-ltb _ _ c.if-triangles-k.true, link_fits);
-      all_kept_2 = never;
-    }
-
-pub returns-then-triangles-k : goal.returns-then-triangles-k
-unfolding link_fits
-returns-then-triangles-k c =
-    record {
-      value = rw (eq-eqb _ _ c.if-across.false, link_fits);
-      all_kept_2 = λ _. side_seen _ _ _ _ _ _ _ c.requires.all_kept c.requires.side_read.0.origin c.requires.side_read.1
-          (λ _. kept_boundary _ _ _ _ 0 refl c.if-across.false);
-    }
+pub returns-then-counts-k-clause-kept_after : goal.returns-then-counts-k-clause-kept_after
+returns-then-counts-k-clause-kept_after c = λ _.
+    side_seen _ _ _ _ _ _ _ c.requires.all_kept c.requires.side_read.0.origin c.requires.side_read.1
+    (λ _. kept_boundary _ _ _ _ 0 refl c.if-across.false)
 
 pub returns : goal.returns
 returns c =
-    let few : 3 * c.args.triangles < boundary = omega (arith, c.requires.room.0.few_slots, c.requires.room.0.triangle_room) in record {
-      value = linked_by _ _ c.if-triangles-k.false few (c.partner_fits.ensures _ _ _ c.requires.side_read.0);
-      all_kept_2 = λ _. side_seen _ _ _ _ _ _ _ c.requires.all_kept c.requires.side_read.0.origin c.requires.side_read.1
-          (c.first_kept.ensures _ _ (not_boundary _ _ c.if-triangles-k.false few));
+    let few : 3 * c.args.counts.triangles < boundary = omega (arith, c.requires.room.0.few_slots, c.requires.room.0.triangle_room) in record {
+      value = linked_by _ _ c.if-counts-k.false few (c.partner_fits.ensures c.args.counts _ c.requires.side_read.0);
+      kept_after = λ _. side_seen _ _ _ _ _ _ _ c.requires.all_kept c.requires.side_read.0.origin c.requires.side_read.1
+          (c.first_kept.ensures _ _ (not_boundary _ _ c.if-counts-k.false few));
     }

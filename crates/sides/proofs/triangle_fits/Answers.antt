@@ -1,16 +1,13 @@
 -- `sides::triangle_fits` meets its contract.
-use borrow.Author.Tests.{le-leb, lt-leb}
 use Prim.Native.Nat.{ℕ, ◌+◌, ◌*◌, ◌/◌, ◌%◌}
 use native.Mathlib.Omega.{arith}
-use mathlib.Core.Bool.{true}
+use mathlib.Core.Bool.{Bool, true}
 use mathlib.Core.List.{List}
 use mathlib.Core.Path.{◌≡◌, refl, sym, ap, ◌∙◌}
-use lib.Dec.{leb}
 use lib.ListN.{get_or}
 use Rattle.theory.proofs.Numbers.Decide.{when_true}
 use Rattle.rules.specs.Tables.{next}
-use Rattle.sides.specs.Parts.{SideRead, corners_fit, triangle_fits}
-use Rattle.theory.proofs.Numbers.Answers.{never}
+use Rattle.sides.specs.Parts.{SideRead, corners_fit}
 use Rattle.sides.proofs.Starts.{kept_at}
 use Rattle.sides.proofs.Corners.{CornersFit, corners_are}
 use Rattle.sides.proofs.triangle_fits.Goals as goal
@@ -34,67 +31,23 @@ module _ (c g : List ℕ) (t : ℕ) where
   read_c : SideRead c g (3 * t + 2) 2 (get_or g t 0) (get_or c (3 * t + 2) 0) (get_or c (3 * t) 0)
   read_c = read_at (3 * t + 2) (3 * t) 2 (omega arith) (omega arith) (omega arith)
 
-pub returns-then-g-gt20 : goal.returns-then-g-gt20
-unfolding triangle_fits
-returns-then-g-gt20 c =
-    record { value = rw (lt-leb _ _ c.if-g-gt20.true, triangle_fits); all_kept_2 = never }
-
-pub returns-then-not-corners_fit : goal.returns-then-not-corners_fit
-unfolding triangle_fits
-returns-then-not-corners_fit c =
-    let low = le-leb _ _ c.if-g-gt20.false in
-    record { value = rw (low, (sym c.corners_fit.ensures ∙ c.if-not-corners_fit.true), triangle_fits); all_kept_2 = never }
+-- Corners that pass the test.
+tested : (v a b c : ℕ) {r : Bool} → r ≡ corners_fit v a b c → r ≡ true → CornersFit v a b c
+tested v a b c e t = when_true (corners_are v a b c) (sym e ∙ t)
 
 pub side_fits-requires : goal.side_fits-requires
 side_fits-requires c =
-    let fit : corners_fit c.args.vertices (get_or c.args.corners.now (3 * c.args.t) 0) (get_or c.args.corners.now (3 * c.args.t + 1) 0) (get_or c.args.corners.now (3 * c.args.t + 2) 0)
-    ≡ true = sym c.corners_fit.ensures ∙ c.if-not-corners_fit.false in
-    let corners : CornersFit c.args.vertices (get_or c.args.corners.now (3 * c.args.t) 0) (get_or c.args.corners.now (3 * c.args.t + 1) 0) (get_or c.args.corners.now (3 * c.args.t + 2) 0) = when_true (corners_are _ _ _ _) fit in
+    let corners = tested _ _ _ _ c.corners_fit.ensures c.if-not-corners_fit.false in
     record { room = (c.requires.room.0, omega arith); side_read = (read_a _ _ _, corners.a_in_use, c.requires.room.2); all_kept = c.requires.all_kept }
-
-pub returns-then-not-side_fits : goal.returns-then-not-side_fits
-unfolding triangle_fits
-returns-then-not-side_fits c =
-    let low : leb (get_or c.args.generations.now c.args.t 0) 20 ≡ true = le-leb _ _ c.if-g-gt20.false in
-    let fit : corners_fit c.args.vertices (get_or c.args.corners.now (3 * c.args.t) 0) (get_or c.args.corners.now (3 * c.args.t + 1) 0) (get_or c.args.corners.now (3 * c.args.t + 2) 0)
-    ≡ true = sym c.corners_fit.ensures ∙ c.if-not-corners_fit.false in
-    let a = sym c.side_fits.ensures.value ∙ c.if-not-side_fits.true in
-    record { value = rw (low, fit, a, triangle_fits); all_kept_2 = never }
 
 pub side_fits-requires-2 : goal.side_fits-requires-2
 side_fits-requires-2 c =
-    let fit : corners_fit c.args.vertices (get_or c.args.corners.now (3 * c.args.t) 0) (get_or c.args.corners.now (3 * c.args.t + 1) 0) (get_or c.args.corners.now (3 * c.args.t + 2) 0)
-    ≡ true = sym c.corners_fit.ensures ∙ c.if-not-corners_fit.false in
-    let corners : CornersFit c.args.vertices (get_or c.args.corners.now (3 * c.args.t) 0) (get_or c.args.corners.now (3 * c.args.t + 1) 0) (get_or c.args.corners.now (3 * c.args.t + 2) 0) = when_true (corners_are _ _ _ _) fit in
-    let A = c.side_fits.ensures.all_kept_2 c.if-not-side_fits.false in
-    record { room = (c.requires.room.0, omega arith); side_read = (read_b _ _ _, corners.b_in_use, c.requires.room.2); all_kept = A }
-
-pub returns-then-not-side_fits-2 : goal.returns-then-not-side_fits-2
-unfolding triangle_fits
-returns-then-not-side_fits-2 c =
-    let low : leb (get_or c.args.generations.now c.args.t 0) 20 ≡ true = le-leb _ _ c.if-g-gt20.false in
-    let fit : corners_fit c.args.vertices (get_or c.args.corners.now (3 * c.args.t) 0) (get_or c.args.corners.now (3 * c.args.t + 1) 0) (get_or c.args.corners.now (3 * c.args.t + 2) 0)
-    ≡ true = sym c.corners_fit.ensures ∙ c.if-not-corners_fit.false in
-    let a = sym c.side_fits.ensures.value ∙ c.if-not-side_fits.false in
-    let b = sym c.side_fits-2.ensures.value ∙ c.if-not-side_fits-2.true in
-    record { value = rw (low, fit, a, b, triangle_fits); all_kept_2 = never }
+    let corners = tested _ _ _ _ c.corners_fit.ensures c.if-not-corners_fit.false in
+    let kept = c.side_fits.ensures.kept_after c.if-not-side_fits.false in
+    record { room = (c.requires.room.0, omega arith); side_read = (read_b _ _ _, corners.b_in_use, c.requires.room.2); all_kept = kept }
 
 pub side_fits-requires-3 : goal.side_fits-requires-3
 side_fits-requires-3 c =
-    let fit : corners_fit c.args.vertices (get_or c.args.corners.now (3 * c.args.t) 0) (get_or c.args.corners.now (3 * c.args.t + 1) 0) (get_or c.args.corners.now (3 * c.args.t + 2) 0)
-    ≡ true = sym c.corners_fit.ensures ∙ c.if-not-corners_fit.false in
-    let corners : CornersFit c.args.vertices (get_or c.args.corners.now (3 * c.args.t) 0) (get_or c.args.corners.now (3 * c.args.t + 1) 0) (get_or c.args.corners.now (3 * c.args.t + 2) 0) = when_true (corners_are _ _ _ _) fit in
-    let A = c.side_fits-2.ensures.all_kept_2 c.if-not-side_fits-2.false in
-    record { room = (c.requires.room.0, omega arith); side_read = (read_c _ _ _, corners.c_in_use, c.requires.room.2); all_kept = kept_at _ _ (omega arith) A }
-
-pub returns : goal.returns
-unfolding triangle_fits
-returns c =
-    let low : leb (get_or c.args.generations.now c.args.t 0) 20 ≡ true = le-leb _ _ c.if-g-gt20.false in
-    let fit : corners_fit c.args.vertices (get_or c.args.corners.now (3 * c.args.t) 0) (get_or c.args.corners.now (3 * c.args.t + 1) 0) (get_or c.args.corners.now (3 * c.args.t + 2) 0)
-    ≡ true = sym c.corners_fit.ensures ∙ c.if-not-corners_fit.false in
-    let a = sym c.side_fits.ensures.value ∙ c.if-not-side_fits.false in
-    let b = sym c.side_fits-2.ensures.value ∙ c.if-not-side_fits-2.false in record {
-      value = rw (low, fit, a, b, triangle_fits) c.side_fits-3.ensures.value;
-      all_kept_2 = λ e. kept_at _ _ (omega arith) (c.side_fits-3.ensures.all_kept_2 e);
-    }
+    let corners = tested _ _ _ _ c.corners_fit.ensures c.if-not-corners_fit.false in
+    let kept = c.side_fits-2.ensures.kept_after c.if-not-side_fits-2.false in
+    record { room = (c.requires.room.0, omega arith); side_read = (read_c _ _ _, corners.c_in_use, c.requires.room.2); all_kept = kept_at _ _ (omega arith) kept }

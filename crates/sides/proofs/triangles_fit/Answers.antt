@@ -1,9 +1,10 @@
 -- `sides::triangles_fit` meets its contract.
 use native.Mathlib.Omega.{arith}
-use mathlib.Core.Path.{◌≡◌, refl, sym, ◌∙◌}
+use mathlib.Core.Path.{refl, sym, ◌∙◌}
 use Rattle.theory.proofs.Numbers.Decide.{all_more, all_fails}
 use Rattle.rules.specs.Below.{all}
-use Rattle.rules.specs.Tables.{Topology, topology_of}
+use Rattle.tables.specs.Lent.{seen, topology_with}
+use Rattle.rules.specs.Tables.{Topology}
 use Rattle.sides.specs.Parts.{triangle_fits}
 use Rattle.theory.proofs.Numbers.Answers.{never}
 use Rattle.sides.proofs.Starts.{none_seen, kept_at}
@@ -12,45 +13,17 @@ use Rattle.sides.proofs.triangles_fit.Goals as goal
 pub loop-t-init : goal.loop-t-init
 unfolding all
 loop-t-init c =
-    (omega arith, refl, refl, none_seen _ _ _ _ c.requires.zeroed)
-
-pub triangle_fits-requires : goal.triangle_fits-requires
-triangle_fits-requires c =
-    record { room = (c.requires.room.0, c.loop-t-test.true, c.requires.room.1); all_kept = c.loop-t.invariant.3 }
-
-pub shape_of-starts-then-not-triangle_fits : goal.shape_of-starts-then-not-triangle_fits
-shape_of-starts-then-not-triangle_fits c =
-    omega arith
+    (refl, none_seen _ _ _ _ c.requires.zeroed)
 
 pub returns-then-not-triangle_fits : goal.returns-then-not-triangle_fits
 returns-then-not-triangle_fits c =
-    let topology : Topology = topology_of c.args.vertices c.args.triangles c.args.corners.now c.args.links.now c.args.generations.now in
+    let topology : Topology = topology_with c.args.counts (seen c.args.view.now) in
     let one = sym c.triangle_fits.ensures.value ∙ c.if-not-triangle_fits.true in
     record { value = sym (all_fails _ _ (triangle_fits topology) c.loop-t-test.true one); all_kept = never }
 
-pub overflow_add-t : goal.overflow_add-t
-overflow_add-t c =
-    omega arith
-
-pub loop-t-smaller : goal.loop-t-smaller
-loop-t-smaller c =
-    omega arith
-
 pub loop-t-preserved : goal.loop-t-preserved
 loop-t-preserved c =
-    let topology : Topology = topology_of c.args.vertices c.args.triangles c.args.corners.now c.args.links.now c.args.generations.now in (
-      omega arith,
-      omega arith,
-      all_more _ (triangle_fits topology) c.loop-t.invariant.2 (sym c.triangle_fits.ensures.value ∙ c.if-not-triangle_fits.false),
-      kept_at _ _ (omega arith) (c.triangle_fits.ensures.all_kept_2 c.if-not-triangle_fits.false),
+    let topology : Topology = topology_with c.args.counts (seen c.args.view.now) in (
+      all_more _ (triangle_fits topology) c.loop-t.invariant.0 (sym c.triangle_fits.ensures.value ∙ c.if-not-triangle_fits.false),
+      kept_at _ _ (omega arith) (c.triangle_fits.ensures.kept_after c.if-not-triangle_fits.false),
     )
-
-pub shape_of-starts : goal.shape_of-starts
-shape_of-starts c =
-    c.loop-t.invariant.1
-
-pub returns : goal.returns
-returns c =
-    let topology : Topology = topology_of c.args.vertices c.args.triangles c.args.corners.now c.args.links.now c.args.generations.now in
-    let e : c.loop-t.t ≡ topology.triangles = omega arith in
-    record { value = sym (rw e at c.loop-t.invariant.2); all_kept = λ _. rw e at c.loop-t.invariant.3 }

@@ -1,19 +1,13 @@
-use Prim.Native.Nat.{◌-◌, ◌*◌, ◌≤◌}
+use Prim.Native.Nat.{◌*◌}
 use mathlib.Core.Bool.{true}
 use mathlib.Core.Path.{◌≡◌}
-use lib.ListN.{length}
 use Rattle.rules.specs.Below.{all}
-use Rattle.rules.specs.Tables.{topology_of}
+use Rattle.tables.specs.Lent.{seen, topology_with}
 use Rattle.sides.specs.Parts.{triangle_fits}
 use Rattle.sides.specs.Starts.{AllKept}
 use Rattle.sides.proofs.triangles_fit.Given as goal
 
 abbrev pub invariant-loop-t : goal.invariant-loop-t
 invariant-loop-t l =
-    (l.t ≤ l.triangles) × (length l.starts ≡ length l.initial.starts)
-    × (all l.t (triangle_fits (topology_of l.vertices l.triangles l.corners l.links l.generations)) ≡ true)
-    × AllKept l.vertices l.corners l.links (3 * l.t) l.starts
-
-abbrev pub decreases-loop-t : goal.decreases-loop-t
-decreases-loop-t l =
-    l.triangles - l.t
+    (all l.t (triangle_fits (topology_with l.counts (seen l.view))) ≡ true)
+    × AllKept l.counts.vertices l.view.corners.now l.view.links.now (3 * l.t) l.starts

@@ -5,7 +5,7 @@ use native.Mathlib.Omega.{arith}
 use mathlib.Core.Path.{◌≡◌, sym, ◌∙◌, ap}
 use lib.ListN.{length, length-set}
 use Rattle.rules.specs.Tables.{Topology}
-use Rattle.tables.specs.Lent.{topology_now}
+use Rattle.tables.specs.Lent.{seen, topology_with}
 use Rattle.split.proofs.Walk.{Walking, walk_begins, walk_ends, walk_more, walk_even}
 use Rattle.split.proofs.Walk.{walk_boundary, walk_on, Walked, walk_tells}
 use Rattle.split.proofs.base_chain.Goals as goal
@@ -13,7 +13,7 @@ use Rattle.split.proofs.base_chain.Goals.{else-loop-steps-test, then-loop-steps-
 
 pub loop-steps-init : goal.loop-steps-init
 loop-steps-init c =
-    (λ n corners. rw c.generation_at-steps.ensures (walk_begins _), search rules, search rules)
+    (λ n. rw c.generation_at-steps.ensures (walk_begins _), search rules, search rules)
 
 -- An odd triangle's generation, as it was read.
 odd_read : (g r : ℕ) → r ≡ g → (r % 2 ≡ 0 → ⊥) → g % 2 ≡ 1
@@ -21,9 +21,9 @@ odd_read g r e n = rw (← e) (omega (arith, n))
 
 pub loop-steps-preserved : goal.loop-steps-preserved
 loop-steps-preserved c = (
-  λ n corners.
+  λ n.
       rw c.base_link-across.ensures
-      (walk_on _ (walk_more c.loop-steps.steps c.loop-steps-test.true (c.loop-steps.invariant.0 n corners))
+      (walk_on _ (walk_more c.loop-steps.steps c.loop-steps-test.true (c.loop-steps.invariant.0 n))
       (odd_read _ _ c.generation_at.ensures c.if-generation_at-eq0.false) (omega arith)
       (λ e. c.if-across.false (c.base_link-across.ensures ∙ e))),
   omega arith,
@@ -31,10 +31,10 @@ loop-steps-preserved c = (
 )
 
 pub returns : goal.returns
-returns c n corners =
-    let m : Topology = topology_now n corners c.args.links.now c.args.generations.now in
+returns c n =
+    let m : Topology = topology_with n (seen c.args.view.now) in
     let walking : Walking m c.args.t c.loop-steps.odd c.loop-steps.end c.loop-steps.steps c.loop-steps.slots =
-    c.loop-steps.invariant.0 n corners in
+    c.loop-steps.invariant.0 n in
     -- past the loop: by its test, or by one of its two breaks
     let walked : Walked m c.args.t c.loop-steps-test.odd c.loop-steps.end c.loop-steps-test.slots =
     elim c.loop-steps-test.branch [

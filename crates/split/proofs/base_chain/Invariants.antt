@@ -1,15 +1,14 @@
-use Prim.Native.Nat.{ℕ, ◌+◌, ◌≤◌}
-use mathlib.Core.List.{List}
+use Prim.Native.Nat.{◌+◌, ◌≤◌}
 use mathlib.Core.Path.{◌≡◌}
 use lib.ListN.{length}
 use Rattle.tables.specs.declared.Counts.{Counts}
-use Rattle.tables.specs.Lent.{topology_now}
+use Rattle.tables.specs.Lent.{seen, topology_with}
 use Rattle.split.proofs.Walk.{Walking}
 use Rattle.split.proofs.base_chain.Given as goal
 
 abbrev pub invariant-loop-steps : goal.invariant-loop-steps
 invariant-loop-steps l =
-    ((n : Counts) (corners : List ℕ) → Walking (topology_now n corners l.links l.generations) l.t l.odd l.end l.steps l.slots)
+    ((n : Counts) → Walking (topology_with n (seen l.view)) l.t l.odd l.end l.steps l.slots)
     × (l.odd + l.steps ≤ 20) × (length l.slots ≡ 20)
 
 abbrev pub decreases-loop-steps : goal.decreases-loop-steps

@@ -14,15 +14,15 @@ flipped-pair-requires c =
 
 pub store-requires : goal.store-requires
 store-requires c =
-    omega (arith, c.requires, c.relink.auto, c.relink-2.auto)
+    omega (arith, c.requires, c.relink.ensures.rest, c.relink-2.ensures.rest)
 
 pub store-requires-2 : goal.store-requires-2
 store-requires-2 c =
-    omega (arith, c.requires, c.relink.auto, c.relink-2.auto, c.store.auto)
+    omega (arith, c.requires, c.relink.ensures.rest, c.relink-2.ensures.rest, c.store.ensures.rest)
 
-pub returns : goal.returns
-returns c n =
+pub returns-clause-flipped : goal.returns-clause-flipped
+returns-clause-flipped c n =
     flip_steps _ _ _ _ _ _ _ _ _ _ _ (c.triangle_at-x.ensures n)
     (c.triangle_at-y.ensures n) c.flipped-pair.ensures
-    (c.relink.ensures n _ _) (c.relink-2.ensures n _ _)
-    (c.store.ensures n) (c.store-2.ensures n)
+    (c.relink.ensures.linked n) (c.relink-2.ensures.linked n)
+    (c.store.ensures.stored n) (c.store-2.ensures.stored n)

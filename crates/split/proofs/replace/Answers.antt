@@ -1,6 +1,6 @@
 -- `split::replace` meets its contract.
 use native.Mathlib.Omega.{arith}
-use Rattle.tables.specs.Lent.{topology_now}
+use Rattle.tables.specs.Lent.{held, topology_with}
 use Rattle.split.proofs.Steps.{replace_steps}
 use Rattle.split.proofs.replace.Goals as goal
 
@@ -9,16 +9,15 @@ store-requires-3 c =
     omega (
       arith,
       c.requires,
-      c.relink.auto,
-      c.relink-2.auto,
-      c.store.auto,
-      c.store-2.auto,
+      c.relink.ensures.rest,
+      c.relink-2.ensures.rest,
+      c.store.ensures.rest,
+      c.store-2.ensures.rest,
     )
 
-pub returns : goal.returns
-returns c n =
-    let m = topology_now n c.args.corners.now c.args.links.now c.args.generations.now in
+pub returns-clause-replaced : goal.returns-clause-replaced
+returns-clause-replaced c n =
+    let m = topology_with n (held c.args.tables.now) in
     replace_steps c.args.t c.args.f c.args.to_1 c.args.to_2 m _ _ _ _ _ c.args.x c.args.three
-    (c.relink.ensures n c.args.corners.now c.args.generations.now)
-    (c.relink-2.ensures n c.args.corners.now c.args.generations.now)
-    (c.store.ensures n) (c.store-2.ensures n) (c.store-3.ensures n)
+    (c.relink.ensures.linked n) (c.relink-2.ensures.linked n)
+    (c.store.ensures.stored n) (c.store-2.ensures.stored n) (c.store-3.ensures.stored n)

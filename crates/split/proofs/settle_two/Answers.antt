@@ -10,11 +10,11 @@ pub settle-requires : goal.settle-requires
 settle-requires c =
     let low =
     settle_low c.args.t c.args.e 22 _ _ (omega (arith, c.requires)) (omega (arith, c.requires))
-    (c.settle-one.ensures 0 [] [] []).1 in
-    omega (arith, c.requires, c.settle-one.auto, low)
+    (c.settle-one.ensures.settled 0 []).1 in
+    omega (arith, c.requires, c.settle-one.ensures.lent, low)
 
-pub returns : goal.returns
-returns c rule positions locks report =
-    let (k, one) = c.settle-one.ensures rule positions locks report in
-    let (more, two) = c.settle.ensures rule positions locks k in
+pub returns-clause-settled : goal.returns-clause-settled
+returns-clause-settled c rule report =
+    let (k, one) = c.settle-one.ensures.settled rule report in
+    let (more, two) = c.settle.ensures.settled rule k in
     (more, two ∙ ap (rules.settle c.args.e) one)

@@ -6,20 +6,20 @@ use Rattle.split.proofs.split_at.Goals as goal
 
 pub settle_three-requires : goal.settle_three-requires
 settle_three-requires c =
-    omega (arith, c.requires, (c.face_cut-cut.ensures 0 []).1, c.face_cut-cut.auto)
+    omega (arith, c.requires, (c.face_cut-cut.ensures.cut 0 []).1, c.face_cut-cut.ensures.lent)
 
 pub settle_two-requires : goal.settle_two-requires
 settle_two-requires c =
-    omega (arith, c.requires, (c.rim_cut-cut.ensures 0 []).1, c.rim_cut-cut.auto)
+    omega (arith, c.requires, (c.rim_cut-cut.ensures.cut 0 []).1, c.rim_cut-cut.ensures.lent)
 
-pub returns-then-generation_at-eq0 : goal.returns-then-generation_at-eq0
-returns-then-generation_at-eq0 c rule report =
-    let (k, H) = c.face_cut-cut.ensures rule report in
-    let (more, e) = c.settle_three.ensures rule _ _ k in
+pub returns-then-generation_at-eq0-clause-split : goal.returns-then-generation_at-eq0-clause-split
+returns-then-generation_at-eq0-clause-split c rule report =
+    let (k, H) = c.face_cut-cut.ensures.cut rule report in
+    let (more, e) = c.settle_three.ensures.settled rule k in
     (more, e ∙ H.settled)
 
-pub returns-else-generation_at-eq0 : goal.returns-else-generation_at-eq0
-returns-else-generation_at-eq0 c rule report =
-    let (k, H) = c.rim_cut-cut.ensures rule report in
-    let (more, e) = c.settle_two.ensures rule _ _ k in
+pub returns-else-generation_at-eq0-clause-split : goal.returns-else-generation_at-eq0-clause-split
+returns-else-generation_at-eq0-clause-split c rule report =
+    let (k, H) = c.rim_cut-cut.ensures.cut rule report in
+    let (more, e) = c.settle_two.ensures.settled rule k in
     (more, e ∙ H.settled)

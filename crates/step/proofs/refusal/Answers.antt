@@ -1,19 +1,21 @@
 -- `step::refusal` meets its contract.
 use borrow.Author.Tests.{eq-eqb, ne_eqb}
 use native.Mathlib.Omega.{arith}
-use mathlib.Core.Bool.{true, false, not}
+use mathlib.Core.Bool.{Bool, not}
 use mathlib.Core.Path.{◌≡◌, refl, sym, ◌∙◌, ap}
-use Prim.Native.Nat.{◌*◌}
+use Prim.Native.Nat.{◌+◌, ◌*◌}
 use native.Mathlib.Nat.{add-zero}
-use lib.Dec.{eqb}
 use Rattle.theory.proofs.Steps.StepRefusals.{step_by_tests}
-use Rattle.rules.specs.Calls.{closed_even, long_ring, some_locked, room_for}
-use Rattle.rules.specs.Sound.{Sound}
-use Rattle.rules.specs.Tables.{Mesh, generation}
-use Rattle.tables.specs.Lent.{mesh_now}
-use Rattle.rings.specs.Sums.{Closed}
+use Rattle.rules.specs.Calls.{room_for}
+use Rattle.rules.specs.Tables.{Mesh}
 use Rattle.moving.proofs.Deciding.{closed_of, rings_tell}
+use Rattle.tables.specs.Lent.{seen, mesh_with}
 use Rattle.step.proofs.refusal.Goals as goal
+
+-- Room for a vertex and two triangles more for each triangle.
+room_told : (m : Mesh) {r : Bool} → r ≡ room_for (m.topology.triangles + 0) (2 * m.topology.triangles) m
+    → r ≡ room_for m.topology.triangles (2 * m.topology.triangles) m
+room_told m e = e ∙ ap (λ v. room_for v (2 * m.topology.triangles) m) (add-zero m.topology.triangles)
 
 pub returns-then-not-closed_even : goal.returns-then-not-closed_even
 returns-then-not-closed_even c = (
@@ -21,106 +23,60 @@ returns-then-not-closed_even c = (
   λ e. absurd (omega arith),
 )
 
-pub closed_even-requires : goal.closed_even-requires
-closed_even-requires c =
-    omega (arith, c.requires.0.tables.links, c.requires.0.tables.few_triangles, c.requires.0.triangle_room)
-
-pub bounds-generations-0 : goal.bounds-generations-0
-bounds-generations-0 c =
-    let mesh : Mesh = mesh_now c.args.counts c.args.positions.now c.args.corners.now c.args.links.now c.args.generations.now
-    c.args.locks.now in
-    let sound : Sound mesh = c.requires.0 in
-    let S = sound in omega (arith, S.some_triangle, S.triangle_room)
-
-pub returns-then-generations-eq20 : goal.returns-then-generations-eq20
-returns-then-generations-eq20 c =
-    let mesh : Mesh = mesh_now c.args.counts c.args.positions.now c.args.corners.now c.args.links.now c.args.generations.now
-    c.args.locks.now in
-    let sound : Sound mesh = c.requires.0 in
-    let even : closed_even mesh.topology ≡ true = sym (c.closed_even.ensures _ _) ∙ c.if-not-closed_even.false in
-    (step_by_tests sound even (eq-eqb _ _ c.if-generations-eq20.true) refl refl refl, λ e. absurd (omega arith))
+pub returns-then-view-eq20 : goal.returns-then-view-eq20
+returns-then-view-eq20 c =
+    let even = sym (c.closed_even.ensures c.args.counts.vertices c.args.view.now.corners.now) ∙ c.if-not-closed_even.false in
+    (step_by_tests c.requires.0 even (eq-eqb _ _ c.if-view-eq20.true) refl refl refl, λ e. absurd (omega arith))
 
 pub ring_sums-requires : goal.ring_sums-requires
 ring_sums-requires c =
-    let mesh : Mesh = mesh_now c.args.counts c.args.positions.now c.args.corners.now c.args.links.now c.args.generations.now
-    c.args.locks.now in
-    let sound : Sound mesh = c.requires.0 in
-    let even : closed_even mesh.topology ≡ true = sym (c.closed_even.ensures _ _) ∙ c.if-not-closed_even.false in
-    let closed : Closed mesh = closed_of sound even in
-    record { by_index = (_, _, _, closed); cleared = c.requires.1 }
+    let even = sym (c.closed_even.ensures c.args.counts.vertices c.args.view.now.corners.now) ∙ c.if-not-closed_even.false in
+    record { by_index = (_, _, _, closed_of c.requires.0 even); cleared = c.requires.1 }
 
 pub returns-then-not-ring_sums : goal.returns-then-not-ring_sums
 returns-then-not-ring_sums c =
-    let mesh : Mesh = mesh_now c.args.counts c.args.positions.now c.args.corners.now c.args.links.now c.args.generations.now
-    c.args.locks.now in
-    let sound : Sound mesh = c.requires.0 in
-    let even : closed_even mesh.topology ≡ true = sym (c.closed_even.ensures _ _) ∙ c.if-not-closed_even.false in
-    let young : eqb (generation mesh.topology 0) 20 ≡ false = ne_eqb _ _ c.if-generations-eq20.false in
-    let closed : Closed mesh = closed_of sound even in
-    let rings_told : not c.ring_sums.result ≡ long_ring mesh.topology = rings_tell _ (c.ring_sums.ensures _ _ _ closed) in (
-      step_by_tests sound even young (sym rings_told ∙ ap not c.if-not-ring_sums.true) refl
-          refl,
+    let even = sym (c.closed_even.ensures c.args.counts.vertices c.args.view.now.corners.now) ∙ c.if-not-closed_even.false in
+    let rings = c.ring_sums.ensures c.args.view.now.links.now c.args.view.now.generations.now c.args.view.now.locks.now (closed_of c.requires.0 even) in (
+      step_by_tests c.requires.0 even (ne_eqb _ _ c.if-view-eq20.false)
+          (sym (rings_tell _ rings) ∙ ap not c.if-not-ring_sums.true) refl refl,
       λ e. absurd (omega arith),
     )
 
-pub some_locked-requires : goal.some_locked-requires
-some_locked-requires c =
-    let mesh : Mesh = mesh_now c.args.counts c.args.positions.now c.args.corners.now c.args.links.now c.args.generations.now
-    c.args.locks.now in
-    let sound : Sound mesh = c.requires.0 in
-    let S = sound in
-    omega (arith, S.tables.locks, S.triangle_room)
-
 pub returns-then-some_locked : goal.returns-then-some_locked
 returns-then-some_locked c =
-    let mesh : Mesh = mesh_now c.args.counts c.args.positions.now c.args.corners.now c.args.links.now c.args.generations.now
-    c.args.locks.now in
-    let sound : Sound mesh = c.requires.0 in
-    let even : closed_even mesh.topology ≡ true = sym (c.closed_even.ensures _ _) ∙ c.if-not-closed_even.false in
-    let young : eqb (generation mesh.topology 0) 20 ≡ false = ne_eqb _ _ c.if-generations-eq20.false in
-    let closed : Closed mesh = closed_of sound even in
-    let rings_told : not c.ring_sums.result ≡ long_ring mesh.topology = rings_tell _ (c.ring_sums.ensures _ _ _ closed) in
-    let locks_told : c.some_locked.result ≡ some_locked mesh = c.some_locked.ensures _ _ _ _ _ _ in (
-      step_by_tests sound even young
-          (sym rings_told ∙ ap not c.if-not-ring_sums.false) (sym locks_told ∙ c.if-some_locked.true) refl,
+    let even = sym (c.closed_even.ensures c.args.counts.vertices c.args.view.now.corners.now) ∙ c.if-not-closed_even.false in
+    let rings = c.ring_sums.ensures c.args.view.now.links.now c.args.view.now.generations.now c.args.view.now.locks.now (closed_of c.requires.0 even) in
+    let locks = c.some_locked.ensures c.args.counts.vertices c.args.counts.rule c.args.view.now.positions.now c.args.view.now.corners.now
+    c.args.view.now.links.now c.args.view.now.generations.now in (
+      step_by_tests c.requires.0 even (ne_eqb _ _ c.if-view-eq20.false)
+          (sym (rings_tell _ rings) ∙ ap not c.if-not-ring_sums.false) (sym locks ∙ c.if-some_locked.true) refl,
       λ e. absurd (omega arith),
     )
 
 pub returns-then-not-has_room : goal.returns-then-not-has_room
 returns-then-not-has_room c =
-    let mesh : Mesh = mesh_now c.args.counts c.args.positions.now c.args.corners.now c.args.links.now c.args.generations.now
-    c.args.locks.now in
-    let sound : Sound mesh = c.requires.0 in
-    let even : closed_even mesh.topology ≡ true = sym (c.closed_even.ensures _ _) ∙ c.if-not-closed_even.false in
-    let young : eqb (generation mesh.topology 0) 20 ≡ false = ne_eqb _ _ c.if-generations-eq20.false in
-    let closed : Closed mesh = closed_of sound even in
-    let rings_told : not c.ring_sums.result ≡ long_ring mesh.topology = rings_tell _ (c.ring_sums.ensures _ _ _ closed) in
-    let locks_told : c.some_locked.result ≡ some_locked mesh = c.some_locked.ensures _ _ _ _ _ _ in
-    let tested : Mesh = mesh in
-    let room_told : c.has_room.result ≡ room_for tested.topology.triangles (2 * tested.topology.triangles) tested = let f = tested.topology.triangles in
-    c.has_room.ensures tested.topology.corners tested.topology.links tested.locks
-    ∙ ap (λ v. room_for v (2 * f) tested) (add-zero f) in (
-      step_by_tests sound even young
-          (sym rings_told ∙ ap not c.if-not-ring_sums.false) (sym locks_told ∙ c.if-some_locked.false)
-          (sym room_told ∙ c.if-not-has_room.true),
+    let even = sym (c.closed_even.ensures c.args.counts.vertices c.args.view.now.corners.now) ∙ c.if-not-closed_even.false in
+    let rings = c.ring_sums.ensures c.args.view.now.links.now c.args.view.now.generations.now c.args.view.now.locks.now (closed_of c.requires.0 even) in
+    let locks = c.some_locked.ensures c.args.counts.vertices c.args.counts.rule c.args.view.now.positions.now c.args.view.now.corners.now
+    c.args.view.now.links.now c.args.view.now.generations.now in
+    let m : Mesh = mesh_with c.args.counts (seen c.args.view.now) in
+    let room = room_told m c.has_room.ensures in (
+      step_by_tests c.requires.0 even (ne_eqb _ _ c.if-view-eq20.false)
+          (sym (rings_tell _ rings) ∙ ap not c.if-not-ring_sums.false) (sym locks ∙ c.if-some_locked.false)
+          (sym room ∙ c.if-not-has_room.true),
       λ e. absurd (omega arith),
     )
 
 pub returns : goal.returns
 returns c =
-    let mesh : Mesh = mesh_now c.args.counts c.args.positions.now c.args.corners.now c.args.links.now c.args.generations.now
-    c.args.locks.now in
-    let sound : Sound mesh = c.requires.0 in
-    let even : closed_even mesh.topology ≡ true = sym (c.closed_even.ensures _ _) ∙ c.if-not-closed_even.false in
-    let young : eqb (generation mesh.topology 0) 20 ≡ false = ne_eqb _ _ c.if-generations-eq20.false in
-    let closed : Closed mesh = closed_of sound even in
-    let rings_told : not c.ring_sums.result ≡ long_ring mesh.topology = rings_tell _ (c.ring_sums.ensures _ _ _ closed) in
-    let locks_told : c.some_locked.result ≡ some_locked mesh = c.some_locked.ensures _ _ _ _ _ _ in
-    let tested : Mesh = mesh in
-    let room_told : c.has_room.result ≡ room_for tested.topology.triangles (2 * tested.topology.triangles) tested = let f = tested.topology.triangles in
-    c.has_room.ensures tested.topology.corners tested.topology.links tested.locks
-    ∙ ap (λ v. room_for v (2 * f) tested) (add-zero f) in (
-      step_by_tests sound even young (sym rings_told ∙ ap not c.if-not-ring_sums.false)
-          (sym locks_told ∙ c.if-some_locked.false) (sym room_told ∙ c.if-not-has_room.false),
-      λ e. (c.ring_sums.ensures _ _ _ closed).whole c.if-not-ring_sums.false,
+    let even = sym (c.closed_even.ensures c.args.counts.vertices c.args.view.now.corners.now) ∙ c.if-not-closed_even.false in
+    let rings = c.ring_sums.ensures c.args.view.now.links.now c.args.view.now.generations.now c.args.view.now.locks.now (closed_of c.requires.0 even) in
+    let locks = c.some_locked.ensures c.args.counts.vertices c.args.counts.rule c.args.view.now.positions.now c.args.view.now.corners.now
+    c.args.view.now.links.now c.args.view.now.generations.now in
+    let m : Mesh = mesh_with c.args.counts (seen c.args.view.now) in
+    let room = room_told m c.has_room.ensures in (
+      step_by_tests c.requires.0 even (ne_eqb _ _ c.if-view-eq20.false)
+          (sym (rings_tell _ rings) ∙ ap not c.if-not-ring_sums.false) (sym locks ∙ c.if-some_locked.false)
+          (sym room ∙ c.if-not-has_room.false),
+      λ e. rings.whole c.if-not-ring_sums.false,
     )

@@ -1,6 +1,5 @@
 -- `step::split_all` meets its contract: what it writes is the closed form.
 use Prim.Native.Nat.{ℕ, ◌+◌, ◌*◌}
-use native.Mathlib.Omega.{arith}
 use mathlib.Core.List.{List}
 use mathlib.Core.Path.{◌≡◌, refl}
 use lib.IntN.{ℤ}
@@ -9,7 +8,7 @@ use Rattle.theory.proofs.Steps.Children.{child_of}
 use Rattle.theory.proofs.Steps.Closed.{child_corners, child_links, with_centres, unlocked_new, closed_step}
 use Rattle.rules.specs.Below.{fill}
 use Rattle.rules.specs.Tables.{Mesh, topology_of, mesh_of, sides, generation}
-use Rattle.tables.specs.Lent.{mesh_now}
+use Rattle.tables.specs.Lent.{held, mesh_with}
 use Rattle.step.proofs.split_all.Goals as goal
 
 closed_of : (m : Mesh) {positions : List ℤ} {corners links generations locks : List ℕ} →
@@ -25,13 +24,9 @@ closed_of : (m : Mesh) {positions : List ℤ} {corners links generations locks :
 unfolding closed_step
 closed_of m ep ec el eg ek = rw (ep, ec, el, eg, ek) refl
 
-pub overflow_add-g : goal.overflow_add-g
-overflow_add-g c =
-    omega (arith, c.requires.sound.generations 0 c.requires.sound.some_triangle)
-
-pub returns : goal.returns
-returns c =
-    let children = c.write_all.ensures c.args.generations.now in
-    closed_of (mesh_now c.args.counts c.args.positions.now c.args.corners.now c.args.links.now c.args.generations.now c.args.locks.now)
-    (c.place_centres.ensures c.args.links.now c.args.generations.now c.args.locks.now) children.0 children.1 c.set_generations.ensures
+pub returns-clause-split : goal.returns-clause-split
+returns-clause-split c =
+    let children = c.write_all.ensures c.args.tables.now.generations.now in
+    closed_of (mesh_with c.args.counts (held c.args.tables.now))
+    (c.place_centres.ensures c.args.tables.now.links.now c.args.tables.now.generations.now c.args.tables.now.locks.now) children.0 children.1 c.set_generations.ensures
     c.unlock_new.ensures

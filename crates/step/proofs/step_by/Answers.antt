@@ -1,77 +1,29 @@
--- `step::step_by` meets its contract.
-use native.Mathlib.Omega.{arith}
-use mathlib.Core.Path.{sym, ◌∙◌}
+-- `step::step_by` meets its contract: what is refused on the view is refused on the tables.
+use mathlib.Core.Path.{sym, ap, ◌∙◌, refl, subst}
 use Rattle.theory.proofs.Calls.Carried.{step_found}
 use Rattle.theory.proofs.Steps.StepRefusals.{step_refused, step_carried}
+use Rattle.rules.specs.Calls.{whole_step_refusal}
+use Rattle.rules.specs.Spares.{Spares}
+use Rattle.rings.specs.Sums.{RingSums}
+use Rattle.tables.specs.Lent.{mesh_with}
+use Rattle.tables.proofs.Refusing.{number_some}
 use Rattle.step.proofs.step_by.Goals as goal
 
-pub shape_of-positions-then-refusal-ne0 : goal.shape_of-positions-then-refusal-ne0
-shape_of-positions-then-refusal-ne0 c =
-    omega (arith, c.refusal-refusal.auto)
-
-pub shape_of-corners-then-refusal-ne0 : goal.shape_of-corners-then-refusal-ne0
-shape_of-corners-then-refusal-ne0 c =
-    omega (arith, c.refusal-refusal.auto)
-
-pub shape_of-links-then-refusal-ne0 : goal.shape_of-links-then-refusal-ne0
-shape_of-links-then-refusal-ne0 c =
-    omega (arith, c.refusal-refusal.auto)
-
-pub shape_of-generations-then-refusal-ne0 : goal.shape_of-generations-then-refusal-ne0
-shape_of-generations-then-refusal-ne0 c =
-    omega (arith, c.refusal-refusal.auto)
-
-pub shape_of-locks-then-refusal-ne0 : goal.shape_of-locks-then-refusal-ne0
-shape_of-locks-then-refusal-ne0 c =
-    omega (arith, c.refusal-refusal.auto)
-
-pub shape_of-lengths-then-refusal-ne0 : goal.shape_of-lengths-then-refusal-ne0
-shape_of-lengths-then-refusal-ne0 c =
-    omega (arith, c.refusal-refusal.auto)
-
-pub shape_of-sums-then-refusal-ne0 : goal.shape_of-sums-then-refusal-ne0
-shape_of-sums-then-refusal-ne0 c =
-    omega (arith, c.refusal-refusal.auto)
-
-pub returns-then-refusal-ne0 : goal.returns-then-refusal-ne0
-returns-then-refusal-ne0 c =
-    step_refused _ _ c.refusal-refusal.ensures.0 c.if-refusal-ne0.true
-
 pub whole_step-requires : goal.whole_step-requires
-whole_step-requires c = (
-  step_found _ (sym c.refusal-refusal.ensures.0 ∙ c.if-refusal-ne0.false),
-  c.refusal-refusal.ensures.1 c.if-refusal-ne0.false,
-)
+whole_step-requires c =
+    let same = ap (λ (s : Spares). whole_step_refusal (mesh_with c.args.counts s)) c.view.ensures.same in
+    let P : Spares → Type 0 = λ s. RingSums (mesh_with c.args.counts s) c.refusal.new.lengths c.refusal.new.sums in
+    let told = c.in-Ok.ensures in
+    (step_found _ (sym (told.0 ∙ same)), subst P c.view.ensures.same (told.1 refl))
 
-pub shape_of-positions : goal.shape_of-positions
-shape_of-positions c =
-    omega (arith, c.whole_step.auto, c.refusal-refusal.auto)
+pub returns-in-Err-clause-stepped : goal.returns-in-Err-clause-stepped
+returns-in-Err-clause-stepped c =
+    let same = ap (λ (s : Spares). whole_step_refusal (mesh_with c.args.counts s)) c.view.ensures.same in
+    let told = c.in-Err.ensures in
+    rw c.refused.ensures (step_refused _ _ (told.0 ∙ same) (number_some c.in-Err.refusal))
 
-pub shape_of-corners : goal.shape_of-corners
-shape_of-corners c =
-    omega (arith, c.whole_step.auto, c.refusal-refusal.auto)
-
-pub shape_of-links : goal.shape_of-links
-shape_of-links c =
-    omega (arith, c.whole_step.auto, c.refusal-refusal.auto)
-
-pub shape_of-generations : goal.shape_of-generations
-shape_of-generations c =
-    omega (arith, c.whole_step.auto, c.refusal-refusal.auto)
-
-pub shape_of-locks : goal.shape_of-locks
-shape_of-locks c =
-    omega (arith, c.whole_step.auto, c.refusal-refusal.auto)
-
-pub shape_of-lengths : goal.shape_of-lengths
-shape_of-lengths c =
-    omega (arith, c.whole_step.auto, c.refusal-refusal.auto)
-
-pub shape_of-sums : goal.shape_of-sums
-shape_of-sums c =
-    omega (arith, c.whole_step.auto, c.refusal-refusal.auto)
-
-pub returns : goal.returns
-returns c =
-    c.whole_step.ensures
-    ∙ step_carried _ (sym c.if-refusal-ne0.false ∙ c.refusal-refusal.ensures.0)
+pub returns-in-Ok-clause-stepped : goal.returns-in-Ok-clause-stepped
+returns-in-Ok-clause-stepped c =
+    let same = ap (λ (s : Spares). whole_step_refusal (mesh_with c.args.counts s)) c.view.ensures.same in
+    let told = c.in-Ok.ensures in
+    c.whole_step.ensures.stepped ∙ step_carried _ (told.0 ∙ same)

@@ -55,29 +55,9 @@ movable {m} {w = w} F R e =
 
 pub move_all-requires : goal.move_all-requires
 move_all-requires c =
-    (_, movable c.requires.0 c.requires.1 c.split_all.ensures)
+    (_, movable c.requires.0 c.requires.1 c.split_all.ensures.split)
 
-pub shape_of-positions : goal.shape_of-positions
-shape_of-positions c =
-    omega (arith, c.split_all.auto, c.move_all.auto)
-
-pub shape_of-corners : goal.shape_of-corners
-shape_of-corners c =
-    omega (arith, c.split_all.auto)
-
-pub shape_of-links : goal.shape_of-links
-shape_of-links c =
-    omega (arith, c.split_all.auto)
-
-pub shape_of-generations : goal.shape_of-generations
-shape_of-generations c =
-    omega (arith, c.split_all.auto)
-
-pub shape_of-locks : goal.shape_of-locks
-shape_of-locks c =
-    omega (arith, c.split_all.auto)
-
-pub returns : goal.returns
-returns c =
-    whole_step_steps _ c.requires.0 _ _ c.split_all.ensures
-    (c.move_all.ensures _ (movable c.requires.0 c.requires.1 c.split_all.ensures))
+pub returns-clause-stepped : goal.returns-clause-stepped
+returns-clause-stepped c =
+    whole_step_steps _ c.requires.0 _ _ c.split_all.ensures.split
+    (c.move_all.ensures _ (movable c.requires.0 c.requires.1 c.split_all.ensures.split))

@@ -1,55 +1,42 @@
 -- `undoing::take_back` meets its contract.
-use Prim.Native.Nat.{ℕ, ◌≤◌}
 use native.Mathlib.Omega.{arith}
 use mathlib.Core.List.{List}
-use lib.ListN.{length}
-use Rattle.rules.specs.Tables.{Mesh}
-use Rattle.tables.specs.Lent.{mesh_now}
+use mathlib.Core.Path.{◌≡◌, refl, ap, ◌∙◌}
+use Prim.Native.Nat.{ℕ}
+use Rattle.rules.specs.Notes.{take_back_refusal}
+use Rattle.rules.specs.Spares.{Spares}
+use Rattle.tables.specs.declared.Counts.{Counts}
+use Rattle.tables.specs.Lent.{mesh_with}
+use Rattle.tables.proofs.Refusing.{number_some}
 use Rattle.undoing.proofs.TakingBack.{back_refused, may_put, back_carried, sound_room, put_restored}
 use Rattle.undoing.proofs.take_back.Goals as goal
 
-pub returns-then-refused-ne0 : goal.returns-then-refused-ne0
-returns-then-refused-ne0 c =
-    let note_of : List ℕ = c.args.note.now in
-    let mesh_of : Mesh = mesh_now c.args.counts c.args.positions.now c.args.corners.now c.args.links.now c.args.generations.now
-    c.args.locks.now in
-    back_refused note_of mesh_of _ c.refusal-refused.ensures c.if-refused-ne0.true
+-- The refusal by what was seen is that by the tables.
+by_tables : (note : List ℕ) (n : Counts) {s t : Spares} {r : ℕ} → r ≡ take_back_refusal note (mesh_with n s) → s ≡ t
+    → r ≡ take_back_refusal note (mesh_with n t)
+by_tables note n e q = e ∙ ap (λ (s : Spares). take_back_refusal note (mesh_with n s)) q
 
-pub put_back_all-requires : goal.put_back_all-requires
-put_back_all-requires c =
-    let note_of : List ℕ = c.args.note.now in
-    let mesh_of : Mesh = mesh_now c.args.counts c.args.positions.now c.args.corners.now c.args.links.now c.args.generations.now
-    c.args.locks.now in
-    let known = may_put note_of mesh_of _ c.refusal-refused.ensures c.if-refused-ne0.false in
-    record {
-      note_fits = known.1;
-      slot_room = sound_room c.args.counts c.args.positions.now c.args.corners.now c.args.links.now
-          c.args.generations.now c.args.locks.now known.0 known.2;
-    }
+pub returns-in-Err-clause-taken_back : goal.returns-in-Err-clause-taken_back
+returns-in-Err-clause-taken_back c =
+    rw c.refused.ensures (back_refused _ _ _ (by_tables _ _ c.in-Err.ensures c.view.ensures.same) (number_some _))
+
+pub put_back_all-requires-clause-note_fits : goal.put_back_all-requires-clause-note_fits
+put_back_all-requires-clause-note_fits c = (may_put _ _ _ (by_tables _ _ c.in_default.ensures c.view.ensures.same) refl).1
+
+pub put_back_all-requires-clause-slot_room : goal.put_back_all-requires-clause-slot_room
+put_back_all-requires-clause-slot_room c =
+    let (sound, _, in_use) = may_put _ _ _ (by_tables _ _ c.in_default.ensures c.view.ensures.same) refl in
+    sound_room _ _ sound in_use
 
 pub bounds-note-1 : goal.bounds-note-1
 bounds-note-1 c =
-    let note_of : List ℕ = c.args.note.now in
-    let mesh_of : Mesh = mesh_now c.args.counts c.args.positions.now c.args.corners.now c.args.links.now c.args.generations.now
-    c.args.locks.now in
-    let long : 4 ≤ length note_of = let N = (may_put note_of mesh_of _ c.refusal-refused.ensures c.if-refused-ne0.false).1 in
-    omega (arith, N.long) in
-    omega (arith, long)
+    omega (arith, (may_put _ _ _ (by_tables _ _ c.in_default.ensures c.view.ensures.same) refl).1.long)
 
 pub bounds-note-2 : goal.bounds-note-2
 bounds-note-2 c =
-    let note_of : List ℕ = c.args.note.now in
-    let mesh_of : Mesh = mesh_now c.args.counts c.args.positions.now c.args.corners.now c.args.links.now c.args.generations.now
-    c.args.locks.now in
-    let long : 4 ≤ length note_of = let N = (may_put note_of mesh_of _ c.refusal-refused.ensures c.if-refused-ne0.false).1 in
-    omega (arith, N.long) in
-    omega (arith, long)
+    omega (arith, (may_put _ _ _ (by_tables _ _ c.in_default.ensures c.view.ensures.same) refl).1.long)
 
-pub returns : goal.returns
-returns c =
-    let note_of : List ℕ = c.args.note.now in
-    let mesh_of : Mesh = mesh_now c.args.counts c.args.positions.now c.args.corners.now c.args.links.now c.args.generations.now
-    c.args.locks.now in
-    back_carried note_of mesh_of _ c.refusal-refused.ensures c.if-refused-ne0.false
-    (put_restored c.args.counts c.args.positions.now c.args.corners.now c.args.links.now
-    c.args.generations.now c.args.locks.now note_of c.put_back_all.ensures)
+pub returns-clause-taken_back : goal.returns-clause-taken_back
+returns-clause-taken_back c =
+    back_carried _ _ _ (by_tables _ _ c.in_default.ensures c.view.ensures.same) refl
+    (put_restored _ _ _ c.put_back_all.ensures.put)

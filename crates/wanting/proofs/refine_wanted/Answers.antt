@@ -1,6 +1,6 @@
 -- `wanting::refine_wanted` meets its contract: turn by turn, with the marks right before each.
 use mathlib.Core.List.{List}
-use mathlib.Core.Path.{◌≡◌, refl}
+use mathlib.Core.Path.{◌≡◌, refl, ap, subst}
 use mathlib.Core.Logic.{◌≢◌}
 use Prim.Native.Nat.{ℕ, ◌+◌, ◌*◌, ◌≤◌, ◌<◌}
 use native.Mathlib.Omega.{arith}
@@ -18,8 +18,10 @@ use Rattle.rules.specs.Sound.{Sound}
 use Rattle.rules.specs.Spares.{Spares}
 use Rattle.rules.specs.Split.{at_first, refine}
 use Rattle.rules.specs.Tables.{Mesh, vertex_slots}
-use Rattle.tables.specs.Lent.{mesh_now}
+use Rattle.tables.proofs.Lending.{same_at_first, same_on}
+use Rattle.tables.specs.declared.Counts.{Counts}
 use Rattle.reporting.specs.Told.{Told, told_unless}
+use Rattle.tables.specs.Lent.{held, mesh_with}
 use Rattle.wanting.specs.Wanting.{SeenFrom, Looks, Marked, Unseen}
 use Rattle.wanting.proofs.Begins.{begins_sound}
 use Rattle.wanting.proofs.Told.{BoxingTold, told_begins, told_on, told_stops, told_ends}
@@ -29,33 +31,36 @@ use Rattle.wanting.proofs.refine_wanted.Goals as goal
 
 -- ---- before the loop
 
--- The vertices are marked.
-first_looks : {x : Mesh} {low high : Point} {below : ℕ} {inside after : List ℕ} → Sound x
-    → Unseen (vertex_slots x) inside → SeenFrom 0 x.topology.vertices low high x.positions inside after
-    → Looks (box_of low high below) x x.topology.corners x.topology.generations after below
-first_looks S U A = record {
+-- The vertices are marked, by what is seen of the tables.
+first_looks : (n : Counts) {v s : Spares} → v ≡ s → {low high : Point} {below : ℕ} {inside after : List ℕ}
+    → Sound (mesh_with n s) → Unseen (vertex_slots (mesh_with n s)) inside
+    → SeenFrom 0 n.vertices low high v.positions inside after
+    → Looks (box_of low high below) (mesh_with n s) v.corners v.generations after below
+first_looks n e {low} {high} {inside = inside} {after} S U A = record {
   sound = S;
-  corners = refl;
-  generations = refl;
+  corners = ap (λ (y : Spares). y.corners) e;
+  generations = ap (λ (y : Spares). y.generations) e;
   below = refl;
-  seen = seen_all U A;
+  seen = seen_all U (subst (λ (y : Spares). SeenFrom 0 n.vertices low high y.positions inside after) e A);
 }
 
 pub mark_inside-requires : goal.mark_inside-requires
 mark_inside-requires c =
     let (m, s, B) = c.requires.0 in
-    let U = c.requires.2 in
-    ((begins_sound B).vertex_room, omega (arith, (begins_sound B).vertex_room, U.room), λ v _. U.none v)
+    let U = c.requires.2 in (
+      omega (arith, (begins_sound B).vertex_room, c.view-first.ensures.sizes),
+      omega (arith, (begins_sound B).vertex_room, U.room),
+      λ v _. U.none v,
+    )
 
 pub mark_from-requires : goal.mark_from-requires
 mark_from-requires c =
     let (m, s, B) = c.requires.0 in
-    let first : Mesh = mesh_now c.args.counts c.args.positions.now c.args.corners.now c.args.links.now
-    c.args.generations.now c.args.locks.now in (
+    let first : Mesh = mesh_with c.args.counts (held c.args.tables.now) in (
       (
         _,
         _,
-        first_looks {x = first} (begins_sound B) c.requires.2 c.mark_inside.ensures,
+        first_looks c.args.counts c.view-first.ensures.same (begins_sound B) c.requires.2 c.mark_inside.ensures,
         unmarked_fit first c.requires.1,
         refl,
       ),
@@ -65,25 +70,20 @@ mark_from-requires c =
 pub lowest-t-requires : goal.lowest-t-requires
 lowest-t-requires c =
     let (m, s, B) = c.requires.0 in
-    let first : Mesh = mesh_now c.args.counts c.args.positions.now c.args.corners.now c.args.links.now
-    c.args.generations.now c.args.locks.now in
-    let K : Looks (box_of c.args.low c.args.high c.args.below) first c.args.corners.now c.args.generations.now
-    c.mark_inside.new.inside c.args.below
-    = first_looks {x = first} (begins_sound B) c.requires.2 c.mark_inside.ensures in
+    let K = first_looks c.args.counts c.view-first.ensures.same {below = c.args.below} (begins_sound B) c.requires.2
+    c.mark_inside.ensures in
     let A = c.mark_from.ensures _ _ K refl in
     (A.fit.levels, A.fit.few)
 
 pub loop-t-init : goal.loop-t-init
 loop-t-init c =
     let (m, s, B) = c.requires.0 in
-    let first : Mesh = mesh_now c.args.counts c.args.positions.now c.args.corners.now c.args.links.now
-    c.args.generations.now c.args.locks.now in
-    let K : Looks (box_of c.args.low c.args.high c.args.below) first c.args.corners.now c.args.generations.now
-    c.mark_inside.new.inside c.args.below
-    = first_looks {x = first} (begins_sound B) c.requires.2 c.mark_inside.ensures in (
+    let K = first_looks c.args.counts c.view-first.ensures.same {below = c.args.below} (begins_sound B) c.requires.2
+    c.mark_inside.ensures in (
       λ m s B. told_begins B _ _,
       record { seen = K.seen; marks = marked_all (c.mark_from.ensures _ _ K refl) },
       c.lowest-t.ensures,
+      same_at_first _,
     )
 
 -- ---- one turn
@@ -146,30 +146,30 @@ refine_marked-done-requires c =
     let (m, s, B) = c.requires.0 in
     (c.loop-t.invariant.1, holding_sound (c.loop-t.invariant.0 m s B).1.held, c.loop-t-test.true)
 
-pub returns-then-done-ne0 : goal.returns-then-done-ne0
-returns-then-done-ne0 c m s B =
+pub returns-then-done-ne0-clause-boxed : goal.returns-then-done-ne0-clause-boxed
+returns-then-done-ne0-clause-boxed c m s B =
     stops (c.loop-t.invariant.0 m s B) c.loop-t.invariant.1 c.loop-t.invariant.2 c.loop-t-test.true
-    c.refine_marked-done.ensures.locks_after c.refine_marked-done.ensures.told c.if-done-ne0.true
+    c.refine_marked-done.ensures.refined c.refine_marked-done.ensures.told c.if-done-ne0.true
 
 pub overflow_add-splits-in-loop-t : goal.overflow_add-splits-in-loop-t
 overflow_add-splits-in-loop-t c =
     let (m, s, B) = c.requires.0 in
     let F = few (c.loop-t.invariant.0 m s B) c.loop-t.invariant.1 c.loop-t.invariant.2 c.loop-t-test.true
-    c.refine_marked-done.ensures.locks_after c.refine_marked-done.ensures.told c.if-done-ne0.false in
+    c.refine_marked-done.ensures.refined c.refine_marked-done.ensures.told c.if-done-ne0.false in
     omega (arith, F.0)
 
 pub overflow_add-flips : goal.overflow_add-flips
 overflow_add-flips c =
     let (m, s, B) = c.requires.0 in
     let F = few (c.loop-t.invariant.0 m s B) c.loop-t.invariant.1 c.loop-t.invariant.2 c.loop-t-test.true
-    c.refine_marked-done.ensures.locks_after c.refine_marked-done.ensures.told c.if-done-ne0.false in
+    c.refine_marked-done.ensures.refined c.refine_marked-done.ensures.told c.if-done-ne0.false in
     omega (arith, F.1)
 
 pub overflow_add-handled : goal.overflow_add-handled
 overflow_add-handled c =
     let (m, s, B) = c.requires.0 in
     let F = few (c.loop-t.invariant.0 m s B) c.loop-t.invariant.1 c.loop-t.invariant.2 c.loop-t-test.true
-    c.refine_marked-done.ensures.locks_after c.refine_marked-done.ensures.told c.if-done-ne0.false in
+    c.refine_marked-done.ensures.refined c.refine_marked-done.ensures.told c.if-done-ne0.false in
     omega (arith, F.2)
 
 pub lowest-t-requires-in-loop-t : goal.lowest-t-requires-in-loop-t
@@ -179,24 +179,23 @@ lowest-t-requires-in-loop-t c =
 
 pub loop-t-smaller : goal.loop-t-smaller
 loop-t-smaller c =
-    let held : Mesh = mesh_now c.loop-t.reached c.loop-t.positions c.loop-t.corners c.loop-t.links
-    c.loop-t.generations c.loop-t.locks in
-    let G = grows_by (refine_carried c.loop-t.t held c.refine_marked-done.ensures.locks_after c.if-done-ne0.false) in
+    let G = grows_by (refine_carried c.loop-t.t (mesh_with c.loop-t.reached (held c.loop-t.tables)) c.refine_marked-done.ensures.refined c.if-done-ne0.false) in
     omega (arith, G.0, G.1)
 
 pub loop-t-preserved : goal.loop-t-preserved
 loop-t-preserved c = (
   λ m s B.
       goes_on (c.loop-t.invariant.0 m s B) c.loop-t.invariant.1 c.loop-t.invariant.2 c.loop-t-test.true
-      c.refine_marked-done.ensures.locks_after c.refine_marked-done.ensures.told c.if-done-ne0.false,
+      c.refine_marked-done.ensures.refined c.refine_marked-done.ensures.told c.if-done-ne0.false,
   c.refine_marked-done.ensures.marked c.if-done-ne0.false,
   c.lowest-t-in-loop-t.ensures,
+  same_on c.refine_marked-done.ensures.lent c.loop-t.invariant.3,
 )
 
 -- ---- after the loop
 
-pub returns : goal.returns
-returns c m s B =
+pub returns-clause-boxed : goal.returns-clause-boxed
+returns-clause-boxed c m s B =
     let D = c.loop-t.invariant.0 m s B in
     let M = c.loop-t.invariant.1.marks in
     told_ends D (none_wanted (holding_sound D.1.held) M c.loop-t.invariant.2 c.loop-t-test.false)

@@ -2,7 +2,6 @@
 use borrow.Author.Rules.{rules}
 use native.Mathlib.Omega.{arith}
 use mathlib.Core.Path.{◌≡◌}
-use lib.ListN.{length-set}
 use mir.Syntax.{w32}
 use Rattle.points.proofs.Signed.{returned}
 use Rattle.theory.proofs.Numbers.Fill.{fill_more}
@@ -15,13 +14,10 @@ loop-i-init c =
     search rules
 
 pub loop-i-preserved : goal.loop-i-preserved
-loop-i-preserved c = (
-  omega arith,
-  simp length-set c.loop-i.invariant.1,
-  fill_more _ _ _ c.loop-i.invariant.2 (returned w32 c.signed_at.type_inv c.signed_at.ensures),
-)
+loop-i-preserved c =
+    fill_more _ _ _ c.loop-i.invariant (returned w32 c.signed_at.type_inv c.signed_at.ensures)
 
 pub returns : goal.returns
 returns c =
     let e : c.loop-i.i ≡ c.args.count = omega arith in
-    rw e at c.loop-i.invariant.2
+    rw e at c.loop-i.invariant

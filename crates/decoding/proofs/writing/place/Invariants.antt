@@ -1,15 +1,9 @@
-use Prim.Native.Nat.{◌+◌, ◌-◌, ◌*◌, ◌≤◌}
+use Prim.Native.Nat.{◌+◌, ◌*◌}
 use mathlib.Core.Path.{◌≡◌}
-use lib.ListN.{length}
 use Rattle.rules.specs.Below.{fill}
 use Rattle.rules.specs.Numbers.{number_at, signed}
 use Rattle.decoding.proofs.writing.place.Given as goal
 
 abbrev pub invariant-loop-i : goal.invariant-loop-i
 invariant-loop-i l =
-    (l.i ≤ l.count) × (length l.positions ≡ length l.initial.positions)
-    × (l.positions ≡ fill l.i (λ k. signed (number_at l.cage (8 + 4 * k))) l.initial.positions)
-
-abbrev pub decreases-loop-i : goal.decreases-loop-i
-decreases-loop-i l =
-    l.count - l.i
+    l.positions ≡ fill l.i (λ k. signed (number_at l.cage (8 + 4 * k))) l.initial.positions

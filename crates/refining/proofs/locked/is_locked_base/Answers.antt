@@ -10,16 +10,16 @@ use Rattle.refining.proofs.Locking.{odd_inside}
 use Rattle.refining.proofs.locked.is_locked_base.Goals as goal
 
 pub returns-then-not-is_base : goal.returns-then-not-is_base
-returns-then-not-is_base c n p d l =
-    rw (sym (c.is_base.ensures n d l) ∙ c.if-not-is_base.true)
+returns-then-not-is_base c n =
+    rw (sym (c.is_base.ensures n c.args.view.now.corners.now c.args.view.now.links.now) ∙ c.if-not-is_base.true)
 
 pub is_locked-requires : goal.is_locked-requires
 is_locked-requires c =
     let told = c.is_base.ensures (record { vertices = 0; triangles = 0; rule = 0 }) [] [] in
-    let m = topology_of 0 0 [] [] c.args.generations.now in
+    let m = topology_of 0 0 [] [] c.args.view.now.generations.now in
     let B = when_true (base_is m c.args.h) (sym told ∙ c.if-not-is_base.false) in
-    omega (arith, odd_inside c.args.generations.now (c.args.h / 3) B.1, c.requires)
+    omega (arith, odd_inside c.args.view.now.generations.now (c.args.h / 3) B.1, c.requires)
 
 pub returns : goal.returns
-returns c n p d l =
-    rw (sym (c.is_base.ensures n d l) ∙ c.if-not-is_base.false) c.is_locked.ensures
+returns c n =
+    rw (sym (c.is_base.ensures n c.args.view.now.corners.now c.args.view.now.links.now) ∙ c.if-not-is_base.false) c.is_locked.ensures

@@ -3,16 +3,16 @@ use Rattle.theory.proofs.Lists.Holding.{failed_is, copied_is}
 use Rattle.refining.proofs.Batching.{slots_back}
 use Rattle.refining.proofs.spares.carry_back.Goals as goal
 
-pub returns-then-made-ne0 : goal.returns-then-made-ne0
-returns-then-made-ne0 c p s M =
-    rw c.refused.ensures (failed_is _ M.done c.if-made-ne0.true)
+pub returns-then-made-ne0-clause-carried : goal.returns-then-made-ne0-clause-carried
+returns-then-made-ne0-clause-carried c p s M =
+    failed_is _ M.done c.if-made-ne0.true
 
 pub copy_mesh-requires : goal.copy_mesh-requires
 copy_mesh-requires c =
     let (p, s, M) = c.requires in
     let (there, back) = slots_back c.args.counts _ M.sizes M.going M.done in
-    record { has_slots = there; has_slots_2 = back }
+    record { own_slots = there; spare_slots = back }
 
-pub returns : goal.returns
-returns c p s M =
-    copied_is M.sizes M.going (rw c.if-made-ne0.false at M.done) c.copy_mesh.ensures
+pub returns-clause-carried : goal.returns-clause-carried
+returns-clause-carried c p s M =
+    copied_is M.sizes M.going (rw c.if-made-ne0.false at M.done) c.copy_mesh.ensures.copied

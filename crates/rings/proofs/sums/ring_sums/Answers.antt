@@ -2,7 +2,7 @@
 use Prim.Native.Nat.{ℕ, ◌+◌, ◌*◌, ◌<◌}
 use native.Mathlib.Omega.{arith}
 use mathlib.Core.List.{List}
-use mathlib.Core.Path.{◌≡◌, refl, sym, ◌∙◌, subst}
+use mathlib.Core.Path.{◌≡◌, sym, ◌∙◌, subst}
 use lib.Dec.{T}
 use lib.IntN.{ℤ}
 use lib.ListN.{length, get_or}
@@ -49,8 +49,8 @@ module _ {m : Mesh} (C : Closed m) where
   abbrev t : Topology
   t = m.topology
 
-  long_ring_lem : (v : ℕ) × (v < t.vertices) × (12 < out_of (sides t) t.corners v) → LongRing t
-  long_ring_lem (v, b, l) = (v, b, rw (ring_counted C.sound C.inner v b) l)
+  some_ring_long : (v : ℕ) × (v < t.vertices) × (12 < out_of (sides t) t.corners v) → LongRing t
+  some_ring_long (v, b, l) = (v, b, rw (ring_counted C.sound C.inner v b) l)
 
   module _ {lengths : List ℕ} {sums : List ℤ}
       (S : Summed (sides t) t.vertices m.positions t.corners lengths sums) where
@@ -71,44 +71,16 @@ module _ {m : Mesh} (C : Closed m) where
 
 pub loop-t-init : goal.loop-t-init
 loop-t-init c =
-    (omega arith, refl, refl, none_summed c.requires.cleared)
-
-pub add_triangle-requires : goal.add_triangle-requires
-add_triangle-requires c =
-    (summable c.requires.by_index.3, c.loop-t-test.true, c.loop-t.invariant.3)
-
-pub shape_of-lengths-then-not-add_triangle : goal.shape_of-lengths-then-not-add_triangle
-shape_of-lengths-then-not-add_triangle c =
-    omega (arith, c.add_triangle.auto, c.loop-t.invariant.1)
-
-pub shape_of-sums-then-not-add_triangle : goal.shape_of-sums-then-not-add_triangle
-shape_of-sums-then-not-add_triangle c =
-    omega (arith, c.add_triangle.auto, c.loop-t.invariant.2)
+    none_summed c.requires.cleared
 
 pub returns-then-not-add_triangle : goal.returns-then-not-add_triangle
 returns-then-not-add_triangle c l g k C =
     record {
       whole = λ e. absurd (subst T (sym e) tt);
-      crowded = λ _. long_ring_lem C (c.add_triangle.ensures.crowded c.if-not-add_triangle.true);
+      crowded = λ _. some_ring_long C (c.add_triangle.ensures.crowded c.if-not-add_triangle.true);
     }
-
-pub loop-t-preserved : goal.loop-t-preserved
-loop-t-preserved c = (
-  omega arith,
-  omega (arith, c.add_triangle.auto, c.loop-t.invariant.1),
-  omega (arith, c.add_triangle.auto, c.loop-t.invariant.2),
-  c.add_triangle.ensures.whole c.if-not-add_triangle.false,
-)
-
-pub shape_of-lengths : goal.shape_of-lengths
-shape_of-lengths c =
-    c.loop-t.invariant.1
-
-pub shape_of-sums : goal.shape_of-sums
-shape_of-sums c =
-    c.loop-t.invariant.2
 
 pub returns : goal.returns
 returns c l g k C =
     let e : c.loop-t.t ≡ c.args.counts.triangles = omega arith in
-    record { whole = λ _. ring_sums C (rw e at c.loop-t.invariant.3); crowded = λ q. absurd (subst T q tt) }
+    record { whole = λ _. ring_sums C (rw e at c.loop-t.invariant); crowded = λ q. absurd (subst T q tt) }

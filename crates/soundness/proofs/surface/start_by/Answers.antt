@@ -1,12 +1,13 @@
 -- `soundness::surface::start_by` meets its contract: triangles that fit are glued, the walks then tell of the fans, and
 -- the start kept for a vertex is where its ring starts.
-use Prim.Native.Nat.{ℕ, suc, ◌+◌, ◌-◌, ◌≤◌, ◌<◌}
+use Prim.Native.Nat.{ℕ, suc, ◌-◌, ◌≤◌, ◌<◌}
 use native.Mathlib.Decide.{dec_lt}
 use native.Mathlib.Omega.{arith}
 use mathlib.Core.Bool.{true}
 use mathlib.Core.List.{List}
-use mathlib.Core.Path.{◌≡◌, refl, sym, ◌∙◌}
+use mathlib.Core.Path.{◌≡◌, refl, sym, ap, ◌∙◌}
 use lib.ListN.{get_or}
+use Rattle.std.specs.Prelude.{Some}
 use Rattle.theory.proofs.Numbers.Decide.{is_all, when_true}
 use Rattle.theory.proofs.Rings.FanTest.{one_start, one_fan_is}
 use Rattle.theory.proofs.Rings.Fans.{Starts, first_side_lem, first_in_use, first_none}
@@ -14,7 +15,8 @@ use Rattle.theory.proofs.Rings.Turning.{Glued}
 use Rattle.rules.specs.Below.{all}
 use Rattle.rules.specs.Ring.{first_side}
 use Rattle.rules.specs.Sound.{OneFan, has_one_fan}
-use Rattle.rules.specs.Tables.{Topology, topology_of, sides, boundary}
+use Rattle.rules.specs.Tables.{Topology, sides, boundary}
+use Rattle.tables.specs.Lent.{seen, topology_with}
 use Rattle.rings.specs.Walks.{CornersInUse}
 use Rattle.sides.specs.Parts.{triangle_fits}
 use Rattle.sides.specs.Starts.{Kept, AllKept}
@@ -24,7 +26,7 @@ use Rattle.soundness.proofs.surface.start_by.Goals as goal
 
 -- What is returned for v where it is no vertex in use.
 past : (m : Topology) (v : ℕ) → CornersInUse m.vertices (sides m) m.corners → m.vertices ≤ v
-    → sides m + 1 ≡ suc (first_side m v)
+    → sides m ≡ first_side m v
 past m v corner l = let e = first_none m v (λ h i o. let k = corner h i in omega arith) in omega arith
 
 -- The same where it is one, each vertex having one fan.
@@ -57,64 +59,52 @@ module _ (m : Topology) (G : Glued m) (fans : all m.vertices (has_one_fan m) ≡
           omega arith
       go (no n) = absurd (K.begun.none (omega arith) F.first F.in_use F.out)
 
-pub returns-then-not-triangles_fit : goal.returns-then-not-triangles_fit
-returns-then-not-triangles_fit c =
-    let none = sym c.triangles_fit.ensures.value ∙ c.if-not-triangles_fit.true in rw none refl
+-- What is known once every triangle fits.
+module _ (m : Topology) (few : sides m < boundary) (fitted : all m.triangles (triangle_fits m) ≡ true) where
+  triangles : (t : ℕ) → t < m.triangles → TriangleFits m t
+  triangles = when_true (triangles_are m) fitted
 
-pub fans-requires : goal.fans-requires
-fans-requires c =
-    let topology : Topology = topology_of c.args.vertices c.args.triangles c.args.corners.now c.args.links.now c.args.generations.now in
-    let starts_kept : let m = topology in
-    AllKept m.vertices m.corners m.links (sides m) c.triangles_fit.new.starts = c.triangles_fit.ensures.all_kept c.if-not-triangles_fit.false in
-    let A = starts_kept in
-    record {
-      few_vertices = c.requires.room.1;
-      few_triangles = omega (arith, c.requires.room.0.few_slots, c.requires.room.0.triangle_room);
-      link_room = omega (arith, c.requires.room.0.link_room, c.requires.room.0.triangle_room);
-      start_room = A.size;
-      in_use = λ v l. (A.each v l).begun.in_use;
-    }
+  corner : CornersInUse m.vertices (sides m) m.corners
+  corner h l = (sound_side_lem m few triangles h l).corner
+
+  glued : Glued m
+  glued = sides_glued m few triangles
 
 pub returns-then-not-fans : goal.returns-then-not-fans
 returns-then-not-fans c =
-    let topology : Topology = topology_of c.args.vertices c.args.triangles c.args.corners.now c.args.links.now c.args.generations.now in
-    let fitted : let m = topology in all m.triangles (triangle_fits m) ≡ true = sym c.triangles_fit.ensures.value ∙ c.if-not-triangles_fit.false in
-    let few : sides topology < boundary = omega (arith, c.requires.room.0.few_slots, c.requires.room.0.triangle_room) in
-    let triangles : let m = topology in (t : ℕ) → t < m.triangles → TriangleFits m t = when_true (triangles_are topology) fitted in
-    let corner : let m = topology in CornersInUse m.vertices (sides m) m.corners = λ h l. (sound_side_lem topology few triangles h l).corner in
-    let starts_kept : let m = topology in
-    AllKept m.vertices m.corners m.links (sides m) c.triangles_fit.new.starts = c.triangles_fit.ensures.all_kept c.if-not-triangles_fit.false in
-    let glued : Glued topology = sides_glued topology few triangles in
-    let told : let m = topology in
-    c.fans.result ≡ all m.vertices (has_one_fan m) = c.fans.ensures _ corner (all_begun starts_kept) _ glued in
+    let m : Topology = topology_with c.args.counts (seen c.args.view.now) in
+    let few : sides m < boundary = omega (arith, c.requires.room.0.few_slots, c.requires.room.0.triangle_room) in
+    let fitted = sym c.triangles_fit.ensures.value ∙ c.if-not-triangles_fit.false in
+    let A = c.triangles_fit.ensures.all_kept c.if-not-triangles_fit.false in
+    let told = c.fans.ensures _ (corner m few fitted) (all_begun A) _ (glued m few fitted) in
     rw (fitted, (sym told ∙ c.if-not-fans.true)) refl
 
-pub returns-then-vertices-v : goal.returns-then-vertices-v
-returns-then-vertices-v c =
-    let topology : Topology = topology_of c.args.vertices c.args.triangles c.args.corners.now c.args.links.now c.args.generations.now in
-    let few : sides topology < boundary = omega (arith, c.requires.room.0.few_slots, c.requires.room.0.triangle_room) in
-    let fitted : let m = topology in all m.triangles (triangle_fits m) ≡ true = sym c.triangles_fit.ensures.value ∙ c.if-not-triangles_fit.false in
-    let triangles : let m = topology in (t : ℕ) → t < m.triangles → TriangleFits m t = when_true (triangles_are topology) fitted in
-    let corner : let m = topology in CornersInUse m.vertices (sides m) m.corners = λ h l. (sound_side_lem topology few triangles h l).corner in
-    let starts_kept : let m = topology in
-    AllKept m.vertices m.corners m.links (sides m) c.triangles_fit.new.starts = c.triangles_fit.ensures.all_kept c.if-not-triangles_fit.false in
-    let glued : Glued topology = sides_glued topology few triangles in
-    let told : let m = topology in
-    c.fans.result ≡ all m.vertices (has_one_fan m) = c.fans.ensures _ corner (all_begun starts_kept) _ glued in
-    let yes-all = sym told ∙ c.if-not-fans.false in
-    rw (fitted, yes-all) (past _ _ corner c.if-vertices-v.true)
+pub returns-then-counts-v : goal.returns-then-counts-v
+returns-then-counts-v c =
+    let m : Topology = topology_with c.args.counts (seen c.args.view.now) in
+    let few : sides m < boundary = omega (arith, c.requires.room.0.few_slots, c.requires.room.0.triangle_room) in
+    let fitted = sym c.triangles_fit.ensures.value ∙ c.if-not-triangles_fit.false in
+    let A = c.triangles_fit.ensures.all_kept c.if-not-triangles_fit.false in
+    let told = c.fans.ensures _ (corner m few fitted) (all_begun A) _ (glued m few fitted) in
+    rw (fitted, (sym told ∙ c.if-not-fans.false)) (ap Some (past m _ (corner m few fitted) c.if-counts-v.true))
+
+pub overflow_sub-result : goal.overflow_sub-result
+overflow_sub-result c =
+    let m : Topology = topology_with c.args.counts (seen c.args.view.now) in
+    let few : sides m < boundary = omega (arith, c.requires.room.0.few_slots, c.requires.room.0.triangle_room) in
+    let fitted = sym c.triangles_fit.ensures.value ∙ c.if-not-triangles_fit.false in
+    let A = c.triangles_fit.ensures.all_kept c.if-not-triangles_fit.false in
+    let told = c.fans.ensures _ (corner m few fitted) (all_begun A) _ (glued m few fitted) in
+    let start = kept m (glued m few fitted) (sym told ∙ c.if-not-fans.false) c.args.v _ A c.if-counts-v.false in
+    omega (arith, start)
 
 pub returns : goal.returns
 returns c =
-    let topology : Topology = topology_of c.args.vertices c.args.triangles c.args.corners.now c.args.links.now c.args.generations.now in
-    let few : sides topology < boundary = omega (arith, c.requires.room.0.few_slots, c.requires.room.0.triangle_room) in
-    let fitted : let m = topology in all m.triangles (triangle_fits m) ≡ true = sym c.triangles_fit.ensures.value ∙ c.if-not-triangles_fit.false in
-    let triangles : let m = topology in (t : ℕ) → t < m.triangles → TriangleFits m t = when_true (triangles_are topology) fitted in
-    let corner : let m = topology in CornersInUse m.vertices (sides m) m.corners = λ h l. (sound_side_lem topology few triangles h l).corner in
-    let starts_kept : let m = topology in
-    AllKept m.vertices m.corners m.links (sides m) c.triangles_fit.new.starts = c.triangles_fit.ensures.all_kept c.if-not-triangles_fit.false in
-    let glued : Glued topology = sides_glued topology few triangles in
-    let told : let m = topology in
-    c.fans.result ≡ all m.vertices (has_one_fan m) = c.fans.ensures _ corner (all_begun starts_kept) _ glued in
-    let yes-all = sym told ∙ c.if-not-fans.false in
-    rw (fitted, yes-all) (kept _ glued yes-all _ _ starts_kept c.if-vertices-v.false)
+    let m : Topology = topology_with c.args.counts (seen c.args.view.now) in
+    let few : sides m < boundary = omega (arith, c.requires.room.0.few_slots, c.requires.room.0.triangle_room) in
+    let fitted = sym c.triangles_fit.ensures.value ∙ c.if-not-triangles_fit.false in
+    let A = c.triangles_fit.ensures.all_kept c.if-not-triangles_fit.false in
+    let told = c.fans.ensures _ (corner m few fitted) (all_begun A) _ (glued m few fitted) in
+    let all_fans = sym told ∙ c.if-not-fans.false in
+    let start = kept m (glued m few fitted) all_fans c.args.v _ A c.if-counts-v.false in
+    rw (fitted, all_fans) (ap Some (omega (arith, start)))

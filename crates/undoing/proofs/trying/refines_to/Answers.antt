@@ -1,48 +1,34 @@
 -- `undoing::trying::refines_to` meets its contract.
 use native.Mathlib.Omega.{arith}
+use mathlib.Core.Bool.{Bool}
+use mathlib.Core.Path.{◌≡◌, ap, ◌∙◌}
+use Rattle.rules.specs.Notes.{same_in_use}
+use Rattle.rules.specs.Sound.{is_sound}
+use Rattle.rules.specs.Spares.{Spares}
 use Rattle.rules.specs.Tables.{Mesh}
-use Rattle.refining.proofs.Batching.{same_slots}
-use Rattle.tables.specs.Lent.{mesh_now}
-use Rattle.undoing.proofs.Trials.{old_unsound, old_stands, not_refined_lem, refined_compared}
+use Rattle.tables.specs.declared.Counts.{Counts}
+use Rattle.tables.specs.Lent.{mesh_with}
+use Rattle.undoing.proofs.Trials.{old_stands, not_refined, refined_compared}
 use Rattle.undoing.proofs.trying.refines_to.Goals as goal
 
-pub returns-then-not-is_sound : goal.returns-then-not-is_sound
-returns-then-not-is_sound c =
-    let old_of : Mesh = mesh_now c.args.old_counts c.args.old_positions.now c.args.old_corners.now c.args.old_links.now
-    c.args.old_generations.now c.args.old_locks.now in
-    let mesh_of : Mesh = mesh_now c.args.counts c.args.positions.now c.args.corners.now c.args.links.now c.args.generations.now
-    c.args.locks.now in
-    old_unsound c.args.t old_of mesh_of c.is_sound.ensures c.if-not-is_sound.true-raw
+-- What was found by what was seen holds of the tables.
+sound_by_tables : (n : Counts) {s t : Spares} {r : Bool} → r ≡ is_sound (mesh_with n s) → s ≡ t
+    → r ≡ is_sound (mesh_with n t)
+sound_by_tables n e q = e ∙ ap (λ (s : Spares). is_sound (mesh_with n s)) q
+
+same_by_tables : (m : Mesh) (n : Counts) {s t : Spares} {r : Bool} → r ≡ same_in_use m (mesh_with n s) → s ≡ t
+    → r ≡ same_in_use m (mesh_with n t)
+same_by_tables m n e q = e ∙ ap (λ (s : Spares). same_in_use m (mesh_with n s)) q
 
 pub refine-made-requires : goal.refine-made-requires
-refine-made-requires c =
-    let old_of : Mesh = mesh_now c.args.old_counts c.args.old_positions.now c.args.old_corners.now c.args.old_links.now
-    c.args.old_generations.now c.args.old_locks.now in
-    let mesh_of : Mesh = mesh_now c.args.counts c.args.positions.now c.args.corners.now c.args.links.now c.args.generations.now
-    c.args.locks.now in
-    old_stands c.args.t old_of mesh_of c.is_sound.ensures c.if-not-is_sound.false-raw
+refine-made-requires c = old_stands _ (sound_by_tables _ c.is_sound.ensures c.view.ensures.same) c.if-not-is_sound.false
 
 pub returns-then-made-ne0 : goal.returns-then-made-ne0
 returns-then-made-ne0 c =
-    let old_of : Mesh = mesh_now c.args.old_counts c.args.old_positions.now c.args.old_corners.now c.args.old_links.now
-    c.args.old_generations.now c.args.old_locks.now in
-    let mesh_of : Mesh = mesh_now c.args.counts c.args.positions.now c.args.corners.now c.args.links.now c.args.generations.now
-    c.args.locks.now in
-    not_refined_lem c.args.t old_of mesh_of c.is_sound.ensures c.if-not-is_sound.false-raw
-    c.refine-made.ensures.locks_after (λ z. omega (arith, c.if-made-ne0.true))
-
-pub same_in_use-requires : goal.same_in_use-requires
-same_in_use-requires c =
-    record {
-      has_slots = c.requires.has_slots;
-      has_slots_2 = same_slots c.requires.has_slots_2 (omega arith) (omega arith) (omega arith) (omega arith) (omega arith);
-    }
+    not_refined _ _ _ (sound_by_tables _ c.is_sound.ensures c.view.ensures.same) c.if-not-is_sound.false c.refine-made.ensures.refined
+    (λ z. omega (arith, c.if-made-ne0.true))
 
 pub returns : goal.returns
 returns c =
-    let old_of : Mesh = mesh_now c.args.old_counts c.args.old_positions.now c.args.old_corners.now c.args.old_links.now
-    c.args.old_generations.now c.args.old_locks.now in
-    let mesh_of : Mesh = mesh_now c.args.counts c.args.positions.now c.args.corners.now c.args.links.now c.args.generations.now
-    c.args.locks.now in
-    refined_compared c.args.t old_of mesh_of c.is_sound.ensures
-    c.if-not-is_sound.false-raw c.refine-made.ensures.locks_after c.if-made-ne0.false c.same_in_use.ensures
+    refined_compared _ _ _ (sound_by_tables _ c.is_sound.ensures c.view.ensures.same) c.if-not-is_sound.false
+    c.refine-made.ensures.refined c.if-made-ne0.false (same_by_tables _ _ c.same_in_use.ensures c.view-2.ensures.same)

@@ -1,0 +1,2 @@
+-- What the proofs of boxes share.
+pub mod Seen

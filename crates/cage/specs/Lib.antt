@@ -1,0 +1,2 @@
+-- What the contracts of cage cite beside the rules.
+pub mod Sides

@@ -1,7 +1,0 @@
--- `rooms::load_within_32` meets its contract.
-use Rattle.rooms.proofs.Room.{room_within}
-use Rattle.rooms.proofs.load_within_32.Goals as goal
-
-pub load_by-requires : goal.load_by-requires
-load_by-requires c =
-    record { sized = c.requires.sized; working_room = room_within 32 c.requires.within }
