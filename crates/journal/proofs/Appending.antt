@@ -1,19 +1,23 @@
 -- What is put into a buffer, part by part.
-use Prim.Native.Nat.{ℕ, suc, ◌+◌, ◌-◌, ◌*◌, ◌/◌, ◌%◌, ◌≤◌, ◌<◌}
+use Prim.Native.Nat.{ℕ, suc, ◌+◌, ◌-◌, ◌*◌, ◌≤◌, ◌<◌}
 use native.Mathlib.Numerals.{add-one}
 use native.Mathlib.Omega.{arith}
-use borrow.Author.Tests.{lt-leb, le-leb, not-false}
-use mathlib.Core.Bool.{Bool, true, false, not}
+use borrow.Author.Tests.{lt-leb, le-leb}
+use mathlib.Core.Bool.{Bool, true, false}
 use mathlib.Core.List.{List, [], ◌∷◌, ◌++◌, append_assoc, append-nil}
 use mathlib.Core.Logic.{◌≢◌}
 use mathlib.Core.Path.{◌≡◌, refl, ap, sym, ◌∙◌}
 use lib.ListN.{length, get_or, take, drop, set, length-append}
-use lib.Seq.{sets, sets-eq, length-sets, length-take-le, take-suc, take_at, drop_at}
+use lib.IntN.{ℤ, pos, negsuc}
+use mir.Syntax.{w32}
+use Rattle.std.specs.Int.{to_le_bytes, cast_unsigned}
+use borrow.Rule.Slice.PartMut.{put_mid}
+use lib.Seq.{sets, sets-eq, drop-drop, length-sets, length-take-le, take-suc, take_at, drop_at}
 use Rattle.crc.specs.Crc.{crc32}
 use Rattle.theory.proofs.Numbers.Decide.{is_le, is_and, when_true}
 use Rattle.journal.specs.Appending.{Put}
 use Rattle.journal.specs.Journal.{Entry, four_bytes, bytes_of, sealed, record_of, encode, header_of, is_room, wrote_if}
-use Rattle.journal.specs.Journal.{wrote}
+use Rattle.journal.specs.Journal.{wrote, unsigned}
 use Rattle.journal.specs.Recording.{InRange, Recordable}
 use Rattle.journal.proofs.Numbers.{length_four, length_bytes}
 use Rattle.journal.proofs.Writing.{length_record, length_encode}
@@ -55,16 +59,23 @@ seal_on {xs = xs} {l} {at = at} {end} h r f g =
 
 -- ---- numbers and bytes
 
-pub four_stored : (l : List ℕ) (at n : ℕ)
-    → Put l at (four_bytes n)
-    (set (set (set (set l at (n % 256)) (at + 1) (n / 256 % 256)) (at + 2) (n / 65536 % 256)) (at + 3)
-    (n / 16777216 % 256))
+pub bytes_put : (e bytes : List ℕ) (at n : ℕ) → n ≡ at + length bytes → n ≤ length e
+    → Put e at bytes (put_mid at (n - at) e bytes)
+bytes_put e bytes at n q l =
+    let k : n - at ≡ length bytes = omega arith in
+    let h : at + length bytes ≤ length e = omega arith in
+    putting e at bytes
+    (rw (k, drop-drop (length bytes) at e) (sym (append_assoc (take at e) bytes _)) ∙ sym (sets-eq bytes e at h))
+
+-- A number's bytes, the lowest first.
+pub four_low_first : (n : ℕ) → to_le_bytes w32 n ≡ four_bytes n
 unfolding four_bytes
-four_stored l at n =
-    let a : at + 1 ≡ suc at = omega arith in
-    let b : at + 2 ≡ suc (suc at) = omega arith in
-    let c : at + 3 ≡ suc (suc (suc at)) = omega arith in
-    putting l at (four_bytes n) (rw (a, b, c) refl)
+four_low_first n = refl
+
+-- A signed number's bits.
+pub bits_are : (z : ℤ) → cast_unsigned w32 z ≡ unsigned z
+bits_are (pos a) = refl
+bits_are (negsuc a) = omega arith
 
 bytes_append : (xs ys : List ℕ) → bytes_of (xs ++ ys) ≡ bytes_of xs ++ bytes_of ys
 unfolding bytes_of
@@ -79,25 +90,16 @@ pub bytes_two : (m n : ℕ) → bytes_of (m ∷ n ∷ []) ≡ four_bytes m ++ fo
 unfolding bytes_of
 bytes_two m n = ap (λ (l : List ℕ). four_bytes m ++ l) (append-nil (four_bytes n))
 
--- The loops have written the first i entries.
-pub no_bytes_put : (d : List ℕ) (at : ℕ) → Put d at [] d
-no_bytes_put d at = putting d at [] refl
-
+-- The loop has written the first i numbers.
 pub no_numbers_put : (d : List ℕ) (at : ℕ) → Put d at (bytes_of []) d
 unfolding bytes_of
-no_numbers_put d at = no_bytes_put d at
+no_numbers_put d at = putting d at [] refl
 
 pub number_put : {d l n : List ℕ} {at : ℕ} (s : List ℕ) (i : ℕ) → i < length s → Put d at (bytes_of (take i s)) l
     → Put l (at + 4 * i) (four_bytes (get_or s i 0)) n → Put d at (bytes_of (take (i + 1) s)) n
 number_put {at = at} s i h f g =
     let k : at + 4 * i ≡ at + length (bytes_of (take i s)) = rw (length_bytes, length-take-le i s (omega arith)) refl in
     rw (add-one, take-suc s i 0 h, bytes_append, bytes_one) (put_on k f g)
-
-pub byte_put : {d l : List ℕ} {at : ℕ} (s : List ℕ) (i : ℕ) → i < length s → Put d at (take i s) l
-    → Put d at (take (i + 1) s) (set l (at + i) (get_or s i 0))
-byte_put {l = l} {at} s i h f =
-    let k : at + i ≡ at + length (take i s) = rw (length-take-le i s (omega arith)) refl in
-    rw (add-one, take-suc s i 0 h) (put_on k f (putting l (at + i) (get_or s i 0 ∷ []) refl))
 
 -- ---- records
 
@@ -110,9 +112,9 @@ pub record Room (n room : ℕ) : Type 0 where
   pub few : n ≤ 4294967311
   pub enough : n ≤ room
 
-pub room_found : {r : Bool} (n room : ℕ) → not r ≡ false → r ≡ is_room n room → Room n room
-room_found {r} n room h e =
-    let q : is_room n room ≡ true = sym e ∙ not-false r h in
+pub room_found : {r : Bool} (n room : ℕ) → r ≡ true → r ≡ is_room n room → Room n room
+room_found n room h e =
+    let q : is_room n room ≡ true = sym e ∙ h in
     let l = has_room n room q in
     record { is = q; few = l.0; enough = l.1 }
 
@@ -135,9 +137,9 @@ written {bytes} {e} {l} n k h f =
 length_of : (kind n : ℕ) (body : List ℕ) → length body ≡ n → length (record_of kind body) ≡ 16 + n
 length_of kind n body k = rw k at (length_record kind body)
 
-pub no_record_lem : (kind n : ℕ) (body e : List ℕ) → length body ≡ n → is_room (16 + n) (length e) ≡ false
+pub no_record : (kind n : ℕ) (body e : List ℕ) → length body ≡ n → is_room (16 + n) (length e) ≡ false
     → (0, e) ≡ wrote (record_of kind body) e
-no_record_lem kind n body e k h = refused (record_of kind body) e (16 + n) (length_of kind n body k) h
+no_record kind n body e k h = refused (record_of kind body) e (16 + n) (length_of kind n body k) h
 
 -- The head is written, then the body with its checksum.
 pub record_written : {e l m : List ℕ} (kind n : ℕ) (body : List ℕ) → length body ≡ n → is_room (16 + n) (length e) ≡ true
@@ -148,8 +150,8 @@ record_written kind n body k h f g =
     let q : 12 ≡ 0 + length (sealed (four_bytes n ++ four_bytes kind)) = simp (length-append, length_four) in
     written (16 + n) (length_of kind n body k) h (rw (← k) at (put_on q f g))
 
-pub length_load : (rule : ℕ) (cage : List ℕ) → length (four_bytes rule ++ cage) ≡ 4 + length cage
-length_load rule cage = simp (length-append, length_four)
+pub length_body : (list bytes : List ℕ) → length (bytes_of list ++ bytes) ≡ 4 * length list + length bytes
+length_body list bytes = simp (length-append, length_bytes)
 
 -- A record that is written has a body whose size has four bytes.
 few_if : (bytes e : List ℕ) (t : Bool) → is_room (length bytes) (length e) ≡ t → (wrote_if t bytes e).0 ≢ 0

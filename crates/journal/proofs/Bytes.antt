@@ -23,18 +23,18 @@ both_bytes (x ∷ xs) ys a b zero = a zero
 both_bytes (x ∷ xs) ys a b (suc i) = both_bytes xs ys (λ k. a (suc k)) b i
 
 -- What is written is bytes.
-pub four_bytes_lem : (n : ℕ) → AreBytes (four_bytes n)
+pub four_are_bytes : (n : ℕ) → AreBytes (four_bytes n)
 unfolding four_bytes
-four_bytes_lem n zero = omega arith
-four_bytes_lem n (suc zero) = omega arith
-four_bytes_lem n (suc (suc zero)) = omega arith
-four_bytes_lem n (suc (suc (suc zero))) = omega arith
-four_bytes_lem n (suc (suc (suc (suc i)))) = omega arith
+four_are_bytes n zero = omega arith
+four_are_bytes n (suc zero) = omega arith
+four_are_bytes n (suc (suc zero)) = omega arith
+four_are_bytes n (suc (suc (suc zero))) = omega arith
+four_are_bytes n (suc (suc (suc (suc i)))) = omega arith
 
 pub all_bytes : (l : List ℕ) → AreBytes (bytes_of l)
 unfolding bytes_of
 all_bytes [] = no_bytes
-all_bytes (n ∷ l) = both_bytes (four_bytes n) (bytes_of l) (four_bytes_lem n) (all_bytes l)
+all_bytes (n ∷ l) = both_bytes (four_bytes n) (bytes_of l) (four_are_bytes n) (all_bytes l)
 
 pub sealed_bytes : (l : List ℕ) → AreBytes l → AreBytes (sealed l)
-sealed_bytes l a = both_bytes l (four_bytes (crc32 l)) a (four_bytes_lem (crc32 l))
+sealed_bytes l a = both_bytes l (four_bytes (crc32 l)) a (four_are_bytes (crc32 l))

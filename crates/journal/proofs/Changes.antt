@@ -119,11 +119,11 @@ sizes_on S L = record {
   locks = L.locks ∙ sym S.locks;
 }
 
-pub vertex_slots_lem : {m n : Mesh} → SameSlots m n → vertex_slots n ≡ vertex_slots m
-vertex_slots_lem S = ap (λ (k : ℕ). k / 3) S.positions
+pub vertex_slots_stay : {m n : Mesh} → SameSlots m n → vertex_slots n ≡ vertex_slots m
+vertex_slots_stay S = ap (λ (k : ℕ). k / 3) S.positions
 
-pub triangle_slots_lem : {m n : Mesh} → SameSlots m n → triangle_slots n ≡ triangle_slots m
-triangle_slots_lem S = S.generations
+pub triangle_slots_stay : {m n : Mesh} → SameSlots m n → triangle_slots n ≡ triangle_slots m
+triangle_slots_stay S = S.generations
 
 -- ---- room that is lent
 
@@ -149,15 +149,15 @@ module _ (s t : Spares) (m : Mesh) (e : same_sizes s m ≡ same_sizes t m) where
       let p = refine_each list m in
       rw list_refusal (alike_if (spares_refusal t m) p.refusal p s t m)
 
-  box_refusal_lem : (b : Box) → box_refusal b s m ≡ box_refusal b t m
+  box_refusal_alike : (b : Box) → box_refusal b s m ≡ box_refusal b t m
   unfolding box_refusal
-  box_refusal_lem b = rw e refl
+  box_refusal_alike b = rw e refl
 
   pub box_alike : (b : Box) → Alike (box_call b s m) (box_call b t m)
   unfolding box_call
   box_alike b =
       let p = refine_in_box b m in
-      rw (box_refusal_lem b) (alike_if (box_refusal b t m) p.refusal p s t m)
+      rw (box_refusal_alike b) (alike_if (box_refusal b t m) p.refusal p s t m)
 
 -- A call that is carried out has passed what is refused first.
 first_passed : (n : ℕ) (m : Mesh) (s : Spares) (o : Outcome) → (unless n m (spare_room s) o).answer.refusal ≡ 0 → n ≡ 0
@@ -168,9 +168,9 @@ list_fits : (list : List ℕ) (s : Spares) (m : Mesh) → (list_call list s m).a
 unfolding list_call
 list_fits list s m z = (spares_sound s m (first_passed (spares_refusal s m) m s _ z)).0
 
-box_fits_lem : (b : Box) (s : Spares) (m : Mesh) → (box_call b s m).answer.refusal ≡ 0 → SameSizes s m
+box_fits_alike : (b : Box) (s : Spares) (m : Mesh) → (box_call b s m).answer.refusal ≡ 0 → SameSizes s m
 unfolding box_call
-box_fits_lem b s m z = (box_sound b s m (first_passed (box_refusal b s m) m s _ z)).0
+box_fits_alike b s m z = (box_sound b s m (first_passed (box_refusal b s m) m s _ z)).0
 
 fit_alike : {s t : Spares} {m : Mesh} → SameSizes s m → SameSizes t m → same_sizes s m ≡ same_sizes t m
 fit_alike {s} {t} {m} a b = is_same (same_sizes_is s m) (is_true a) ∙ sym (is_same (same_sizes_is t m) (is_true b))
@@ -197,7 +197,7 @@ module _ (s : Spares) (m : Mesh) (L : SameSizes s m) where
       → Carried (refines_in_box b s) m (box_call b t m).mesh
   box_again b t z =
       alike_carried (refines_in_box b s) m
-      (box_alike s t m (fit_alike L (box_fits_lem b t m z)) b) z
+      (box_alike s t m (fit_alike L (box_fits_alike b t m z)) b) z
 
   noted_again : (t : ℕ) (note : List ℕ) → (changed (refines_noted t note) m).answer.refusal ≡ 0
       → Carried (refines t) m (changed (refines_noted t note) m).mesh

@@ -17,7 +17,7 @@ use Rattle.journal.specs.Journal.{Entry, loaded, refined, stepped, refined_each,
 use Rattle.journal.specs.Journal.{four_bytes, bytes_of, unsigned, box_numbers, kind_of, body_of, numbers_in, is_kind}
 use Rattle.journal.specs.Journal.{box_in, entry_of}
 use Rattle.journal.specs.Recording.{AreNumbers, IsCoordinate, IsBox, InRange}
-use Rattle.journal.proofs.Bytes.{no_bytes, both_bytes, four_bytes_lem, all_bytes}
+use Rattle.journal.proofs.Bytes.{no_bytes, both_bytes, four_are_bytes, all_bytes}
 use Rattle.journal.proofs.Numbers.{number_later, number_written, number_alone, length_four, length_bytes}
 use Rattle.journal.proofs.Numbers.{numbers_written, signed_unsigned, signed_fits, unsigned_fits, unsigned_signed}
 use Rattle.journal.proofs.Numbers.{number_drop, number_fits, numbers_read, four_read}
@@ -38,20 +38,20 @@ number_of (suc i) (n ∷ l) h k =
     let e : 4 * suc i ≡ length (four_bytes n) + 4 * i = omega (arith, length_four n) in
     rw e (number_later (four_bytes n) (bytes_of l) (4 * i) ∙ number_of i l (λ j. h (suc j)) (omega arith))
 
-pub box_numbers_lem : (b : Box) → IsBox b → AreNumbers (box_numbers b)
-box_numbers_lem b h zero = unsigned_fits b.low.0 h.low.0
-box_numbers_lem b h (suc zero) = unsigned_fits b.low.1 h.low.1
-box_numbers_lem b h (suc (suc zero)) = unsigned_fits b.low.2 h.low.2
-box_numbers_lem b h (suc (suc (suc zero))) = unsigned_fits b.high.0 h.high.0
-box_numbers_lem b h (suc (suc (suc (suc zero)))) = unsigned_fits b.high.1 h.high.1
-box_numbers_lem b h (suc (suc (suc (suc (suc zero))))) = unsigned_fits b.high.2 h.high.2
-box_numbers_lem b h (suc (suc (suc (suc (suc (suc zero)))))) = h.below
-box_numbers_lem b h (suc (suc (suc (suc (suc (suc (suc i))))))) = omega arith
+pub box_are_numbers : (b : Box) → IsBox b → AreNumbers (box_numbers b)
+box_are_numbers b h zero = unsigned_fits b.low.0 h.low.0
+box_are_numbers b h (suc zero) = unsigned_fits b.low.1 h.low.1
+box_are_numbers b h (suc (suc zero)) = unsigned_fits b.low.2 h.low.2
+box_are_numbers b h (suc (suc (suc zero))) = unsigned_fits b.high.0 h.high.0
+box_are_numbers b h (suc (suc (suc (suc zero)))) = unsigned_fits b.high.1 h.high.1
+box_are_numbers b h (suc (suc (suc (suc (suc zero))))) = unsigned_fits b.high.2 h.high.2
+box_are_numbers b h (suc (suc (suc (suc (suc (suc zero)))))) = h.below
+box_are_numbers b h (suc (suc (suc (suc (suc (suc (suc i))))))) = omega arith
 
 coordinate_back : (b : Box) → IsBox b → (i : ℕ) (z : ℤ) → i < 7 → get_or (box_numbers b) i 0 ≡ unsigned z
     → IsCoordinate z → signed (number_at (bytes_of (box_numbers b)) (4 * i)) ≡ z
 coordinate_back b h i z k e c =
-    ap signed (number_of i (box_numbers b) (box_numbers_lem b h) k ∙ e) ∙ signed_unsigned z c
+    ap signed (number_of i (box_numbers b) (box_are_numbers b h) k ∙ e) ∙ signed_unsigned z c
 
 box_back : (b : Box) → IsBox b → box_in (bytes_of (box_numbers b)) ≡ b
 box_back b h =
@@ -63,7 +63,7 @@ box_back b h =
       c 3 b.high.0 (omega arith) refl h.high.0,
       c 4 b.high.1 (omega arith) refl h.high.1,
       c 5 b.high.2 (omega arith) refl h.high.2,
-      number_of 6 (box_numbers b) (box_numbers_lem b h) (omega arith),
+      number_of 6 (box_numbers b) (box_are_numbers b h) (omega arith),
     ) refl
 
 pub entry_back : (e : Entry) → InRange e → entry_of (kind_of e) (body_of e) ≡ e
@@ -79,12 +79,12 @@ entry_back (lock_set false t) h = rw (number_alone t h) refl
 entry_back (taken_back note) h = ap taken_back (numbers_back note h)
 
 pub body_bytes : (e : Entry) → InRange e → AreBytes (body_of e)
-body_bytes (loaded rule cage) h = both_bytes (four_bytes rule) cage (four_bytes_lem rule) h.1
-body_bytes (refined t) h = four_bytes_lem t
+body_bytes (loaded rule cage) h = both_bytes (four_bytes rule) cage (four_are_bytes rule) h.1
+body_bytes (refined t) h = four_are_bytes t
 body_bytes stepped h = no_bytes
 body_bytes (refined_each list) h = all_bytes list
 body_bytes (refined_in_box box) h = all_bytes (box_numbers box)
-body_bytes (lock_set on t) h = four_bytes_lem t
+body_bytes (lock_set on t) h = four_are_bytes t
 body_bytes (taken_back note) h = all_bytes note
 
 pub kind_fits : (e : Entry) → kind_of e < 4294967296
@@ -119,8 +119,8 @@ kinds_are kind size =
 kind_known : (kind size : ℕ) → Kinds kind size → is_kind kind size ≡ true
 kind_known kind size k = is_same (kinds_are kind size) (is_true k)
 
-pub kind_of_lem : (e : Entry) → is_kind (kind_of e) (length (body_of e)) ≡ true
-kind_of_lem e = kind_known (kind_of e) (length (body_of e)) (go e)
+pub kind_takes_body : (e : Entry) → is_kind (kind_of e) (length (body_of e)) ≡ true
+kind_takes_body e = kind_known (kind_of e) (length (body_of e)) (go e)
   where
     go : (e : Entry) → Kinds (kind_of e) (length (body_of e))
     go (loaded rule cage) = inl (inl (inl (inl (refl, simp (length-append, length_four) (omega arith)))))
@@ -193,8 +193,8 @@ module _ (body : List ℕ) (a : AreBytes body) where
   unfolding entry_of
   step_made z = record { kinds = refl; bodies = sym (no_entries body z); fits = tt }
 
-  same_number_lem : (i : ℕ) → unsigned (signed (number_at body i)) ≡ number_at body i
-  same_number_lem i = unsigned_signed (number_at body i) (number_fits body i a)
+  same_bits : (i : ℕ) → unsigned (signed (number_at body i)) ≡ number_at body i
+  same_bits i = unsigned_signed (number_at body i) (number_fits body i a)
 
   coordinate_read : (i : ℕ) → IsCoordinate (signed (number_at body i))
   coordinate_read i = signed_fits (number_at body i) (number_fits body i a)
@@ -202,7 +202,7 @@ module _ (body : List ℕ) (a : AreBytes body) where
   box_read : box_numbers (box_in body) ≡ numbers_in 7 body
   unfolding numbers_in
   box_read =
-      rw (same_number_lem 0, same_number_lem 4, same_number_lem 8, same_number_lem 12, same_number_lem 16, same_number_lem 20)
+      rw (same_bits 0, same_bits 4, same_bits 8, same_bits 12, same_bits 16, same_bits 20)
       (simp number_drop)
 
   box_made : length body ≡ 28 → Made 5 body

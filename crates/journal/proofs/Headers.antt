@@ -15,7 +15,7 @@ use Rattle.crc.specs.Crc.{crc32}
 use Rattle.rules.specs.Calls.{first_of, ◌if◌}
 use Rattle.rules.specs.Numbers.{number_at}
 use Rattle.journal.specs.Journal.{four_bytes, header_of, header_stop, holds}
-use Rattle.journal.proofs.Bytes.{both_bytes, four_bytes_lem}
+use Rattle.journal.proofs.Bytes.{both_bytes, four_are_bytes}
 use Rattle.journal.proofs.Numbers.{number_written, number_after, number_earlier, length_four, four_at}
 
 -- A header of tables with v vertex slots and t triangle slots.
@@ -137,8 +137,8 @@ plain_bytes : (v t : ℕ) → AreBytes (plain_header v t)
 plain_bytes v t =
     both_bytes (four_bytes 1246515282 ++ four_bytes 1 ++ four_bytes v) (four_bytes t)
     (both_bytes (four_bytes 1246515282 ++ four_bytes 1) (four_bytes v)
-    (both_bytes (four_bytes 1246515282) (four_bytes 1) (four_bytes_lem 1246515282) (four_bytes_lem 1)) (four_bytes_lem v))
-    (four_bytes_lem t)
+    (both_bytes (four_bytes 1246515282) (four_bytes 1) (four_are_bytes 1246515282) (four_are_bytes 1)) (four_are_bytes v))
+    (four_are_bytes t)
 
 length_plain : (v t : ℕ) → length (plain_header v t) ≡ 16
 length_plain v t = simp (length-append, length_four)

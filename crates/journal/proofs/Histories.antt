@@ -23,7 +23,7 @@ use Rattle.journal.proofs.Changes.{refused_mesh, change_slots, sizes_on, carried
 use Rattle.journal.proofs.Headers.{length_header, header_read}
 use Rattle.journal.proofs.Journals.{call_slots, replay_good, replay_mesh}
 use Rattle.journal.proofs.Replaying.{next_call, Advances, Replays, halts, advances, replays_is}
-use Rattle.journal.proofs.Writing.{entry_whole, entry_at_lem, entry_length}
+use Rattle.journal.proofs.Writing.{entry_whole, entry_at_encoded, entry_length}
 
 -- ---- what is recorded is carried out again
 
@@ -105,7 +105,7 @@ unfolding records_of
 more_replays lent e entries rest m n h k z x =
     let later = records_of entries ++ rest in
     let bytes = encode e ++ later in
-    let q = entry_at_lem e later h in
+    let q = entry_at_encoded e later h in
     let l = entry_length e later h in
     let a : Advances lent bytes m =
     record { whole = entry_whole e later h; room = rw q k; carried = rw q z } in

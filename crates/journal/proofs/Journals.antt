@@ -21,7 +21,7 @@ use Rattle.journal.specs.Journal.{Entry, stop_at, header_stop}
 use Rattle.journal.specs.Records.{Records, no_records, decode}
 use Rattle.journal.specs.Recording.{calls_of, StopsWith, no_record, too_many, refuses, ReplayOf, and_then}
 use Rattle.journal.specs.Replay.{Lent, Replay, stopped, replay_first, started_at, replay_if, replay}
-use Rattle.journal.proofs.Changes.{change_slots, vertex_slots_lem, triangle_slots_lem}
+use Rattle.journal.proofs.Changes.{change_slots, vertex_slots_stay, triangle_slots_stay}
 use Rattle.journal.proofs.Headers.{header_numbers, header_short, header_longer}
 use Rattle.journal.proofs.Reading.{stop_numbers, decode_stops}
 use Rattle.journal.proofs.Replaying.{Replays, Tells, replays_first, replays_is, replays_tells, tells_of}
@@ -203,7 +203,7 @@ module _ (lent : Lent) (a b : List ℕ) (at : ℕ) (m : Mesh) (h : at ≤ length
     header_stays =
         let S : SameSlots m r.mesh =
         subst (SameSlots m) (sym (replays_tells x).mesh) (after_slots (calls_of lent.spares es) m) in
-        rw (vertex_slots_lem S, triangle_slots_lem S)
+        rw (vertex_slots_stay S, triangle_slots_stay S)
         (header_longer (vertex_slots m) (triangle_slots m) a b l ∙ z)
 
     next_is : replay lent (a ++ b) (start + r.end) r.mesh ≡ started_at (start + r.end) next

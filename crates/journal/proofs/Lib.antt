@@ -6,7 +6,6 @@ pub mod Stopping
 pub mod Entries
 pub mod Writing
 pub mod Appending
-pub mod Signed
 pub mod Cutting
 pub mod Changes
 pub mod Replaying

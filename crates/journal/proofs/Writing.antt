@@ -15,8 +15,8 @@ use Rattle.journal.specs.Journal.{Entry, four_bytes, kind_of, body_of, sealed, r
 use Rattle.journal.specs.Journal.{size_at, kind_at, body_at, record_length, is_kind, entry_of, entry_at}
 use Rattle.journal.specs.Records.{records_of, Records, following, decode}
 use Rattle.journal.specs.Recording.{Recordable, AllRecordable}
-use Rattle.journal.proofs.Bytes.{both_bytes, four_bytes_lem, sealed_bytes}
-use Rattle.journal.proofs.Entries.{entry_back, body_bytes, kind_fits, kind_of_lem}
+use Rattle.journal.proofs.Bytes.{both_bytes, four_are_bytes, sealed_bytes}
+use Rattle.journal.proofs.Entries.{entry_back, body_bytes, kind_fits, kind_takes_body}
 use Rattle.journal.proofs.Numbers.{number_written, number_after, length_four}
 use Rattle.journal.proofs.Reading.{Whole, decode_goes}
 
@@ -31,7 +31,7 @@ length_head kind body = simp (length-append, length_four)
 
 head_bytes : (kind : ℕ) (body : List ℕ) → AreBytes (head_of kind body)
 head_bytes kind body =
-    both_bytes (four_bytes (length body)) (four_bytes kind) (four_bytes_lem (length body)) (four_bytes_lem kind)
+    both_bytes (four_bytes (length body)) (four_bytes kind) (four_are_bytes (length body)) (four_are_bytes kind)
 
 pub record_bytes : (kind : ℕ) (body : List ℕ) → AreBytes body → AreBytes (record_of kind body)
 unfolding record_of
@@ -138,17 +138,17 @@ entry_parts e rest h = parts (kind_of e) (body_of e) rest (kind_fits e) h.1 (bod
 pub entry_read : (e : Entry) (rest : List ℕ) → Recordable e
     → decode (encode e ++ rest) ≡ following e (length (encode e)) (decode rest)
 entry_read e rest h =
-    rw (length_encode e) (record_read (kind_of e) (body_of e) rest (encode e ++ rest) e (entry_parts e rest h) (kind_of_lem e)
+    rw (length_encode e) (record_read (kind_of e) (body_of e) rest (encode e ++ rest) e (entry_parts e rest h) (kind_takes_body e)
     (entry_back e h.0))
 
 pub entry_whole : (e : Entry) (rest : List ℕ) → Recordable e → Whole (encode e ++ rest)
-entry_whole e rest h = record_whole (entry_parts e rest h) (kind_of_lem e)
+entry_whole e rest h = record_whole (entry_parts e rest h) (kind_takes_body e)
 
 pub entry_size : (e : Entry) (rest : List ℕ) → Recordable e → size_at (encode e ++ rest) ≡ length (body_of e)
 entry_size e rest h = (entry_parts e rest h).size
 
-pub entry_at_lem : (e : Entry) (rest : List ℕ) → Recordable e → entry_at (encode e ++ rest) ≡ e
-entry_at_lem e rest h =
+pub entry_at_encoded : (e : Entry) (rest : List ℕ) → Recordable e → entry_at (encode e ++ rest) ≡ e
+entry_at_encoded e rest h =
     let p = entry_parts e rest h in
     rw (p.kinds, p.bodies) (entry_back e h.0)
 

@@ -5,3 +5,5 @@ pub mod Records
 pub mod Replay
 pub mod Recording
 pub mod Appending
+pub mod Kinds
+pub mod Stops

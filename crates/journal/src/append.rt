@@ -1,13 +1,16 @@
 // Writes the header of a journal, and its records, to the front of a lent buffer. Each answers the length, or 0 where
 // it does not fit; then the buffer stands.
+// Kept: the C interface answers a number.
 ghost use Rattle.std.specs.Prelude.{◌++◌, ◌≡◌, ◌+◌, ◌-◌, ◌*◌, ◌≤◌, length, take, drop};
 ghost use Rattle.crc.specs.Crc.{crc32};
 ghost use Rattle.points.specs.Axes.{box_of};
 ghost use Rattle.journal.specs.Appending.{Put};
 ghost use Rattle.journal.specs.Journal.{loaded, refined, stepped, refined_each, refined_in_box, lock_set, taken_back};
-ghost use Rattle.journal.specs.Journal.{four_bytes, bytes_of, unsigned, sealed, record_of, encode, header_of, is_room};
+ghost use Rattle.journal.specs.Journal.{four_bytes, bytes_of, sealed, record_of, encode, header_of, is_room};
 ghost use Rattle.journal.specs.Journal.{wrote};
+ghost use Rattle.journal.specs.Kinds.{number_of};
 
+use crate::kinds::Kind;
 use points::Point;
 
 // Whether a record with a body of n bytes has room, and the body's size four bytes.
@@ -17,15 +20,20 @@ fn fits(room: usize, n: usize) -> bool
     n <= 4294967295 && 16 + n <= room
 }
 
-// Writes a number to the buffer from place `at` on.
+// Writes some bytes to the buffer from place `at` on.
+fn put_bytes(buffer: &mut [u8], at: usize, bytes: &[u8])
+    requires { at + length bytes.now ≤ length buffer.old }
+    ensures { Put buffer.old at bytes.now buffer.new }
+{
+    buffer[at..at + bytes.len()].copy_from_slice(bytes);
+}
+
+// Writes a number.
 fn put_number(buffer: &mut [u8], at: usize, n: u32)
     requires { at + 4 ≤ length buffer.old }
     ensures { Put buffer.old at (four_bytes n) buffer.new }
 {
-    buffer[at] = (n % 256) as u8;
-    buffer[at + 1] = (n / 256 % 256) as u8;
-    buffer[at + 2] = (n / 65536 % 256) as u8;
-    buffer[at + 3] = (n / 16777216 % 256) as u8;
+    put_bytes(buffer, at, &n.to_le_bytes());
 }
 
 // Writes some numbers.
@@ -33,22 +41,8 @@ fn put_numbers(buffer: &mut [u8], at: usize, list: &[u32])
     requires { at + 4 * length list.now ≤ length buffer.old }
     ensures { Put buffer.old at (bytes_of list.now) buffer.new }
 {
-    let mut i: usize = 0;
-    while i < list.len() {
-        put_number(buffer, at + 4 * i, list[i]);
-        i += 1;
-    }
-}
-
-// Writes some bytes.
-fn put_bytes(buffer: &mut [u8], at: usize, bytes: &[u8])
-    requires { at + length bytes.now ≤ length buffer.old }
-    ensures { Put buffer.old at bytes.now buffer.new }
-{
-    let mut i: usize = 0;
-    while i < bytes.len() {
-        buffer[at + i] = bytes[i];
-        i += 1;
+    for (i, n) in list.iter().enumerate() {
+        put_number(buffer, at + 4 * i, *n);
     }
 }
 
@@ -71,49 +65,33 @@ fn put_sealed(buffer: &mut [u8], at: usize, list: &[u32])
     seal(buffer, at, at + 4 * list.len());
 }
 
-// Writes the head of a record: the size of its body, its kind and their checksum.
-fn put_head(buffer: &mut [u8], size: u32, kind: u32)
-    requires { 12 ≤ length buffer.old }
-    ensures { Put buffer.old 0 (sealed (four_bytes size ++ four_bytes kind)) buffer.new }
-{
-    let head = [size, kind];
-    put_sealed(buffer, 0, &head);
-}
-
-// Writes the record of a kind whose body is numbers. More than 1073741823 are no body: they have 2^32 bytes or more.
-fn numbers(buffer: &mut [u8], kind: u32, list: &[u32]) -> usize
+// Writes the record of a kind whose body is some numbers and then some bytes. More than 4294967295 bytes in all are no
+// body: its size has four bytes.
+fn record(buffer: &mut [u8], kind: Kind, list: &[u32], bytes: &[u8]) -> usize
     ensures { (result, buffer.new)
-        ≡ wrote (record_of kind (bytes_of list.now)) buffer.old }
+        ≡ wrote (record_of (number_of kind) (bytes_of list.now ++ bytes.now)) buffer.old }
 {
-    if list.len() > 1073741823 {
+    if list.len() > 1073741823 || bytes.len() > 4294967295 {
         return 0;
     }
-    let n = 4 * list.len();
+    let front = 4 * list.len();
+    let n = front + bytes.len();
     if !fits(buffer.len(), n) {
         return 0;
     }
-    put_head(buffer, n as u32, kind);
-    put_sealed(buffer, 12, list);
+    put_sealed(buffer, 0, &[n as u32, u32::from(kind)]);
+    put_numbers(buffer, 12, list);
+    put_bytes(buffer, 12 + front, bytes);
+    seal(buffer, 12, 12 + n);
     16 + n
 }
 
-// Writes the record of a kind whose body is one number.
-fn one_number(buffer: &mut [u8], kind: u32, t: u32) -> usize
-    ensures { (result, buffer.new) ≡ wrote (record_of kind (four_bytes t)) buffer.old }
+// Writes the record of a kind whose body is some numbers.
+fn numbers(buffer: &mut [u8], kind: Kind, list: &[u32]) -> usize
+    ensures { (result, buffer.new)
+        ≡ wrote (record_of (number_of kind) (bytes_of list.now)) buffer.old }
 {
-    let list = [t];
-    numbers(buffer, kind, &list)
-}
-
-// The number whose signed one is x: below zero, -1 - x short of the greatest.
-fn unsigned_of(x: i32) -> u32
-    ensures { result ≡ unsigned x }
-{
-    if x < 0 {
-        4294967295 - (-1 - x) as u32
-    } else {
-        x as u32
-    }
+    record(buffer, kind, list, &[])
 }
 
 // The header of a journal for tables with these slots.
@@ -124,8 +102,7 @@ pub fn header(buffer: &mut [u8], vertex_slots: u32, triangle_slots: u32) -> usiz
     if buffer.len() < 20 {
         return 0;
     }
-    let list = [1246515282, 1, vertex_slots, triangle_slots];
-    put_sealed(buffer, 0, &list);
+    put_sealed(buffer, 0, &[1246515282, 1, vertex_slots, triangle_slots]);
     20
 }
 
@@ -134,33 +111,21 @@ pub fn load(buffer: &mut [u8], rule: u32, cage: &[u8]) -> usize
     ensures { (result, buffer.new)
         ≡ wrote (encode (loaded rule cage.now)) buffer.old }
 {
-    if cage.len() > 4294967291 {
-        return 0;
-    }
-    let n = 4 + cage.len();
-    if !fits(buffer.len(), n) {
-        return 0;
-    }
-    put_head(buffer, n as u32, 1);
-    put_number(buffer, 12, rule);
-    put_bytes(buffer, 16, cage);
-    seal(buffer, 12, 12 + n);
-    16 + n
+    record(buffer, Kind::Load, &[rule], cage)
 }
 
 // The record of a refine of triangle t.
 pub fn refine(buffer: &mut [u8], t: u32) -> usize
     ensures { (result, buffer.new) ≡ wrote (encode (refined t)) buffer.old }
 {
-    one_number(buffer, 2, t)
+    numbers(buffer, Kind::Refine, &[t])
 }
 
 // The record of a whole step.
 pub fn whole_step(buffer: &mut [u8]) -> usize
     ensures { (result, buffer.new) ≡ wrote (encode stepped) buffer.old }
 {
-    let list: [u32; 0] = [];
-    numbers(buffer, 3, &list)
+    numbers(buffer, Kind::WholeStep, &[])
 }
 
 // The record of a refine of the triangles of a list.
@@ -168,7 +133,7 @@ pub fn list(buffer: &mut [u8], list: &[u32]) -> usize
     ensures { (result, buffer.new)
         ≡ wrote (encode (refined_each list.now)) buffer.old }
 {
-    numbers(buffer, 4, list)
+    numbers(buffer, Kind::RefineList, list)
 }
 
 // The record of a refine of the triangles with a corner in a box.
@@ -177,26 +142,23 @@ pub fn refine_box(buffer: &mut [u8], low: Point, high: Point, below: u32) -> usi
         ≡ wrote (encode (refined_in_box (box_of low high below))) buffer.old }
 {
     let list = [
-        unsigned_of(low.x),
-        unsigned_of(low.y),
-        unsigned_of(low.z),
-        unsigned_of(high.x),
-        unsigned_of(high.y),
-        unsigned_of(high.z),
+        low.x.cast_unsigned(),
+        low.y.cast_unsigned(),
+        low.z.cast_unsigned(),
+        high.x.cast_unsigned(),
+        high.y.cast_unsigned(),
+        high.z.cast_unsigned(),
         below,
     ];
-    numbers(buffer, 5, &list)
+    numbers(buffer, Kind::RefineBox, &list)
 }
 
 // The record of a lock of triangle t, or of an unlock.
 pub fn lock(buffer: &mut [u8], t: u32, on: bool) -> usize
     ensures { (result, buffer.new) ≡ wrote (encode (lock_set on t)) buffer.old }
 {
-    if on {
-        one_number(buffer, 6, t)
-    } else {
-        one_number(buffer, 7, t)
-    }
+    let kind = if on { Kind::Lock } else { Kind::Unlock };
+    numbers(buffer, kind, &[t])
 }
 
 // The record of a take-back with this note.
@@ -204,5 +166,5 @@ pub fn take_back(buffer: &mut [u8], note: &[u32]) -> usize
     ensures { (result, buffer.new)
         ≡ wrote (encode (taken_back note.now)) buffer.old }
 {
-    numbers(buffer, 8, note)
+    numbers(buffer, Kind::TakeBack, note)
 }

@@ -2,4 +2,5 @@
 #![tactic(auto)]
 
 pub mod append;
+pub mod kinds;
 pub mod stops;

@@ -1,22 +1,16 @@
 -- What a change of each kind is to be made of, as the code reads it from a body.
 use Prim.Native.Nat.{ℕ, zero, suc, ◌+◌, ◌-◌, ◌*◌, ◌/◌, ◌≤◌, ◌<◌}
 use native.Mathlib.Omega.{arith}
-use borrow.Author.Tests.{eqb-true, eqb-false}
-use mathlib.Core.Bool.{Bool, true, false}
+use mathlib.Core.Bool.{Bool, true, false, true≢false}
 use mathlib.Core.List.{List, [], ◌∷◌, ◌++◌}
 use mathlib.Core.Logic.{◌≢◌, ◌⊎◌, inl, inr}
 use mathlib.Core.Path.{◌≡◌, refl, ap, sym, ◌∙◌}
-use lib.Dec.{eqb}
 use lib.ListN.{length, take, drop, set, length-drop}
 use lib.Seq.{take_all, take-suc-set}
 use Rattle.theory.proofs.Numbers.Decide.{when_true}
-use Rattle.points.specs.Axes.{at, box_of}
-use Rattle.points.specs.declared.Point.{Point}
-use Rattle.rules.specs.Boxes.{Box, box_call}
 use Rattle.rules.specs.Calls.{Outcome, load_call, refine_call, whole_step_call, lock_call}
 use Rattle.rules.specs.History.{changed}
-use Rattle.rules.specs.Lists.{list_call}
-use Rattle.rules.specs.Numbers.{number_at, signed}
+use Rattle.rules.specs.Numbers.{number_at}
 use Rattle.rules.specs.Spares.{Spares}
 use Rattle.rules.specs.Tables.{Mesh}
 use Rattle.making.specs.declared.Made.{Made}
@@ -26,6 +20,16 @@ use Rattle.making.specs.Making.{Makes}
 use Rattle.journal.specs.Replay.{call_of, numbers_of}
 use Rattle.journal.proofs.Entries.{Kinds, kinds_are, length_numbers}
 use Rattle.journal.proofs.Numbers.{number_drop}
+use Rattle.journal.proofs.Stopping.{no_kind}
+use Rattle.journal.specs.Kinds.{number_of, IsKindOf}
+use Rattle.journal.specs.declared.kinds.Kind.{Kind}
+use Rattle.journal.specs.declared.kinds.Kind.TheVariants.{Load, Refine, WholeStep, RefineList, RefineBox, Lock, Unlock, TakeBack}
+use Rattle.journal.specs.declared.stops.Stop.{Stop}
+use Rattle.std.proofs.Common.{Result, Ok, Err, IsOk, ℤ}
+use Rattle.tables.specs.Answers.{worked_outcome}
+use Rattle.tables.specs.Lent.{mesh_now}
+use Rattle.tables.specs.declared.Worked.{Worked}
+use Rattle.rules.specs.Notes.{take_back_call}
 
 -- ---- numbers
 
@@ -88,77 +92,53 @@ module _ (kind : ℕ) (body : List ℕ) where
   many_numbers size (inl e) l = rw (list_is e, length_numbers, l) refl
   many_numbers size (inr e) l = rw (back_is e, length_numbers, l) refl
 
-  pub no_numbers : (size : ℕ) → is_kind kind size ≡ true → kind ≢ 4 → kind ≢ 8 → 0 ≡ numbers_of (entry_of kind body)
-  no_numbers size k list back = go (when_true (kinds_are kind size) k)
-    where
-      go : Kinds kind size → 0 ≡ numbers_of (entry_of kind body)
-      go (inl (inl (inl (inl (e, l))))) = rw (load_is e) refl
-      go (inl (inl (inl (inr (l, inl (inl e)))))) = rw (refine_is e) refl
-      go (inl (inl (inl (inr (l, inl (inr e)))))) = rw (lock_is e) refl
-      go (inl (inl (inl (inr (l, inr e))))) = rw (unlock_is e) refl
-      go (inl (inl (inr (l, e)))) = rw (step_is e) refl
-      go (inl (inr (l, inl e))) = absurd (list e)
-      go (inl (inr (l, inr e))) = absurd (back e)
-      go (inr (l, e)) = rw (box_is e) refl
-
   pub room_for_numbers : (n : ℕ) → (kind ≡ 4) ⊎ (kind ≡ 8) → numbers_of (entry_of kind body) ≤ n → length body / 4 ≤ n
   room_for_numbers n k l = let e = many_numbers (length body) k refl in omega arith
 
+pub no_numbers : (k : Kind) (body : List ℕ) → k ≢ RefineList → k ≢ TakeBack
+    → 0 ≡ numbers_of (entry_of (number_of k) body)
+unfolding entry_of
+no_numbers Load body x y = refl
+no_numbers Refine body x y = refl
+no_numbers WholeStep body x y = refl
+no_numbers RefineList body x y = absurd (x refl)
+no_numbers RefineBox body x y = refl
+no_numbers Lock body x y = refl
+no_numbers Unlock body x y = refl
+no_numbers TakeBack body x y = absurd (y refl)
+
 -- ---- kinds and the sizes of their bodies
 
+-- The kind that a number is read as has this number.
+pub kind_found : {n : ℕ} {r : Result Kind Stop} {k j : Kind} → IsKindOf n r → r ≡ Ok k → k ≡ j → n ≡ number_of j
+kind_found h e q = let l = rw e at h in sym l ∙ ap number_of q
+
+-- A number of a kind is read as one.
+pub kind_read : (n size : ℕ) (r : Result Kind Stop) → is_kind n size ≡ true → IsKindOf n r → IsOk r
+kind_read n size (Ok k) i h = refl
+kind_read n size (Err s) i h = absurd (true≢false (sym i ∙ no_kind n size h.1))
+
 pub record Sizes (kind size : ℕ) : Type 0 where
-  pub least : 1 ≤ kind
-  pub most : kind ≤ 8
   pub four : kind ≢ 3 → kind ≢ 4 → kind ≢ 8 → 4 ≤ size
   pub box : kind ≡ 5 → size ≡ 28
 
 pub sizes : (kind size : ℕ) → is_kind kind size ≡ true → Sizes kind size
 sizes kind size k = go (when_true (kinds_are kind size) k)
   where
-    told : 1 ≤ kind → kind ≤ 8 → (kind ≢ 3 → kind ≢ 4 → kind ≢ 8 → 4 ≤ size) → (kind ≡ 5 → size ≡ 28)
-        → Sizes kind size
-    told l m f b = record { least = l; most = m; four = f; box = b }
+    told : (kind ≢ 3 → kind ≢ 4 → kind ≢ 8 → 4 ≤ size) → (kind ≡ 5 → size ≡ 28) → Sizes kind size
+    told f b = record { four = f; box = b }
 
     go : Kinds kind size → Sizes kind size
-    go (inl (inl (inl (inl (e, l))))) = told (omega arith) (omega arith) (λ x y z. l) (λ f. omega arith)
-    go (inl (inl (inl (inr (l, inl (inl e)))))) =
-        told (omega arith) (omega arith) (λ x y z. omega arith) (λ f. omega arith)
-    go (inl (inl (inl (inr (l, inl (inr e)))))) =
-        told (omega arith) (omega arith) (λ x y z. omega arith) (λ f. omega arith)
-    go (inl (inl (inl (inr (l, inr e))))) =
-        told (omega arith) (omega arith) (λ x y z. omega arith) (λ f. omega arith)
-    go (inl (inl (inr (l, e)))) = told (omega arith) (omega arith) (λ x y z. absurd (x e)) (λ f. omega arith)
-    go (inl (inr (l, inl e))) = told (omega arith) (omega arith) (λ x y z. absurd (y e)) (λ f. omega arith)
-    go (inl (inr (l, inr e))) = told (omega arith) (omega arith) (λ x y z. absurd (z e)) (λ f. omega arith)
-    go (inr (l, e)) = told (omega arith) (omega arith) (λ x y z. omega arith) (λ f. l)
-
-from_six : (kind : ℕ) → 1 ≤ kind → kind ≢ 1 → kind ≢ 2 → kind ≢ 3 → kind ≢ 4 → kind ≢ 5 → 6 ≤ kind
-from_six kind l a b c d e = omega arith
-
-seven : (kind : ℕ) → 6 ≤ kind → kind ≤ 8 → kind ≢ 6 → kind ≢ 8 → kind ≡ 7
-seven kind l m a b = omega arith
+    go (inl (inl (inl (inl (e, l))))) = told (λ x y z. l) (λ f. omega arith)
+    go (inl (inl (inl (inr (l, inl (inl e)))))) = told (λ x y z. omega arith) (λ f. omega arith)
+    go (inl (inl (inl (inr (l, inl (inr e)))))) = told (λ x y z. omega arith) (λ f. omega arith)
+    go (inl (inl (inl (inr (l, inr e))))) = told (λ x y z. omega arith) (λ f. omega arith)
+    go (inl (inl (inr (l, e)))) = told (λ x y z. absurd (x e)) (λ f. omega arith)
+    go (inl (inr (l, inl e))) = told (λ x y z. absurd (y e)) (λ f. omega arith)
+    go (inl (inr (l, inr e))) = told (λ x y z. absurd (z e)) (λ f. omega arith)
+    go (inr (l, e)) = told (λ x y z. omega arith) (λ f. l)
 
 -- ---- what the calls make
-
--- Of the answer and the mesh that a call left.
-pub made : (r : Made) (p o : Outcome) → p ≡ o → r.refusal ≡ p.answer.refusal → Makes o r p.mesh
-made r p o e f = record {
-  refusal = f ∙ ap (λ (x : Outcome). x.answer.refusal) e;
-  mesh = ap (λ (x : Outcome). x.mesh) e;
-}
-
-pub made_list : (r : Made) (p : Outcome) (read list : List ℕ) (s : Spares) (m : Mesh) → read ≡ list
-    → p ≡ list_call read s m → r.refusal ≡ p.answer.refusal → Makes (list_call list s m) r p.mesh
-made_list r p read list s m h e f = made r p _ (e ∙ ap (λ (l : List ℕ). list_call l s m) h) f
-
-pub made_box : (r : Made) (p : Outcome) (low high : Point) (below : ℕ) (body : List ℕ) (s : Spares) (m : Mesh)
-    → low ≡ at (signed (number_at body 0)) (signed (number_at body 4)) (signed (number_at body 8))
-    → high ≡ at (signed (number_at body 12)) (signed (number_at body 16)) (signed (number_at body 20))
-    → below ≡ number_at body 24 → p ≡ box_call (box_of low high below) s m → r.refusal ≡ p.answer.refusal
-    → Makes (box_call (box_in body) s m) r p.mesh
-made_box r p low high below body s m a b c e f =
-    let q : box_of low high below ≡ box_in body = rw (a, b, c) refl in
-    made r p _ (e ∙ ap (λ (x : Box). box_call x s m) q) f
 
 module _ (kind : ℕ) (body : List ℕ) (s : Spares) (m : Mesh) where
   -- The change that is known is that of the kind and the body.
@@ -166,29 +146,37 @@ module _ (kind : ℕ) (body : List ℕ) (s : Spares) (m : Mesh) where
       → Makes (changed (call_of s (entry_of kind body)) m) r n
   made_as e r n q h = rw q h
 
-  module _ (o : Outcome) where
-    pub made_load : (rule : ℕ) (cage : List ℕ) → kind ≡ 1 → rule ≡ number_at body 0
-        → cage ≡ take (length body - 4) (drop 4 body)
-        → o ≡ load_call rule cage m → o ≡ changed (call_of s (entry_of kind body)) m
-    made_load rule cage k a b e =
-        let c : cage ≡ drop 4 body = b ∙ take_all (length body - 4) (drop 4 body) (simp length-drop (omega arith)) in
-        rw (load_is kind body k, ← a, ← c) e
+  module _ {p : List ℤ} {c l g k : List ℕ} (w : Worked) (r : Made)
+      (same : (r.refusal ≡ w.refusal) × (r.counts ≡ w.counts)) where
+    -- What a call answered and left, told of the change.
+    made : (e : Entry) → entry_of kind body ≡ e → worked_outcome w p c l g k ≡ changed (call_of s e) m
+        → Makes (changed (call_of s (entry_of kind body)) m) r (mesh_now r.counts p c l g k)
+    made e q h = rw (q, same.1) (record {
+      refusal = same.0 ∙ ap (λ (o : Outcome). o.answer.refusal) h;
+      mesh = ap (λ (o : Outcome). o.mesh) h;
+    })
 
-    pub made_refine : (t : ℕ) → kind ≡ 2 → t ≡ number_at body 0 → o ≡ refine_call t m
-        → o ≡ changed (call_of s (entry_of kind body)) m
-    made_refine t k a e = rw (refine_is kind body k, ← a) e
+    pub made_load : (rule : ℕ) → kind ≡ 1 → rule ≡ number_at body 0
+        → worked_outcome w p c l g k ≡ load_call rule (take (length body - 4) (drop 4 body)) m
+        → Makes (changed (call_of s (entry_of kind body)) m) r (mesh_now r.counts p c l g k)
+    made_load rule n a h =
+        let cage = take_all (length body - 4) (drop 4 body) (simp length-drop (omega arith)) in
+        made _ (load_is kind body n) (rw (a, cage) at h)
 
-    pub made_step : kind ≡ 3 → o ≡ whole_step_call m → o ≡ changed (call_of s (entry_of kind body)) m
-    made_step k e = rw (step_is kind body k) e
+    pub made_refine : (t : ℕ) → kind ≡ 2 → t ≡ number_at body 0 → worked_outcome w p c l g k ≡ refine_call t m
+        → Makes (changed (call_of s (entry_of kind body)) m) r (mesh_now r.counts p c l g k)
+    made_refine t n a h = made _ (refine_is kind body n) (rw a at h)
 
-    pub made_lock : (t : ℕ) → is_kind kind (length body) ≡ true → (kind ≢ 4) × (kind ≢ 5) × (kind ≢ 8) → kind ≢ 1
-        → kind ≢ 3 → kind ≢ 2 → t ≡ number_at body 0 → o ≡ lock_call (eqb kind 6) t m
-        → o ≡ changed (call_of s (entry_of kind body)) m
-    made_lock t k (x4, x5, x8) x1 x3 x2 a e = go (eqb kind 6) refl e
-      where
-        go : (b : Bool) → eqb kind 6 ≡ b → o ≡ lock_call b t m → o ≡ changed (call_of s (entry_of kind body)) m
-        go true q h = rw (lock_is kind body (eqb-true kind 6 q), ← a) h
-        go false q h =
-            let known = sizes kind (length body) k in
-            let l = from_six kind known.least x1 x2 x3 x4 x5 in
-            rw (unlock_is kind body (seven kind l known.most (eqb-false kind 6 q) x8), ← a) h
+    pub made_step : kind ≡ 3 → worked_outcome w p c l g k ≡ whole_step_call m
+        → Makes (changed (call_of s (entry_of kind body)) m) r (mesh_now r.counts p c l g k)
+    made_step n h = made _ (step_is kind body n) h
+
+    pub made_lock : (on : Bool) (t : ℕ) → ((kind ≡ 6) × (on ≡ true)) ⊎ ((kind ≡ 7) × (on ≡ false)) → t ≡ number_at body 0
+        → worked_outcome w p c l g k ≡ lock_call on t m
+        → Makes (changed (call_of s (entry_of kind body)) m) r (mesh_now r.counts p c l g k)
+    made_lock on t (inl n) a h = made _ (lock_is kind body n.0) (rw (a, n.1) at h)
+    made_lock on t (inr n) a h = made _ (unlock_is kind body n.0) (rw (a, n.1) at h)
+
+    pub made_back : kind ≡ 8 → worked_outcome w p c l g k ≡ take_back_call (numbers_in (length body / 4) body) m
+        → Makes (changed (call_of s (entry_of kind body)) m) r (mesh_now r.counts p c l g k)
+    made_back n h = made _ (back_is kind body n) h

@@ -1,21 +1,23 @@
 // The change of one record, made again on a mesh whose first refusal is known.
 #![tactic(auto)]
 
-ghost use Rattle.std.specs.Prelude.{true, List, ◌≢◌, ◌≡◌, ℕ, ◌+◌, ◌*◌, ◌/◌, ◌≤◌, length, take};
+ghost use Rattle.std.specs.Prelude.{true, List, ◌≡◌, ℕ, ◌+◌, ◌*◌, ◌/◌, ◌≤◌, length, take};
 ghost use Rattle.rules.specs.Boxes.{box_call};
 ghost use Rattle.rules.specs.History.{changed};
 ghost use Rattle.rules.specs.Lists.{list_call};
 ghost use Rattle.rules.specs.Notes.{take_back_call};
 ghost use Rattle.rules.specs.Numbers.{number_at, signed};
-ghost use Rattle.rules.specs.Spares.{Spares};
 ghost use Rattle.tables.specs.Answers.{worked_outcome};
 ghost use Rattle.tables.specs.Lent.{mesh_now, spares_now};
 ghost use Rattle.tables.specs.Standing.{standing};
 ghost use Rattle.journal.specs.Journal.{numbers_in, is_kind, box_in, entry_of};
+ghost use Rattle.journal.specs.Kinds.{number_of};
 ghost use Rattle.making.specs.Making.{Makes};
 ghost use Rattle.journal.specs.Replay.{call_of, numbers_of};
 
+use journal::kinds::Kind;
 use points::Point;
+use refining::spares::BatchWorked;
 use tables::{Counts, Worked};
 
 // What a call answered: its refusal, or 0, and the counts.
@@ -25,15 +27,36 @@ pub struct Made {
     pub counts: Counts,
 }
 
-// The numbers that a change of this kind, with a body of this size, has to be read into a table for.
-pub fn numbers_of(kind: u32, size: usize) -> usize
-    requires { is_kind kind size ≡ true }
-    ensures { (body : List ℕ) → length body ≡ size → result ≡ numbers_of (entry_of kind body) }
-{
-    if kind == 4 || kind == 8 {
-        return size / 4;
+impl From<Worked> for Made {
+    ghost from_gives = { λ worked made. (made.refusal ≡ worked.refusal) × (made.counts ≡ worked.counts) };
+
+    fn from(worked: Worked) -> Made {
+        Made {
+            refusal: worked.refusal,
+            counts: worked.counts,
+        }
     }
-    0
+}
+
+impl From<BatchWorked> for Made {
+    ghost from_gives = { λ worked made. (made.refusal ≡ worked.refusal) × (made.counts ≡ worked.counts) };
+
+    fn from(worked: BatchWorked) -> Made {
+        Made {
+            refusal: worked.refusal,
+            counts: worked.counts,
+        }
+    }
+}
+
+// The numbers that a change of this kind, with a body of this size, has to be read into a table for.
+pub fn numbers_of(kind: Kind, size: usize) -> usize
+    ensures { (body : List ℕ) → length body ≡ size → result ≡ numbers_of (entry_of (number_of kind) body) }
+{
+    match kind {
+        Kind::RefineList | Kind::TakeBack => size / 4,
+        _ => 0,
+    }
 }
 
 // Reads the first n numbers of a body into the front of a table.
@@ -41,77 +64,9 @@ fn read_numbers(body: &[u8], n: usize, numbers: &mut [u32])
     requires { (4 * n ≤ length body.now) × (n ≤ length numbers.old) }
     ensures { take n numbers.new ≡ numbers_in n body.now }
 {
-    let mut i: usize = 0;
-    while i < n {
+    for i in 0..n {
         numbers[i] = points::number_at(body, 4 * i);
-        i += 1;
     }
-}
-
-// Makes a load, a whole step, a refine, a lock or an unlock.
-fn make_alone(
-    positions: &mut [i32],
-    corners: &mut [u32],
-    links: &mut [u32],
-    generations: &mut [u8],
-    locks: &mut [u8],
-    counts: Counts,
-    bad: u32,
-    kind: u32,
-    body: &[u8],
-) -> Worked
-    requires bad_value { bad ≡ standing (mesh_now counts positions.old corners.old links.old generations.old
-        locks.old) }
-    requires body_value { (is_kind kind (length body.now) ≡ true) × (kind ≢ 4) × (kind ≢ 5) × (kind ≢ 8) }
-    ensures { (s : Spares) →
-        worked_outcome result positions.new corners.new links.new generations.new
-        locks.new
-        ≡ changed (call_of s (entry_of kind body.now)) (mesh_now counts positions.old
-        corners.old links.old generations.old locks.old) }
-{
-    if kind == 1 {
-        let rule = points::number_at(body, 0);
-        return mesh::load(
-            positions,
-            corners,
-            links,
-            generations,
-            locks,
-            counts,
-            rule,
-            &body[4..],
-        );
-    }
-    if kind == 3 {
-        return mesh::whole_step_known(positions, corners, links, generations, locks, counts, bad);
-    }
-    let t = points::number_at(body, 0);
-    if kind == 2 {
-        let mut none = [0u32; 1];
-        return refining::refine(
-            positions,
-            corners,
-            links,
-            generations,
-            locks,
-            counts,
-            t,
-            bad,
-            &mut none,
-            1,
-        );
-    }
-    mesh::lock_known(
-        positions,
-        corners,
-        links,
-        generations,
-        locks,
-        counts,
-        t,
-        kind == 6,
-        bad,
-    )
 }
 
 // Makes a list.
@@ -144,7 +99,7 @@ fn make_list(
 {
     let n = body.len() / 4;
     read_numbers(body, n, numbers);
-    let done = batches::refine_list_known(
+    Made::from(batches::refine_list_known(
         positions,
         corners,
         links,
@@ -158,12 +113,7 @@ fn make_list(
         spare_generations,
         spare_locks,
         bad,
-    );
-    let after = done.counts;
-    Made {
-        refusal: done.refusal,
-        counts: after,
-    }
+    ))
 }
 
 // The point in the three numbers from place i on.
@@ -209,7 +159,7 @@ fn make_box(
         result (mesh_now result.counts positions.new corners.new links.new
         generations.new locks.new) }
 {
-    let done = boxes::refine_box_known(
+    Made::from(boxes::refine_box_known(
         positions,
         corners,
         links,
@@ -225,12 +175,7 @@ fn make_box(
         spare_generations,
         spare_locks,
         bad,
-    );
-    let after = done.counts;
-    Made {
-        refusal: done.refusal,
-        counts: after,
-    }
+    ))
 }
 
 // Makes a take-back.
@@ -299,8 +244,40 @@ pub fn make(
         result (mesh_now result.counts positions.new corners.new links.new
         generations.new locks.new) }
 {
-    if kind == 4 {
-        return make_list(
+    let kind = Kind::try_from(kind).unwrap();
+    match kind {
+        Kind::Load => Made::from(mesh::load(
+            positions,
+            corners,
+            links,
+            generations,
+            locks,
+            counts,
+            points::number_at(body, 0),
+            &body[4..],
+        )),
+        Kind::Refine => Made::from(refining::refine(
+            positions,
+            corners,
+            links,
+            generations,
+            locks,
+            counts,
+            points::number_at(body, 0),
+            bad,
+            &mut [0],
+            1,
+        )),
+        Kind::WholeStep => Made::from(mesh::whole_step_known(
+            positions,
+            corners,
+            links,
+            generations,
+            locks,
+            counts,
+            bad,
+        )),
+        Kind::RefineList => make_list(
             positions,
             corners,
             links,
@@ -315,10 +292,8 @@ pub fn make(
             numbers,
             bad,
             body,
-        );
-    }
-    if kind == 5 {
-        return make_box(
+        ),
+        Kind::RefineBox => make_box(
             positions,
             corners,
             links,
@@ -332,10 +307,19 @@ pub fn make(
             spare_locks,
             bad,
             body,
-        );
-    }
-    if kind == 8 {
-        let back = make_back(
+        ),
+        Kind::Lock | Kind::Unlock => Made::from(mesh::lock_known(
+            positions,
+            corners,
+            links,
+            generations,
+            locks,
+            counts,
+            points::number_at(body, 0),
+            kind == Kind::Lock,
+            bad,
+        )),
+        Kind::TakeBack => Made::from(make_back(
             positions,
             corners,
             links,
@@ -345,27 +329,6 @@ pub fn make(
             numbers,
             bad,
             body,
-        );
-        let after = back.counts;
-        return Made {
-            refusal: back.refusal,
-            counts: after,
-        };
-    }
-    let done = make_alone(
-        positions,
-        corners,
-        links,
-        generations,
-        locks,
-        counts,
-        bad,
-        kind,
-        body,
-    );
-    let after = done.counts;
-    Made {
-        refusal: done.refusal,
-        counts: after,
+        )),
     }
 }

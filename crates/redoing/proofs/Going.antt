@@ -19,14 +19,19 @@ use Rattle.theory.proofs.Results.Lists.{list_carried}
 use Rattle.theory.proofs.Results.Boxes.{box_carried}
 use Rattle.rules.specs.Calls.{Outcome}
 use Rattle.rules.specs.History.{changed}
-use Rattle.rules.specs.Numbers.{number_at}
 use Rattle.rules.specs.Sound.{Sound}
 use Rattle.rules.specs.Spares.{Spares}
 use Rattle.rules.specs.Tables.{Mesh}
 use Rattle.journal.specs.Journal.{Entry, loaded, refined, stepped, refined_each, refined_in_box, lock_set, taken_back}
 use Rattle.journal.specs.Journal.{stop_at, size_at, kind_at, body_at, record_length, is_kind, entry_of, entry_at}
 use Rattle.making.specs.Making.{Makes}
-use Rattle.redoing.specs.Replaying.{replay_told, Ready, MakesNext, stays, goes}
+use Rattle.std.proofs.Common.{Result, Ok, Err, IfOk}
+use Rattle.journal.specs.Stops.{IsRecord, ReadsRecord, StopsAt}
+use Rattle.journal.specs.declared.stops.Record.{Record}
+use Rattle.journal.specs.Kinds.{stop_number, stop_refusal}
+use Rattle.journal.specs.declared.stops.Stop.{Stop}
+use Rattle.journal.specs.declared.stops.Stop.TheVariants.{End, Torn, Checksum, NoKind, Refused, Slots, Numbers}
+use Rattle.redoing.specs.Replaying.{stop_of, refusal_of, replay_told, Ready, MakesNext, stays, goes}
 use Rattle.journal.specs.Recording.{StopsWith, no_record, too_many, refuses, LentAlike}
 use Rattle.journal.specs.Replay.{call_of, numbers_of, Lent, Replay, stopped, one_more, replay_first, started_at}
 use Rattle.journal.specs.Replay.{replay}
@@ -36,7 +41,6 @@ use Rattle.journal.proofs.Changes.{refused_mesh}
 use Rattle.journal.proofs.Histories.{nothing_left}
 use Rattle.journal.proofs.Journals.{stop_for, replay_bad, replay_good}
 use Rattle.journal.proofs.Lending.{entry_alike, stops_alike}
-use Rattle.journal.proofs.Numbers.{number_drop}
 use Rattle.journal.proofs.Reading.{Whole, stop_whole}
 use Rattle.journal.proofs.Replaying.{Advances, halts, advances, replays_first, replays_is, first_bound}
 use Rattle.journal.proofs.Replaying.{replays_tells, seq}
@@ -49,6 +53,22 @@ stops_some : {lent : Lent} {bytes : List ℕ} {m : Mesh} {n k : ℕ} → StopsWi
 stops_some (no_record x) e = x e
 stops_some (too_many z l) e = omega arith
 stops_some (refuses z l x) e = omega arith
+
+stop_nonzero : (s : Stop) → stop_number s ≢ 0
+stop_nonzero End e = omega arith
+stop_nonzero Torn e = omega arith
+stop_nonzero Checksum e = omega arith
+stop_nonzero NoKind e = omega arith
+stop_nonzero (Refused n) e = omega arith
+stop_nonzero Slots e = omega arith
+stop_nonzero Numbers e = omega arith
+
+-- A replay that has a reason to stop is told with its number.
+pub stop_told : {x : Result Record Stop} {s : Stop} → x ≡ Err s → stop_of x ≢ 0
+stop_told {s = s} e = rw e (stop_nonzero s)
+
+pub none_told : {x : Result Record Stop} {r : Record} → x ≡ Ok r → stop_of x ≡ 0
+none_told e = rw e refl
 
 -- ---- what is carried out leaves a sound mesh
 
@@ -67,6 +87,16 @@ entry_sound s (taken_back note) m z = let x = take_back_carried note m z in soun
 
 -- ---- the next record
 
+-- What is told of a record that is read.
+pub read_told : (bytes : List ℕ) (x : Result Record Stop) → ReadsRecord bytes x
+    → (stop_of x ≡ stop_at bytes) × (refusal_of x ≡ 0)
+read_told bytes (Ok r) h = (sym h.whole, refl)
+read_told bytes (Err s) h = (h.number, h.refusal)
+
+pub read_next : (bytes : List ℕ) (x : Result Record Stop) → ReadsRecord bytes x → IfOk x (IsRecord bytes)
+read_next bytes (Ok r) h = h
+read_next bytes (Err s) h = tt
+
 -- The bytes from a place on, as they are lent.
 pub lent_tail : (n : ℕ) (l : List ℕ) → take (length l - n) (drop n l) ≡ drop n l
 lent_tail n l = take_all (length l - n) (drop n l) (simp length-drop (omega arith))
@@ -75,25 +105,14 @@ module _ {bytes : List ℕ} {r : Replayed} (R : Ready bytes r) where
   whole_here : Whole (drop r.end bytes)
   whole_here = stop_whole (drop r.end bytes) R.whole
 
-  size_here : size_at (drop r.end bytes) ≡ number_at bytes r.end
-  size_here = let q : r.end + 0 ≡ r.end = omega arith in rw q at (number_drop r.end bytes 0)
-
-  kind_here : kind_at (drop r.end bytes) ≡ number_at bytes (r.end + 4)
-  kind_here = number_drop r.end bytes 4
-
-  pub room : r.end + (16 + number_at bytes r.end) ≤ length bytes
+  pub room : r.end + (16 + size_at (drop r.end bytes)) ≤ length bytes
   room =
       let l = R.within in
       let h = whole_here.long in
-      let e = size_here in
       omega (arith, length-drop r.end bytes)
 
-  pub is_kind_lem : (size kind : ℕ) → size ≡ number_at bytes r.end → kind ≡ number_at bytes (r.end + 4)
-      → is_kind kind size ≡ true
-  is_kind_lem size kind es ek = rw (es, ek, ← size_here, ← kind_here) whole_here.kind
-
-module _ (lent : Lent) {bytes : List ℕ} {r : Replayed} (m : Mesh) (R : Ready bytes r) (size kind k : ℕ)
-    (es : size ≡ number_at bytes r.end) (ek : kind ≡ number_at bytes (r.end + 4))
+module _ {bytes : List ℕ} {r : Replayed} (R : Ready bytes r) (size kind k : ℕ)
+    (es : size ≡ size_at (drop r.end bytes)) (ek : kind ≡ kind_at (drop r.end bytes))
     (en : (body : List ℕ) → length body ≡ size → k ≡ numbers_of (entry_of kind body)) where
   abbrev rest : List ℕ
   rest = drop r.end bytes
@@ -102,16 +121,16 @@ module _ (lent : Lent) {bytes : List ℕ} {r : Replayed} (m : Mesh) (R : Ready b
   body_length =
       let l = (whole_here R).long in
       let p = length-drop r.end bytes in
-      length-take-le (size_at rest) (drop 12 rest) (simp length-drop (omega arith)) ∙ size_here R ∙ sym es
+      length-take-le (size_at rest) (drop 12 rest) (simp length-drop (omega arith)) ∙ sym es
 
   -- The body, as it is lent.
   body_here : take (r.end + 12 + size - (r.end + 12)) (drop (r.end + 12) bytes) ≡ body_at rest
   body_here =
       let q : r.end + 12 + size - (r.end + 12) ≡ size = omega arith in
-      rw (q, es, ← size_here R, ← drop-drop 12 r.end bytes) refl
+      rw (q, es, ← drop-drop 12 r.end bytes) refl
 
   entry_here : entry_of kind (body_at rest) ≡ entry_at rest
-  entry_here = ap (λ (i : ℕ). entry_of i (body_at rest)) (ek ∙ sym (kind_here R))
+  entry_here = ap (λ (i : ℕ). entry_of i (body_at rest)) ek
 
   numbers_here : k ≡ numbers_of (entry_at rest)
   numbers_here = en (body_at rest) body_length ∙ ap numbers_of entry_here
@@ -120,44 +139,44 @@ module _ (lent : Lent) {bytes : List ℕ} {r : Replayed} (m : Mesh) (R : Ready b
   lent_here = ap (entry_of kind) body_here ∙ entry_here
 
   pub lent_kind : is_kind kind (length (take (r.end + 12 + size - (r.end + 12)) (drop (r.end + 12) bytes))) ≡ true
-  lent_kind = rw (body_here, body_length) (is_kind_lem R size kind es ek)
+  lent_kind = rw (body_here, body_length, es, ek) (whole_here R).kind
 
-  pub lent_room : k ≤ lent.numbers
-      → numbers_of (entry_of kind (take (r.end + 12 + size - (r.end + 12)) (drop (r.end + 12) bytes))) ≤ lent.numbers
-  lent_room l = let e = numbers_here in rw lent_here (omega arith)
+  pub lent_room : (n : ℕ) → k ≤ n
+      → numbers_of (entry_of kind (take (r.end + 12 + size - (r.end + 12)) (drop (r.end + 12) bytes))) ≤ n
+  lent_room n l = let e = numbers_here in rw lent_here (omega arith)
 
-  pub too_many_lem : (s : Replayed) (n : Mesh) → lent.numbers < k → s.records ≡ r.records → s.end ≡ r.end
-      → s.stop ≡ 7 → s.refusal ≡ 0 → n ≡ m → MakesNext lent bytes r m s n
-  too_many_lem s n l a b e f g =
-      let q = numbers_here in
-      let x : StopsWith lent rest m 7 0 = too_many R.whole (omega arith) in
-      stays a b (rw (e, f) x) g
+  module _ (lent : Lent) (m : Mesh) where
+    pub numbers_exceed : (s : Replayed) (n : Mesh) → lent.numbers < k → s.records ≡ r.records → s.end ≡ r.end
+        → s.stop ≡ 7 → s.refusal ≡ 0 → n ≡ m → MakesNext lent bytes r m s n
+    numbers_exceed s n l a b e f g =
+        let q = numbers_here in
+        let x : StopsWith lent rest m 7 0 = too_many R.whole (omega arith) in
+        stays a b (rw (e, f) x) g
 
-  module _ (s : Replayed) (n : Mesh) (w : Made) (l : k ≤ lent.numbers)
-      (W : Makes (changed (call_of lent.spares
-      (entry_of kind (take (r.end + 12 + size - (r.end + 12)) (drop (r.end + 12) bytes)))) m) w n) where
-    makes_here : Makes (changed (call_of lent.spares (entry_at rest)) m) w n
-    makes_here = subst (λ (e : Entry). Makes (changed (call_of lent.spares e) m) w n) lent_here W
+    module _ (s : Replayed) (n : Mesh) (w : Made) (l : k ≤ lent.numbers)
+        (W : Makes (changed (call_of lent.spares
+        (entry_of kind (take (r.end + 12 + size - (r.end + 12)) (drop (r.end + 12) bytes)))) m) w n) where
+      makes_here : Makes (changed (call_of lent.spares (entry_at rest)) m) w n
+      makes_here = subst (λ (e : Entry). Makes (changed (call_of lent.spares e) m) w n) lent_here W
 
-    room_here : numbers_of (entry_at rest) ≤ lent.numbers
-    room_here = let q = numbers_here in omega arith
+      room_here : numbers_of (entry_at rest) ≤ lent.numbers
+      room_here = let q = numbers_here in omega arith
 
-    pub refused_next : w.refusal ≢ 0 → s.records ≡ r.records → s.end ≡ r.end → s.stop ≡ 5
-        → s.refusal ≡ w.refusal → MakesNext lent bytes r m s n
-    refused_next x a b e f =
-        let c = call_of lent.spares (entry_at rest) in
-        let q = makes_here.refusal in
-        let y : (changed c m).answer.refusal ≢ 0 = λ z. x (q ∙ z) in
-        let h : StopsWith lent rest m 5 (changed c m).answer.refusal = refuses R.whole room_here y in
-        stays a b (rw (e, f, q) h) (makes_here.mesh ∙ refused_mesh c m y)
+      pub refused_next : w.refusal ≢ 0 → s.records ≡ r.records → s.end ≡ r.end → s.stop ≡ 5
+          → s.refusal ≡ w.refusal → MakesNext lent bytes r m s n
+      refused_next x a b e f =
+          let c = call_of lent.spares (entry_at rest) in
+          let q = makes_here.refusal in
+          let y : (changed c m).answer.refusal ≢ 0 = λ z. x (q ∙ z) in
+          let h : StopsWith lent rest m 5 (changed c m).answer.refusal = refuses R.whole room_here y in
+          stays a b (rw (e, f, q) h) (makes_here.mesh ∙ refused_mesh c m y)
 
-    pub carried_next : w.refusal ≡ 0 → s.records ≡ r.records + 1 → s.end ≡ r.end + 12 + size + 4
-        → s.stop ≡ stop_at (take (length bytes - s.end) (drop s.end bytes)) → s.refusal ≡ 0
-        → MakesNext lent bytes r m s n
-    carried_next z a b e f =
-        let q = size_here R in
-        goes a (omega arith) (rw (lent_tail s.end bytes) at e) f room_here
-        (sym makes_here.refusal ∙ z) makes_here.mesh
+      pub carried_next : w.refusal ≡ 0 → s.records ≡ r.records + 1 → s.end ≡ r.end + 12 + size + 4
+          → s.stop ≡ stop_at (take (length bytes - s.end) (drop s.end bytes)) → s.refusal ≡ 0
+          → MakesNext lent bytes r m s n
+      carried_next z a b e f =
+          goes a (omega arith) (rw (lent_tail s.end bytes) at e) f room_here
+          (sym makes_here.refusal ∙ z) makes_here.mesh
 
 -- ---- all records
 
@@ -267,21 +286,21 @@ module _ {lent later : Lent} {bytes : List ℕ} {m₀ : Mesh} {r : Replayed} {m 
         known = λ h. sound_standing (subst Sound (sym g) (entry_sound later.spares (entry_at left) m c));
       }
 
-pub goes_on_lem : {lent later : Lent} {bytes : List ℕ} {m₀ : Mesh} {r : Replayed} {m : Mesh} {bad : ℕ}
+pub reached_on : {lent later : Lent} {bytes : List ℕ} {m₀ : Mesh} {r : Replayed} {m : Mesh} {bad : ℕ}
     → LentAlike lent later → Reached lent bytes m₀ r m bad → r.stop ≡ 0 → (s : Replayed) (n : Mesh)
     → MakesNext later bytes r m s n → Reached lent bytes m₀ s n 0
-goes_on_lem L R z s n (stays a b x e) = stays_on L R s n a b x e
-goes_on_lem L R z s n (goes a b e f l c g) = goes_further L R s n z a b e f l c g
+reached_on L R z s n (stays a b x e) = stays_on L R s n a b x e
+reached_on L R z s n (goes a b e f l c g) = goes_further L R s n z a b e f l c g
 
 -- It comes nearer to the end, or stops.
 pub comes_nearer : {lent : Lent} {bytes : List ℕ} {r : Replayed} {m : Mesh} {s : Replayed} {n : Mesh}
-    → MakesNext lent bytes r m s n → r.stop ≡ 0 → s.end ≤ length bytes
+    → Ready bytes r → r.stop ≡ 0 → MakesNext lent bytes r m s n
     → length bytes - s.end + (1 - s.stop) < length bytes - r.end + (1 - r.stop)
-comes_nearer {s = s} (stays a b x e) z l =
+comes_nearer {s = s} R z (stays a b x e) =
     let y : s.stop ≢ 0 = stops_some x in
     let i = nonzero s.stop y in
     omega arith
-comes_nearer (goes a b e f k c g) z l = omega arith
+comes_nearer R z (goes a b e f k c g) = let l = room R in omega arith
 
 pub ends : {lent : Lent} {bytes : List ℕ} {m : Mesh} {r : Replayed} {n : Mesh} {bad : ℕ}
     → Reached lent bytes m r n bad → r.stop ≢ 0 → replay_told r n ≡ replay_first (length bytes) lent bytes m
@@ -304,15 +323,16 @@ ends_below lent bytes start limit m r n b l f =
     let e = ap (λ (x : Replay). x.end) g in
     omega (arith, length-drop start bytes)
 
-pub header_stops : (lent : Lent) (bytes : List ℕ) (at : ℕ) (m : Mesh) (stop : ℕ) → stop ≡ stop_for m bytes → stop ≢ 0
-    → stopped stop 0 m ≡ replay lent bytes at m
-header_stops lent bytes at m stop e x =
-    ap (λ (k : ℕ). stopped k 0 m) e ∙ sym (replay_bad lent bytes at m (λ z. x (e ∙ z)))
+pub header_stops : (lent : Lent) (bytes : List ℕ) (at : ℕ) (m : Mesh) (s : Stop) → StopsAt (stop_for m bytes) s
+    → stopped (stop_number s) (stop_refusal s) m ≡ replay lent bytes at m
+header_stops lent bytes at m s h =
+    let x : stop_for m bytes ≢ 0 = λ z. stop_nonzero s (h.number ∙ z) in
+    rw (h.number, h.refusal) (sym (replay_bad lent bytes at m x))
 
-module _ (lent : Lent) (bytes : List ℕ) (at : ℕ) (m : Mesh) (stop start : ℕ) (e : stop ≡ stop_for m bytes) (z : stop ≡ 0)
+module _ (lent : Lent) (bytes : List ℕ) (at : ℕ) (m : Mesh) (start : ℕ) (z : stop_for m bytes ≡ 0)
     (s : start ≡ max 20 at) where
   replay_from : replay lent bytes at m ≡ started_at start (replay_first (length bytes) lent (drop start bytes) m)
-  replay_from = rw s (replay_good lent bytes at m (sym e ∙ z))
+  replay_from = rw s (replay_good lent bytes at m z)
 
   pub nothing_from : length bytes ≤ start
       → record { records = 0; end = start; stop = 1; refusal = 0; mesh = m } ≡ replay lent bytes at m

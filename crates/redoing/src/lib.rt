@@ -1,15 +1,18 @@
 // The next record of a journal, made again on lent tables.
 #![tactic(auto)]
 
-ghost use Rattle.std.specs.Prelude.{◌≡◌, length};
+ghost use Rattle.std.specs.Prelude.{◌≡◌, length, drop, IfOk};
 ghost use Rattle.tables.specs.Lent.{mesh_now, spares_now};
 ghost use Rattle.tables.specs.Standing.{standing};
-ghost use Rattle.redoing.specs.Replaying.{Ready, MakesNext};
+ghost use Rattle.journal.specs.Stops.{IsRecord};
+ghost use Rattle.redoing.specs.Replaying.{told, Ready, MakesNext};
 
+use journal::stops::{Record, Stop};
 use tables::Counts;
 
 // The answer of a replay: the counts, why it stopped, what the next record's call is refused with, how many records
 // were replayed, and where the next one starts.
+// Kept: the C interface answers numbers.
 #[repr(C)]
 #[derive(Clone, Copy)]
 pub struct Replayed {
@@ -20,6 +23,35 @@ pub struct Replayed {
     pub end: usize,
 }
 
+// A replay on its way: the counts, how many records were replayed, where the next one starts, and what is there, or why
+// the replay stops.
+#[derive(Clone, Copy)]
+pub struct Progress {
+    pub counts: Counts,
+    pub records: usize,
+    pub end: usize,
+    pub next: Result<Record, Stop>,
+}
+
+impl Progress {
+    // What C is told of it.
+    pub fn told(self) -> Replayed
+        ensures { result ≡ told self }
+    {
+        let (stop, refusal) = match self.next {
+            Ok(_) => (0, 0),
+            Err(stop) => (stop.number(), stop.refusal()),
+        };
+        Replayed {
+            counts: self.counts,
+            stop,
+            refusal,
+            records: self.records,
+            end: self.end,
+        }
+    }
+}
+
 // Replays the next record, which is whole, on a mesh whose first refusal is known.
 pub fn one_more(
     positions: &mut [i32],
@@ -27,7 +59,8 @@ pub fn one_more(
     links: &mut [u32],
     generations: &mut [u8],
     locks: &mut [u8],
-    state: Replayed,
+    state: Progress,
+    next: Record,
     spare_positions: &mut [i32],
     spare_corners: &mut [u32],
     spare_links: &mut [u32],
@@ -36,43 +69,37 @@ pub fn one_more(
     numbers: &mut [u32],
     bad: u32,
     bytes: &[u8],
-) -> Replayed
+) -> Progress
     requires bad_value { bad ≡ standing (mesh_now state.counts positions.old corners.old links.old
         generations.old locks.old) }
-    requires ready { Ready bytes.now state }
-    ensures { MakesNext (record {
+    requires ready { Ready bytes.now (told state) }
+    requires is_next { IsRecord (drop state.end bytes.now) next }
+    ensures makes { MakesNext (record {
       spares = spares_now spare_positions.old spare_corners.old
           spare_links.old spare_generations.old spare_locks.old;
       numbers = length numbers.old;
     }) bytes.now
-        state (mesh_now state.counts positions.old corners.old links.old
+        (told state) (mesh_now state.counts positions.old corners.old links.old
         generations.old locks.old)
-        result (mesh_now result.counts positions.new corners.new links.new
+        (told result) (mesh_now result.counts positions.new corners.new links.new
         generations.new locks.new) }
+    ensures read { IfOk result.next (IsRecord (drop result.end bytes.now)) }
 {
-    let at = state.end;
-    let counts = state.counts;
-    let records = state.records;
-    let size = points::number_at(bytes, at) as usize;
-    let kind = points::number_at(bytes, at + 4);
-    if numbers.len() < making::numbers_of(kind, size) {
-        return Replayed {
-            counts,
-            stop: 7,
-            refusal: 0,
-            records,
-            end: at,
+    if numbers.len() < making::numbers_of(next.kind, next.size) {
+        return Progress {
+            next: Err(Stop::Numbers),
+            ..state
         };
     }
-    let first = at + 12;
-    let last = first + size;
+    let first = state.end + 12;
+    let last = first + next.size;
     let done = making::make(
         positions,
         corners,
         links,
         generations,
         locks,
-        counts,
+        state.counts,
         spare_positions,
         spare_corners,
         spare_links,
@@ -80,26 +107,21 @@ pub fn one_more(
         spare_locks,
         numbers,
         bad,
-        kind,
+        u32::from(next.kind),
         &bytes[first..last],
     );
-    let made = done.counts;
     if done.refusal != 0 {
-        return Replayed {
-            counts: made,
-            stop: 5,
-            refusal: done.refusal,
-            records,
-            end: at,
+        return Progress {
+            counts: done.counts,
+            next: Err(Stop::Refused(done.refusal)),
+            ..state
         };
     }
     let end = last + 4;
-    let stop = journal::stops::stop_at(&bytes[end..]);
-    Replayed {
-        counts: made,
-        stop,
-        refusal: 0,
-        records: records + 1,
+    Progress {
+        counts: done.counts,
+        records: state.records + 1,
         end,
+        next: journal::stops::read_record(&bytes[end..]),
     }
 }

@@ -7,7 +7,7 @@ ghost use Rattle.tables.specs.Standing.{standing};
 ghost use Rattle.journal.specs.Replay.{replay_first};
 ghost use Rattle.redoing.specs.Replaying.{replay_told};
 
-use redoing::Replayed;
+use redoing::{Progress, Replayed};
 use tables::Counts;
 
 // Replays records from the front of the bytes on, on a mesh whose first refusal is known. What a call carries out is
@@ -41,14 +41,13 @@ pub fn replay_all(
         generations.old locks.old) }
 {
     let mut known = bad;
-    let mut state = Replayed {
+    let mut state = Progress {
         counts,
-        stop: journal::stops::stop_at(bytes),
-        refusal: 0,
         records: 0,
         end: 0,
+        next: journal::stops::read_record(bytes),
     };
-    while state.stop == 0 {
+    while let Ok(next) = state.next {
         state = redoing::one_more(
             positions,
             corners,
@@ -56,6 +55,7 @@ pub fn replay_all(
             generations,
             locks,
             state,
+            next,
             spare_positions,
             spare_corners,
             spare_links,
@@ -67,5 +67,5 @@ pub fn replay_all(
         );
         known = 0;
     }
-    state
+    state.told()
 }

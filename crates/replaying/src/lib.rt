@@ -6,7 +6,8 @@ ghost use Rattle.tables.specs.Lent.{mesh_now, spares_now};
 ghost use Rattle.journal.specs.Replay.{replay};
 ghost use Rattle.redoing.specs.Replaying.{replay_told};
 
-use redoing::Replayed;
+use journal::stops::Stop;
+use redoing::{Progress, Replayed};
 use tables::Counts;
 
 // Replays a journal from a place on, or from its first record where the place is before it: makes the calls of its
@@ -37,25 +38,24 @@ pub fn replay(
         (mesh_now counts positions.old corners.old links.old
         generations.old locks.old) }
 {
-    let stop = journal::stops::header_stop(bytes, positions.len() / 3, generations.len());
-    if stop != 0 {
-        return Replayed {
+    if let Err(stop) = journal::stops::read_header(bytes, positions.len() / 3, generations.len()) {
+        let none = Progress {
             counts,
-            stop,
-            refusal: 0,
             records: 0,
             end: 0,
+            next: Err(stop),
         };
+        return none.told();
     }
     let start = journal::stops::first_record(at);
     if bytes.len() <= start {
-        return Replayed {
+        let none = Progress {
             counts,
-            stop: 1,
-            refusal: 0,
             records: 0,
             end: start,
+            next: Err(Stop::End),
         };
+        return none.told();
     }
     let bad = soundness::first_refusal(positions, corners, links, generations, locks, counts);
     let all = repeating::replay_all(
@@ -74,12 +74,8 @@ pub fn replay(
         bad,
         &bytes[start..],
     );
-    let made = all.counts;
     Replayed {
-        counts: made,
-        stop: all.stop,
-        refusal: all.refusal,
-        records: all.records,
         end: start + all.end,
+        ..all
     }
 }

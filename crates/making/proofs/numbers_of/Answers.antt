@@ -1,17 +1,14 @@
 -- `making::numbers_of` meets its contract.
-use borrow.Author.Tests.{eqb-false}
-use mathlib.Core.Logic.{inl, inr}
+use Rattle.std.proofs.Common.{ap, inl, inr}
+use Rattle.journal.specs.Kinds.{number_of}
 use Rattle.making.proofs.Calling.{many_numbers, no_numbers}
 use Rattle.making.proofs.numbers_of.Goals as goal
-use Rattle.making.proofs.numbers_of.Goals.{then-kind-eq4-via-then-kind-eq4, then-kind-eq4-via-else-kind-eq4+then-kind-eq8}
 
-pub returns-then-kind-eq4 : goal.returns-then-kind-eq4
-returns-then-kind-eq4 c body l =
-    elim c.then-kind-eq4.branch [
-      | then-kind-eq4-via-then-kind-eq4 x ↦ many_numbers _ body _ (inl x.if-kind-eq4.true) l
-      | then-kind-eq4-via-else-kind-eq4+then-kind-eq8 x ↦ many_numbers _ body _ (inr x.if-kind-eq8.true) l
-    ]
+pub returns-in-RefineList : goal.returns-in-RefineList
+returns-in-RefineList c body l = elim c.in-RefineList.is [
+  | inl e ↦ many_numbers _ body _ (inl (ap number_of e)) l
+  | inr e ↦ many_numbers _ body _ (inr (ap number_of e)) l
+]
 
-pub returns : goal.returns
-returns c body l =
-    no_numbers _ body _ c.requires c.if-kind-eq4.false (eqb-false _ 8 c.if-kind-eq8.false-raw)
+pub returns-in_default : goal.returns-in_default
+returns-in_default c body l = no_numbers _ body c.in_default.not-RefineList c.in_default.not-TakeBack

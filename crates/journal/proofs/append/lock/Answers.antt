@@ -1,10 +1,12 @@
 -- `journal::append::lock` meets its contract.
+use Rattle.journal.proofs.Appending.{bytes_one}
 use Rattle.journal.proofs.append.lock.Goals as goal
+use Rattle.journal.proofs.append.lock.Goals.{then-on, else-on}
 
-pub returns-then-on : goal.returns-then-on
-returns-then-on c =
-    rw c.if-on.true c.one_number.ensures
-
-pub returns-else-on : goal.returns-else-on
-returns-else-on c =
-    rw c.if-on.false c.one_number-else-on.ensures
+pub returns : goal.returns
+returns c =
+    let written = rw bytes_one at c.numbers.ensures in
+    elim c.if-on.branch [
+      | then-on w ↦ rw w.if-on.true (rw w.kind-is at written)
+      | else-on w ↦ rw w.if-on.false (rw w.kind-is at written)
+    ]

@@ -1,21 +1,7 @@
 -- `journal::append::put_number` meets its contract.
-use native.Mathlib.Omega.{arith}
-use lib.ListN.{length-set}
-use Rattle.journal.proofs.Appending.{four_stored}
+use Rattle.std.proofs.Common.{◌∙◌}
+use Rattle.journal.proofs.Appending.{four_low_first}
 use Rattle.journal.proofs.append.put_number.Goals as goal
 
-pub bounds-buffer-at-2 : goal.bounds-buffer-at-2
-bounds-buffer-at-2 c =
-    simp length-set (omega arith)
-
-pub bounds-buffer-at-3 : goal.bounds-buffer-at-3
-bounds-buffer-at-3 c =
-    simp length-set (omega arith)
-
-pub bounds-buffer-at-4 : goal.bounds-buffer-at-4
-bounds-buffer-at-4 c =
-    simp length-set (omega arith)
-
 pub returns : goal.returns
-returns c =
-    four_stored _ _ _
+returns c = rw (c.to_le_bytes.ensures ∙ four_low_first c.args.n) at c.put_bytes.ensures

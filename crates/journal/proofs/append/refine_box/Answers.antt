@@ -1,18 +1,15 @@
 -- `journal::append::refine_box` meets its contract.
-use mir.Syntax.{w32}
-use Rattle.points.proofs.Axes.{fields_fit}
-use Rattle.journal.proofs.Signed.{bits_of}
+use Rattle.std.proofs.Common.{◌≡◌, arith, to_z-of_z}
+use Rattle.journal.specs.Journal.{unsigned}
+use Rattle.journal.proofs.Appending.{bits_are}
 use Rattle.journal.proofs.append.refine_box.Goals as goal
 
 pub returns : goal.returns
 returns c =
-    let low = fields_fit w32 c.args.low.x c.args.low.y c.args.low.z c.struct_told-1.given in
-    let high = fields_fit w32 c.args.high.x c.args.high.y c.args.high.z c.struct_told-4-1.given in
-    rw (
-      bits_of (low 0) c.unsigned_of.ensures,
-      bits_of (low 1) c.unsigned_of-2.ensures,
-      bits_of (low 2) c.unsigned_of-3.ensures,
-      bits_of (high 0) c.unsigned_of-4.ensures,
-      bits_of (high 1) c.unsigned_of-5.ensures,
-      bits_of (high 2) c.unsigned_of-6.ensures,
-    ) at c.numbers.ensures
+    let a : c.cast_unsigned.result ≡ unsigned c.args.low.x = grind (arith, to_z-of_z, bits_are) in
+    let b : c.cast_unsigned-2.result ≡ unsigned c.args.low.y = grind (arith, to_z-of_z, bits_are) in
+    let d : c.cast_unsigned-3.result ≡ unsigned c.args.low.z = grind (arith, to_z-of_z, bits_are) in
+    let e : c.cast_unsigned-4.result ≡ unsigned c.args.high.x = grind (arith, to_z-of_z, bits_are) in
+    let f : c.cast_unsigned-5.result ≡ unsigned c.args.high.y = grind (arith, to_z-of_z, bits_are) in
+    let g : c.cast_unsigned-6.result ≡ unsigned c.args.high.z = grind (arith, to_z-of_z, bits_are) in
+    rw (a, b, d, e, f, g) at c.numbers.ensures

@@ -4,5 +4,4 @@ use Rattle.journal.proofs.append.whole_step.Goals as goal
 
 pub returns : goal.returns
 unfolding bytes_of
-returns c =
-    c.numbers.ensures
+returns c = c.numbers.ensures
