@@ -82,8 +82,7 @@ pub fn preview(view: &View, counts: Counts, list: &[u32], spares: &mut Tables) -
         foreseen_outcome result m (held spares.new) ≡ only_read m (list_done list.now m (held spares.old)) }
     ensures spares_lent { SameTables spares.new spares.old }
 {
-    let mut none = [0u32; 1];
-    let made = listing::work_in_spares(view, counts, list, &mut none, spares);
+    let made = listing::work_in_spares(view, counts, list, &mut [], spares);
     foresee(counts, made)
 }
 
