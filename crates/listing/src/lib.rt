@@ -137,8 +137,7 @@ pub fn work_reported(
         × (report.new ≡ report_left p report.old) }
     ensures spares_lent { SameTables spares.new spares.old }
 {
-    let mut none = [0u32; 1];
-    let first = work_in_spares(view, counts, list, &mut none, spares);
+    let first = work_in_spares(view, counts, list, &mut [], spares);
     let fitted = refining::spares::fit(first, report.len());
     if fitted.refusal != 0 {
         return fitted;
@@ -159,8 +158,7 @@ pub fn refine_list(
     ensures lent { SameTables tables.new tables.old }
     ensures spares_lent { SameTables spares.new spares.old }
 {
-    let mut none = [0u32; 1];
-    let made = work_in_spares(&tables.view(), counts, list, &mut none, spares);
+    let made = work_in_spares(&tables.view(), counts, list, &mut [], spares);
     refining::spares::carry_back(tables, counts, made, &spares.view())
 }
 
