@@ -81,7 +81,8 @@ fn limits_by(
     Ok(())
 }
 
-// The same for up to N vertices, of which there are no more than 32,768.
+// The same for up to N vertices, of which there are no more than 32,768. Each size has a stack frame of its own.
+#[inline(never)]
 fn limits_within<const N: usize>(
     view: &View,
     counts: Counts,

@@ -113,7 +113,8 @@ fn step_by(tables: &mut Tables, counts: Counts, rings: &mut [RingSum]) -> Worked
     }
 }
 
-// The same for up to N vertices, of which there are no more than 32,768.
+// The same for up to N vertices, of which there are no more than 32,768. Each size has a stack frame of its own.
+#[inline(never)]
 fn step_within<const N: usize>(tables: &mut Tables, counts: Counts) -> Worked
     requires sound { Sound (mesh_with counts (held tables.old)) }
     requires slots { (counts.vertices ≤ N) × (N ≤ 32768) }
