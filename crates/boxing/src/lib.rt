@@ -74,6 +74,7 @@ fn work_in_spares(
     ensures spares_lent { SameTables spares.new spares.old }
 {
     view.copy_mesh(counts, spares);
+    // Kept: no plainer: the marks are arrays of a constant size, which a test has to choose.
     if spares.generations.len() <= 2048 && spares.positions.len() <= 6144 {
         return refine_within::<32, 32, 1>(spares, counts, low, high, below, report);
     }
@@ -100,6 +101,7 @@ fn work_reported(
 {
     let first = work_in_spares(view, counts, low, high, below, &mut [], spares);
     let fitted = refining::spares::fit(first, report.len());
+    // Kept: no plainer: what was made stands beside the refusal, so that a Result would hold it twice.
     if fitted.refusal != 0 {
         return fitted;
     }

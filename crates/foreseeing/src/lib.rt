@@ -15,6 +15,7 @@ use tables::{Counts, Tables, View};
 
 // The answer of a preview: V and F are those that the list would answer, and no counts of the mesh, which stands. On a
 // refusal they are the mesh's own.
+// Kept: the C interface answers a number.
 #[repr(C)]
 #[derive(Clone, Copy)]
 pub struct BatchForeseen {
@@ -49,6 +50,7 @@ impl BatchForeseen {
 }
 
 // What is foreseen where this work was made of a mesh with these counts.
+// Kept: no plainer: it needs the mesh's counts too, so that it is no From; and what was made stands beside the refusal.
 fn foresee(counts: Counts, made: Batch) -> BatchForeseen
     ensures { result ≡ foreseen_of counts made }
 {

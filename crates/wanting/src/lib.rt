@@ -231,6 +231,7 @@ fn refine_marked(
     let slots = chain.slots;
     let near = with_neighbours(before.links, chain.end);
     let done = refining::refine(tables, counts, t, Ok(()), report, at);
+    // Kept: no plainer: the answer goes on as it is, and only a refine that was carried out leaves marks to put right.
     if done.refusal == 0 {
         let reached = done.counts;
         let after = tables.view();
