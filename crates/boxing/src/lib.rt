@@ -17,8 +17,8 @@ use points::Point;
 use refining::spares::{Batch, BatchReported, BatchWorked};
 use tables::{Counts, Tables, View};
 
-// The box worked in tables that hold the mesh, with marks for 64 vertices in each word of INSIDE and for 64 triangles in
-// each of BITS, and for 64 of these in each of WORDS.
+// The box worked in tables that hold the mesh, with marks for 64 vertices in each word of INSIDE and for 64 triangles
+// in each of BITS, and for 64 of these in each of WORDS.
 fn refine_within<const INSIDE: usize, const BITS: usize, const WORDS: usize>(
     tables: &mut Tables,
     counts: Counts,
@@ -139,7 +139,8 @@ pub fn refine_box_reported(
     spares: &mut Tables,
 ) -> BatchReported
     requires { MayWork (mesh_with counts (held tables.old)) (held spares.old) }
-    ensures boxed { with_report report.new result.reported (batch_outcome result.worked (held tables.new) (held spares.new))
+    ensures boxed { with_report report.new result.reported (batch_outcome result.worked (held tables.new)
+        (held spares.new))
         ≡ reported_done (refine_in_box (box_of low high below) (mesh_with counts (held tables.old)))
         report.old (mesh_with counts (held tables.old)) (held spares.old) }
     ensures lent { SameTables tables.new tables.old }

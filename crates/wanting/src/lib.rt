@@ -200,6 +200,7 @@ fn mend_after(
 }
 
 // Refines triangle t of a sound mesh, told from place `at` of the report on, and puts the marks right.
+// Kept: the C interface: a refine answers the number of its refusal, 0 for none.
 fn refine_marked(
     tables: &mut Tables,
     counts: Counts,
@@ -231,7 +232,6 @@ fn refine_marked(
     let slots = chain.slots;
     let near = with_neighbours(before.links, chain.end);
     let done = refining::refine(tables, counts, t, Ok(()), report, at);
-    // Kept: no plainer: the answer goes on as it is, and only a refine that was carried out leaves marks to put right.
     if done.refusal == 0 {
         let reached = done.counts;
         let after = tables.view();
