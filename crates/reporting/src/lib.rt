@@ -119,8 +119,8 @@ fn report_length(view: &View, chain: Chain) -> usize
 // So many entries do for the report of every refine.
 const LONGEST: usize = 54;
 
-// Whether the report of a refine along this chain has at most so many entries. The longest do for every refine, and each
-// split takes some.
+// Whether the report of a refine along this chain has at most so many entries. The longest do for every refine, and
+// each split takes some.
 pub fn fits(view: &View, chain: Chain, entries: usize) -> bool
     requires { 3 * chain.end + 2 < length view.now.links.now }
     ensures { (t : ℕ) (n : Counts) →
