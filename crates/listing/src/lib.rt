@@ -42,12 +42,7 @@ fn handle(
         return Worked::refused(Refusal::NotInUse, counts);
     }
     if tables::generation_at(start, t) < tables::generation_at(tables.view().generations, t) {
-        return Worked {
-            refusal: 0,
-            splits: 0,
-            flips: 0,
-            counts,
-        };
+        return Worked::done(counts);
     }
     refining::refine(tables, counts, t, Ok(()), report, at)
 }
@@ -137,8 +132,7 @@ pub fn work_reported(
         × (report.new ≡ report_left p report.old) }
     ensures spares_lent { SameTables spares.new spares.old }
 {
-    let mut none = [0u32; 1];
-    let first = work_in_spares(view, counts, list, &mut none, spares);
+    let first = work_in_spares(view, counts, list, &mut [], spares);
     let fitted = refining::spares::fit(first, report.len());
     if fitted.refusal != 0 {
         return fitted;
@@ -159,8 +153,7 @@ pub fn refine_list(
     ensures lent { SameTables tables.new tables.old }
     ensures spares_lent { SameTables spares.new spares.old }
 {
-    let mut none = [0u32; 1];
-    let made = work_in_spares(&tables.view(), counts, list, &mut none, spares);
+    let made = work_in_spares(&tables.view(), counts, list, &mut [], spares);
     refining::spares::carry_back(tables, counts, made, &spares.view())
 }
 

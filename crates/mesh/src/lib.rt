@@ -30,8 +30,7 @@ pub fn refine(tables: &mut Tables, counts: Counts, t: u32) -> Worked
     ensures lent { SameTables tables.new tables.old }
 {
     let stands = soundness::first_refusal(&tables.view(), counts);
-    let mut none = [0u32; 1];
-    refining::refine(tables, counts, t, stands, &mut none, 1)
+    refining::refine(tables, counts, t, stands, &mut [], 0)
 }
 
 // Refines triangle t, with a note by which it can be taken back.
@@ -121,12 +120,7 @@ pub fn lock_known(
         return Worked::refused(refusal, counts);
     }
     locks[t as usize] = on.into();
-    Worked {
-        refusal: 0,
-        splits: 0,
-        flips: 0,
-        counts,
-    }
+    Worked::done(counts)
 }
 
 // Sets or clears the lock of triangle t.

@@ -127,10 +127,7 @@ pub fn refine_noted(
         Err(refusal) => return Worked::refused(refusal, counts),
     };
     match note_changes(&tables.view(), counts, t, chain, note, true) {
-        Ok(()) => {
-            let mut none = [0u32; 1];
-            refining::carry_out(tables, counts, t, chain, &mut none, 1)
-        }
+        Ok(()) => refining::carry_out(tables, counts, t, chain, &mut [], 0),
         Err(refusal) => Worked::refused(refusal, counts),
     }
 }
