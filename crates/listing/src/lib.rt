@@ -49,6 +49,7 @@ fn handle(
 
 // Handles the entries of a list in tables that hold the mesh, whose generations at the call's start are given, and
 // tells them where the report has room.
+// Kept: the C interface: a refine answers the number of its refusal, 0 for none.
 fn handle_all(
     tables: &mut Tables,
     counts: Counts,
@@ -118,6 +119,7 @@ pub fn work_in_spares(
 
 // The same, refused with 23 where the buffer is shorter than the report. How long this is, is known only after the
 // work; so the work is done twice, and a refused call leaves the buffer.
+// Kept: the C interface: the work has the number that a refine answered.
 pub fn work_reported(
     view: &View,
     counts: Counts,
@@ -158,6 +160,7 @@ pub fn refine_list(
 }
 
 // The same with a report of the slots that are written.
+// Kept: the C interface has the call without a report and this one.
 pub fn refine_list_reported(
     tables: &mut Tables,
     counts: Counts,
