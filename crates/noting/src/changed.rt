@@ -95,9 +95,9 @@ fn list_beside(links: &[u32], generations: &[u8], slots: &mut [u32], from: usize
     list_unmet(links, generations, slots, second, first + 2)
 }
 
-// Lists the slots in use that a refine along this chain changes, in rising order, behind the place that is answered: the
-// odd triangles of the chain before its last and those whose bases meet its end, all with those across their sides 1;
-// and its end with those beside it. (The last odd one meets the end, or is the end.)
+// Lists the slots in use that a refine along this chain changes, in rising order, behind the place that is answered:
+// the odd triangles of the chain before its last and those whose bases meet its end, all with those across their sides
+// 1; and its end with those beside it. (The last odd one meets the end, or is the end.)
 // Kept: no heap; the slots stand in a fixed array, in order.
 pub fn list_changed(view: &View, chain: Chain, slots: &mut [u32]) -> usize
     requires { Rising slots.old 32

@@ -37,7 +37,7 @@ fn copy_four(table: &[u32], first: usize, note: &mut [u32], at: usize)
     note[at + 3] = entry_3;
 }
 
-// Writes what slot s holds. Of corners and links one entry more is copied, the next slot's first, and then written over.
+// Writes what slot s holds. Of corners and links one entry more is copied, the next slot's first, and written over.
 fn write_nine(view: &View, s: u32, note: &mut [u32], at: usize)
     requires { TrianglesAgree (seen view.now) × (length view.now.locks.now ≡ length view.now.generations.now)
         × (s + 1 < length view.now.generations.now) × (at + 8 < length note.old) }
@@ -83,8 +83,8 @@ fn write_note(view: &View, counts: Counts, t: u32, slots: &[u32], note: &mut [u3
     }
 }
 
-// Writes the note of a refine of t along this chain; or refuses it where what is lent is too short for it, and then where
-// a report of the refine does not fit.
+// Writes the note of a refine of t along this chain; or refuses it where what is lent is too short for it, and then
+// where a report of the refine does not fit.
 // Kept: no plainer: whether the report fits is asked after the length of the note.
 fn note_changes(
     view: &View,

@@ -1,5 +1,5 @@
-// The refine taken back by its note, on a mesh that stands or is refused itself. The note is tried on a copy of the mesh
-// before the mesh is written.
+// The refine taken back by its note, on a mesh that stands or is refused itself. The note is tried on a copy of the
+// mesh before the mesh is written.
 #![tactic(auto)]
 
 ghost use Rattle.std.specs.Prelude.{◌≡◌};

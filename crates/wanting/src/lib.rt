@@ -261,7 +261,7 @@ fn refine_marked(
 
 // Refines the lowest wanted triangle until none is left, in tables that hold the mesh. Nothing is marked at first. The
 // turns are told where the report has room.
-// Kept: no plainer: the next triangle is the lowest mark that a refine leaves, and its number says whether there is one.
+// Kept: no plainer: the next triangle is the lowest mark that a refine leaves, and its number says if there is one.
 pub fn refine_wanted(
     tables: &mut Tables,
     counts: Counts,
