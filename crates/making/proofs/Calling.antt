@@ -55,10 +55,6 @@ number_put n v body numbers l t e =
     let s : n + 1 ≡ suc n = omega arith in
     rw (s, numbers_next n body, ← t, ← e) (take-suc-set numbers n v l)
 
--- So many are read.
-pub count_read : (n : ℕ) (body l : List ℕ) → l ≡ numbers_in n body → n ≡ length l
-count_read n body l e = sym (ap length e ∙ length_numbers n body)
-
 -- ---- the change of each kind
 
 module _ (kind : ℕ) (body : List ℕ) where

@@ -1,7 +1,7 @@
 // The change of one record, made again on a mesh that stands or is refused itself.
 #![tactic(auto)]
 
-ghost use Rattle.std.specs.Prelude.{true, List, ◌≡◌, ℕ, ◌+◌, ◌*◌, ◌/◌, ◌≤◌, length, take};
+ghost use Rattle.std.specs.Prelude.{true, List, ◌≡◌, ℕ, ◌+◌, ◌/◌, ◌≤◌, length};
 ghost use Rattle.rules.specs.History.{changed};
 ghost use Rattle.rules.specs.Numbers.{number_at, signed};
 ghost use Rattle.tables.specs.Lent.{held, mesh_with, SameTables};
@@ -27,14 +27,16 @@ pub fn numbers_of(kind: Kind, size: usize) -> usize
     }
 }
 
-// Reads the first n numbers of a body into the front of a table.
-fn read_numbers(body: &[u8], n: usize, numbers: &mut [u32])
-    requires { (4 * n ≤ length body.now) × (n ≤ length numbers.old) }
-    ensures { take n numbers.new ≡ numbers_in n body.now }
+// The numbers of a body, read into the front of a table.
+fn numbers_in<'a>(body: &[u8], table: &'a mut [u32]) -> &'a [u32]
+    requires { length body.now / 4 ≤ length table.old }
+    ensures { result.now ≡ numbers_in (length body.now / 4) body.now }
 {
+    let n = body.len() / 4;
     for i in 0..n {
-        numbers[i] = points::number_at(body, 4 * i);
+        table[i] = points::number_at(body, 4 * i);
     }
+    &table[..n]
 }
 
 // The point in the three numbers from place i on.
@@ -99,9 +101,8 @@ pub fn make(
             told(done.refusal, done.counts)
         }
         Kind::RefineList => {
-            let n = body.len() / 4;
-            read_numbers(body, n, numbers);
-            let done = batches::refine_list_known(tables, counts, &numbers[..n], spares, stands);
+            let list = numbers_in(body, numbers);
+            let done = batches::refine_list_known(tables, counts, list, spares, stands);
             told(done.refusal, done.counts)
         }
         Kind::RefineBox => {
@@ -117,9 +118,8 @@ pub fn make(
             told(done.refusal, done.counts)
         }
         Kind::TakeBack => {
-            let n = body.len() / 4;
-            read_numbers(body, n, numbers);
-            let done = undoing::take_back(tables, counts, stands, &numbers[..n]);
+            let note = numbers_in(body, numbers);
+            let done = undoing::take_back(tables, counts, stands, note);
             told(done.refusal, done.counts)
         }
     }
