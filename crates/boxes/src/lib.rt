@@ -1,5 +1,5 @@
 // The public call that refines what has a corner in a box, without a report. It asks nothing of its caller, but the one
-// named `known` is to be told the first refusal of the mesh. A refusal leaves the mesh.
+// named `known` is to be told whether the mesh stands or what refuses it. A refusal leaves the mesh.
 #![tactic(auto)]
 
 ghost use Rattle.std.specs.Prelude.{◌≡◌};
@@ -7,13 +7,15 @@ ghost use Rattle.refining.specs.Batches.{batch_outcome};
 ghost use Rattle.tables.specs.Standing.{standing};
 ghost use Rattle.points.specs.Axes.{box_of};
 ghost use Rattle.rules.specs.Boxes.{box_call};
-ghost use Rattle.tables.specs.Lent.{mesh_with, held, seen, SameTables};
+ghost use Rattle.tables.specs.Lent.{mesh_with, held, SameTables};
+ghost use Rattle.tables.specs.Refusals.{refused};
 
 use points::Point;
 use refining::spares::BatchWorked;
-use tables::{Counts, Tables, View};
+use tables::refusals::Refusal;
+use tables::{Counts, Tables};
 
-// The same as refine_box, on a mesh whose first refusal is known.
+// The same as refine_box, on a mesh that stands or is refused itself.
 pub fn refine_box_known(
     tables: &mut Tables,
     counts: Counts,
@@ -21,23 +23,17 @@ pub fn refine_box_known(
     high: Point,
     below: u32,
     spares: &mut Tables,
-    bad: u32,
+    stands: Result<(), Refusal>,
 ) -> BatchWorked
-    requires { bad ≡ standing (mesh_with counts (held tables.old)) }
-    ensures done { batch_outcome result (held tables.new) (held spares.new)
+    requires { refused stands ≡ standing (mesh_with counts (held tables.old)) }
+    ensures boxed { batch_outcome result (held tables.new) (held spares.new)
         ≡ box_call (box_of low high below) (held spares.old)
         (mesh_with counts (held tables.old)) }
     ensures lent { SameTables tables.new tables.old }
     ensures spares_lent { SameTables spares.new spares.old }
 {
-    let refusal = lending::refusal(
-        tables,
-        counts,
-        bad,
-        points::box_fits(low, high, below),
-        spares,
-    );
-    if refusal != 0 {
+    let fits = points::box_fits(low, high, below);
+    if let Err(refusal) = lending::refusal(&tables.view(), stands, fits, &spares.view()) {
         return BatchWorked::refused(refusal, counts);
     }
     boxing::refine_box(tables, counts, low, high, below, spares)
@@ -53,12 +49,12 @@ pub fn refine_box(
     below: u32,
     spares: &mut Tables,
 ) -> BatchWorked
-    ensures done { batch_outcome result (held tables.new) (held spares.new)
+    ensures boxed { batch_outcome result (held tables.new) (held spares.new)
         ≡ box_call (box_of low high below) (held spares.old)
         (mesh_with counts (held tables.old)) }
     ensures lent { SameTables tables.new tables.old }
     ensures spares_lent { SameTables spares.new spares.old }
 {
-    let bad = soundness::first_refusal(tables, counts);
-    refine_box_known(tables, counts, low, high, below, spares, bad)
+    let stands = soundness::first_refusal(&tables.view(), counts);
+    refine_box_known(tables, counts, low, high, below, spares, stands)
 }

@@ -1,12 +1,5 @@
 -- The first refusal of a whole step and of a lock.
-use mathlib.Core.Bool.{Bool, not}
-use mathlib.Core.List.{[], ◌∷◌}
-use mathlib.Core.Logic.{◌≢◌}
-use mathlib.Core.Path.{◌≡◌, sym, ◌∙◌}
-use Prim.Native.Nat.{ℕ, ◌*◌, ◌<◌}
-use native.Mathlib.Omega.{arith}
-use lib.Dec.{eqb}
-use lib.ListN.{length}
+use Rattle.std.proofs.Common.{ℕ, ◌*◌, ◌<◌, arith, Bool, not, eqb, [], ◌∷◌, length, ◌≡◌, ◌≢◌, sym, ◌∙◌}
 use Rattle.theory.proofs.Calls.Carried.{lock_found}
 use Rattle.theory.proofs.Calls.FirstThatHolds.{two_kept, refuses, carries}
 use Rattle.rules.specs.Calls.{◌if◌, no_room}
@@ -35,16 +28,16 @@ module _ (on : Bool) (t : ℕ) (m : Mesh) (r : ℕ) (e : r ≡ slot_refusal m.to
   unfolding lock_refusal
   of_lock = e
 
-  pub lock_refused_lem : r ≢ 0 → refused_with r m no_room ≡ lock_call on t m
+  pub lock_refused : r ≢ 0 → refused_with r m no_room ≡ lock_call on t m
   unfolding lock_call
-  lock_refused_lem = refuses m no_room (worked (at_first (with_lock on t m))) (lock_refusal t m) r of_lock
+  lock_refused = refuses m no_room (worked (at_first (with_lock on t m))) (lock_refusal t m) r of_lock
 
   module _ (z : r ≡ 0) where
     pub lock_carried : worked (at_first (with_lock on t m)) ≡ lock_call on t m
     unfolding lock_call
     lock_carried = carries m no_room (worked (at_first (with_lock on t m))) (lock_refusal t m) r of_lock z
 
-    pub lock_room_lem : t < length m.locks
-    lock_room_lem =
+    pub lock_room : t < length m.locks
+    lock_room =
         let F = lock_found t m (sym of_lock ∙ z) in
         omega (arith, F.in_use, F.sound.triangle_room, F.sound.tables.locks)

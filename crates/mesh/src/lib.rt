@@ -3,106 +3,49 @@
 // written.
 #![tactic(auto)]
 
-ghost use Rattle.std.specs.Prelude.{true, false, ◌≡◌, ◌<◌, length, set};
+ghost use Rattle.std.specs.Prelude.{◌≡◌};
 ghost use Rattle.rules.specs.Calls.{load_call, refine_call, whole_step_call, lock_call};
 ghost use Rattle.rules.specs.Notes.{noted_call, take_back_call};
 ghost use Rattle.tables.specs.Answers.{worked_outcome};
-ghost use Rattle.tables.specs.Lent.{mesh_now};
-ghost use Rattle.noting.specs.Noting.{noted_outcome};
+ghost use Rattle.tables.specs.Lent.{held, mesh_with, mesh_now, spares_now, SameTables};
+ghost use Rattle.tables.specs.Refusals.{refused};
 ghost use Rattle.tables.specs.Standing.{standing};
+ghost use Rattle.noting.specs.Noting.{noted_outcome};
 
-use tables::{Counts, Worked};
+use tables::refusals::Refusal;
+use tables::{Counts, Tables, View, Worked};
 
 // Loads a cage, to be rounded by this rule, whatever the tables held before.
-pub fn load(
-    positions: &mut [i32],
-    corners: &mut [u32],
-    links: &mut [u32],
-    generations: &mut [u8],
-    locks: &mut [u8],
-    counts: Counts,
-    rule: u32,
-    cage: &[u8],
-) -> Worked
-    ensures { worked_outcome result positions.new corners.new links.new generations.new
-        locks.new
-        ≡ load_call rule cage.now (mesh_now counts positions.old corners.old
-        links.old generations.old locks.old) }
+pub fn load(tables: &mut Tables, counts: Counts, rule: u32, cage: &[u8]) -> Worked
+    ensures loaded { worked_outcome result (held tables.new)
+        ≡ load_call rule cage.now (mesh_with counts (held tables.old)) }
+    ensures lent { SameTables tables.new tables.old }
 {
-    cage::load(
-        positions,
-        corners,
-        links,
-        generations,
-        locks,
-        counts,
-        rule,
-        cage,
-    )
+    cage::load(tables, counts, rule, cage)
 }
 
 // Refines triangle t.
-pub fn refine(
-    positions: &mut [i32],
-    corners: &mut [u32],
-    links: &mut [u32],
-    generations: &mut [u8],
-    locks: &mut [u8],
-    counts: Counts,
-    t: u32,
-) -> Worked
-    ensures { worked_outcome result positions.new corners.new links.new generations.new
-        locks.new
-        ≡ refine_call t (mesh_now counts positions.old corners.old links.old
-        generations.old locks.old) }
+pub fn refine(tables: &mut Tables, counts: Counts, t: u32) -> Worked
+    ensures refined { worked_outcome result (held tables.new) ≡ refine_call t (mesh_with counts (held tables.old)) }
+    ensures lent { SameTables tables.new tables.old }
 {
-    let bad = soundness::first_refusal(positions, corners, links, generations, locks, counts);
+    let stands = soundness::first_refusal(&tables.view(), counts);
     let mut none = [0u32; 1];
-    refining::refine(
-        positions,
-        corners,
-        links,
-        generations,
-        locks,
-        counts,
-        t,
-        bad,
-        &mut none,
-        1,
-    )
+    refining::refine(tables, counts, t, stands, &mut none, 1)
 }
 
 // Refines triangle t, with a note by which it can be taken back.
-pub fn refine_noted(
-    positions: &mut [i32],
-    corners: &mut [u32],
-    links: &mut [u32],
-    generations: &mut [u8],
-    locks: &mut [u8],
-    counts: Counts,
-    t: u32,
-    note: &mut [u32],
-) -> Worked
-    ensures { noted_outcome result positions.new corners.new links.new generations.new
-        locks.new note.new
-        ≡ noted_call t note.old (mesh_now counts positions.old corners.old
-        links.old generations.old locks.old) }
+pub fn refine_noted(tables: &mut Tables, counts: Counts, t: u32, note: &mut [u32]) -> Worked
+    ensures refined { noted_outcome result (held tables.new) note.new
+        ≡ noted_call t note.old (mesh_with counts (held tables.old)) }
+    ensures lent { SameTables tables.new tables.old }
 {
-    let bad = soundness::first_refusal(positions, corners, links, generations, locks, counts);
-    noting::refine_noted(
-        positions,
-        corners,
-        links,
-        generations,
-        locks,
-        counts,
-        t,
-        bad,
-        note,
-    )
+    let stands = soundness::first_refusal(&tables.view(), counts);
+    noting::refine_noted(tables, counts, t, stands, note)
 }
 
 // Takes back the refine that wrote the note.
+// Kept: C lends the positions for reading, so that the five do not go as one.
 pub fn take_back(
     positions: &[i32],
     corners: &mut [u32],
@@ -112,12 +55,17 @@ pub fn take_back(
     counts: Counts,
     note: &[u32],
 ) -> Worked
-    ensures { worked_outcome result positions.now corners.new links.new generations.new
-        locks.new
-        ≡ take_back_call note.now (mesh_now counts positions.now corners.old
-        links.old generations.old locks.old) }
+    ensures { worked_outcome result (spares_now positions.now corners.new links.new generations.new locks.new)
+        ≡ take_back_call note.now (mesh_now counts positions.now corners.old links.old generations.old locks.old) }
 {
-    let bad = soundness::first_refusal(positions, corners, links, generations, locks, counts);
+    let view = View {
+        positions,
+        corners,
+        links,
+        generations,
+        locks,
+    };
+    let stands = soundness::first_refusal(&view, counts);
     undoing::take_back(
         positions,
         corners,
@@ -125,71 +73,34 @@ pub fn take_back(
         generations,
         locks,
         counts,
-        bad,
+        stands,
         note,
     )
 }
 
-// The whole smoothing step on a mesh whose first refusal is known.
-pub fn whole_step_known(
-    positions: &mut [i32],
-    corners: &mut [u32],
-    links: &mut [u32],
-    generations: &mut [u8],
-    locks: &mut [u8],
-    counts: Counts,
-    bad: u32,
-) -> Worked
-    requires { bad ≡ standing (mesh_now counts positions.old corners.old links.old generations.old
-        locks.old) }
-    ensures { worked_outcome result positions.new corners.new links.new generations.new
-        locks.new
-        ≡ whole_step_call (mesh_now counts positions.old corners.old links.old
-        generations.old locks.old) }
+// The whole smoothing step on a mesh that stands or is refused itself.
+pub fn whole_step_known(tables: &mut Tables, counts: Counts, stands: Result<(), Refusal>) -> Worked
+    requires { refused stands ≡ standing (mesh_with counts (held tables.old)) }
+    ensures stepped { worked_outcome result (held tables.new) ≡ whole_step_call (mesh_with counts (held tables.old)) }
+    ensures lent { SameTables tables.new tables.old }
 {
-    if bad != 0 {
-        return Worked {
-            refusal: bad,
-            splits: 0,
-            flips: 0,
-            counts,
-        };
+    match stands {
+        Ok(()) => step::smoothing_step(tables, counts),
+        Err(refusal) => Worked::refused(refusal, counts),
     }
-    step::smoothing_step(positions, corners, links, generations, locks, counts)
 }
 
 // The whole smoothing step.
-pub fn whole_step(
-    positions: &mut [i32],
-    corners: &mut [u32],
-    links: &mut [u32],
-    generations: &mut [u8],
-    locks: &mut [u8],
-    counts: Counts,
-) -> Worked
-    ensures { worked_outcome result positions.new corners.new links.new generations.new
-        locks.new
-        ≡ whole_step_call (mesh_now counts positions.old corners.old links.old
-        generations.old locks.old) }
+pub fn whole_step(tables: &mut Tables, counts: Counts) -> Worked
+    ensures stepped { worked_outcome result (held tables.new) ≡ whole_step_call (mesh_with counts (held tables.old)) }
+    ensures lent { SameTables tables.new tables.old }
 {
-    let bad = soundness::first_refusal(positions, corners, links, generations, locks, counts);
-    whole_step_known(positions, corners, links, generations, locks, counts, bad)
+    let stands = soundness::first_refusal(&tables.view(), counts);
+    whole_step_known(tables, counts, stands)
 }
 
-// The lock of slot t set, or cleared.
-fn set_lock(locks: &mut [u8], t: u32, on: bool)
-    requires { t < length locks.old }
-    ensures { locks.new ≡ set locks.old t (elim on [ true ↦ 1 | false ↦ 0 ]) }
-{
-    let slot = t as usize;
-    if on {
-        locks[slot] = 1;
-    } else {
-        locks[slot] = 0;
-    }
-}
-
-// Sets or clears the lock of triangle t of a mesh whose first refusal is known.
+// Sets or clears the lock of triangle t of a mesh that stands or is refused itself.
+// Kept: C lends all but the locks for reading, so that the five do not go as one.
 pub fn lock_known(
     positions: &[i32],
     corners: &[u32],
@@ -199,21 +110,19 @@ pub fn lock_known(
     counts: Counts,
     t: u32,
     on: bool,
-    bad: u32,
+    stands: Result<(), Refusal>,
 ) -> Worked
-    requires { bad ≡ standing (mesh_now counts positions.now corners.now links.now generations.now
+    requires { refused stands ≡ standing (mesh_now counts positions.now corners.now links.now generations.now
         locks.old) }
-    ensures { worked_outcome result positions.now corners.now links.now
-        generations.now locks.new
-        ≡ lock_call on t (mesh_now counts positions.now corners.now links.now
-        generations.now locks.old) }
+    ensures { worked_outcome result (spares_now positions.now corners.now links.now generations.now locks.new)
+        ≡ lock_call on t (mesh_now counts positions.now corners.now links.now generations.now locks.old) }
 {
-    let refusal = soundness::slot_refusal(counts.triangles, t, bad);
-    if refusal == 0 {
-        set_lock(locks, t, on);
+    if let Err(refusal) = soundness::slot_refusal(counts.triangles, t, stands) {
+        return Worked::refused(refusal, counts);
     }
+    locks[t as usize] = on.into();
     Worked {
-        refusal,
+        refusal: 0,
         splits: 0,
         flips: 0,
         counts,
@@ -231,12 +140,17 @@ pub fn lock(
     t: u32,
     on: bool,
 ) -> Worked
-    ensures { worked_outcome result positions.now corners.now links.now
-        generations.now locks.new
-        ≡ lock_call on t (mesh_now counts positions.now corners.now links.now
-        generations.now locks.old) }
+    ensures { worked_outcome result (spares_now positions.now corners.now links.now generations.now locks.new)
+        ≡ lock_call on t (mesh_now counts positions.now corners.now links.now generations.now locks.old) }
 {
-    let bad = soundness::first_refusal(positions, corners, links, generations, locks, counts);
+    let view = View {
+        positions,
+        corners,
+        links,
+        generations,
+        locks,
+    };
+    let stands = soundness::first_refusal(&view, counts);
     lock_known(
         positions,
         corners,
@@ -246,6 +160,6 @@ pub fn lock(
         counts,
         t,
         on,
-        bad,
+        stands,
     )
 }

@@ -68,13 +68,9 @@ impl Point {
     pub fn in_box(self, low: Point, high: Point) -> bool
         ensures { result ≡ in_box low high self }
     {
-        if !between(low.x, high.x, self.x) {
-            return false;
-        }
-        if !between(low.y, high.y, self.y) {
-            return false;
-        }
-        between(low.z, high.z, self.z)
+        between(low.x, high.x, self.x)
+            && between(low.y, high.y, self.y)
+            && between(low.z, high.z, self.z)
     }
 
     // The mean of a parts at this point and b parts at each of n points that add up to sum, rounded by the rule.

@@ -9,7 +9,7 @@ ghost use Rattle.redoing.specs.Replaying.{replay_told};
 
 use points::Point;
 use redoing::Replayed;
-use tables::Counts;
+use tables::{Counts, Tables};
 
 // Writes the header of a journal of tables with these slots.
 #[unsafe(no_mangle)]
@@ -125,20 +125,19 @@ pub extern "C" fn rawplinth_replay(
         (mesh_now counts positions.old corners.old links.old
         generations.old locks.old) }
 {
-    replaying::replay(
+    let mut tables = Tables {
         positions,
         corners,
         links,
         generations,
         locks,
-        counts,
-        spare_positions,
-        spare_corners,
-        spare_links,
-        spare_generations,
-        spare_locks,
-        numbers,
-        bytes,
-        at,
-    )
+    };
+    let mut spares = Tables {
+        positions: spare_positions,
+        corners: spare_corners,
+        links: spare_links,
+        generations: spare_generations,
+        locks: spare_locks,
+    };
+    replaying::replay(&mut tables, counts, &mut spares, numbers, bytes, at)
 }

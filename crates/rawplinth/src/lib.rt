@@ -11,10 +11,10 @@ ghost use Rattle.std.specs.Prelude.{true, false, ◌≡◌};
 ghost use Rattle.rules.specs.Calls.{load_call, refine_call, whole_step_call, lock_call};
 ghost use Rattle.rules.specs.Notes.{noted_call, take_back_call};
 ghost use Rattle.tables.specs.Answers.{worked_outcome};
-ghost use Rattle.tables.specs.Lent.{mesh_now};
+ghost use Rattle.tables.specs.Lent.{mesh_now, spares_now};
 ghost use Rattle.noting.specs.Noting.{noted_outcome};
 
-use tables::{Counts, Worked};
+use tables::{Counts, Tables, Worked};
 
 // Loads a cage, to be rounded by a rule.
 #[unsafe(no_mangle)]
@@ -28,21 +28,18 @@ pub extern "C" fn rawplinth_load(
     rule: u32,
     cage: &[u8],
 ) -> Worked
-    ensures { worked_outcome result positions.new corners.new links.new
-        generations.new locks.new
+    ensures { worked_outcome result (spares_now positions.new corners.new links.new generations.new locks.new)
         ≡ load_call rule cage.now (mesh_now counts positions.old corners.old
         links.old generations.old locks.old) }
 {
-    mesh::load(
+    let mut tables = Tables {
         positions,
         corners,
         links,
         generations,
         locks,
-        counts,
-        rule,
-        cage,
-    )
+    };
+    mesh::load(&mut tables, counts, rule, cage)
 }
 
 // Refines one triangle.
@@ -56,20 +53,18 @@ pub extern "C" fn rawplinth_refine(
     counts: Counts,
     triangle: u32,
 ) -> Worked
-    ensures { worked_outcome result positions.new corners.new links.new
-        generations.new locks.new
+    ensures { worked_outcome result (spares_now positions.new corners.new links.new generations.new locks.new)
         ≡ refine_call triangle (mesh_now counts positions.old corners.old links.old
         generations.old locks.old) }
 {
-    mesh::refine(
+    let mut tables = Tables {
         positions,
         corners,
         links,
         generations,
         locks,
-        counts,
-        triangle,
-    )
+    };
+    mesh::refine(&mut tables, counts, triangle)
 }
 
 // Refines one triangle, with a note by which it can be taken back.
@@ -84,21 +79,18 @@ pub extern "C" fn rawplinth_refine_noted(
     triangle: u32,
     note: &mut [u32],
 ) -> Worked
-    ensures { noted_outcome result positions.new corners.new links.new
-        generations.new locks.new note.new
+    ensures { noted_outcome result (spares_now positions.new corners.new links.new generations.new locks.new) note.new
         ≡ noted_call triangle note.old (mesh_now counts positions.old corners.old
         links.old generations.old locks.old) }
 {
-    mesh::refine_noted(
+    let mut tables = Tables {
         positions,
         corners,
         links,
         generations,
         locks,
-        counts,
-        triangle,
-        note,
-    )
+    };
+    mesh::refine_noted(&mut tables, counts, triangle, note)
 }
 
 // Takes a refine back by its note.
@@ -112,8 +104,7 @@ pub extern "C" fn rawplinth_take_back(
     counts: Counts,
     note: &[u32],
 ) -> Worked
-    ensures { worked_outcome result positions.now corners.new links.new
-        generations.new locks.new
+    ensures { worked_outcome result (spares_now positions.now corners.new links.new generations.new locks.new)
         ≡ take_back_call note.now (mesh_now counts positions.now corners.old
         links.old generations.old locks.old) }
 {
@@ -130,12 +121,18 @@ pub extern "C" fn rawplinth_whole_step(
     locks: &mut [u8],
     counts: Counts,
 ) -> Worked
-    ensures { worked_outcome result positions.new corners.new links.new
-        generations.new locks.new
+    ensures { worked_outcome result (spares_now positions.new corners.new links.new generations.new locks.new)
         ≡ whole_step_call (mesh_now counts positions.old corners.old links.old
         generations.old locks.old) }
 {
-    mesh::whole_step(positions, corners, links, generations, locks, counts)
+    let mut tables = Tables {
+        positions,
+        corners,
+        links,
+        generations,
+        locks,
+    };
+    mesh::whole_step(&mut tables, counts)
 }
 
 // Locks a triangle.
@@ -149,8 +146,7 @@ pub extern "C" fn rawplinth_lock(
     counts: Counts,
     triangle: u32,
 ) -> Worked
-    ensures { worked_outcome result positions.now corners.now links.now
-        generations.now locks.new
+    ensures { worked_outcome result (spares_now positions.now corners.now links.now generations.now locks.new)
         ≡ lock_call true triangle (mesh_now counts positions.now corners.now
         links.now generations.now locks.old) }
 {
@@ -177,8 +173,7 @@ pub extern "C" fn rawplinth_unlock(
     counts: Counts,
     triangle: u32,
 ) -> Worked
-    ensures { worked_outcome result positions.now corners.now links.now
-        generations.now locks.new
+    ensures { worked_outcome result (spares_now positions.now corners.now links.now generations.now locks.new)
         ≡ lock_call false triangle (mesh_now counts positions.now corners.now
         links.now generations.now locks.old) }
 {

@@ -11,7 +11,7 @@ ghost use Rattle.foreseeing.specs.Foreseen.{foreseen_outcome};
 use foreseeing::BatchForeseen;
 use points::Point;
 use refining::spares::BatchWorked;
-use tables::Counts;
+use tables::{Counts, Tables, View};
 
 // Refines a list of triangles, all or none, in spare tables.
 #[unsafe(no_mangle)]
@@ -29,8 +29,7 @@ pub extern "C" fn rawplinth_refine_list(
     spare_generations: &mut [u8],
     spare_locks: &mut [u8],
 ) -> BatchWorked
-    ensures { batch_outcome result positions.new corners.new links.new
-        generations.new locks.new
+    ensures { batch_outcome result (spares_now positions.new corners.new links.new generations.new locks.new)
         (spares_now spare_positions.new spare_corners.new spare_links.new
         spare_generations.new spare_locks.new)
         ≡ list_call list.now (spares_now spare_positions.old spare_corners.old
@@ -38,20 +37,21 @@ pub extern "C" fn rawplinth_refine_list(
         (mesh_now counts positions.old corners.old links.old
         generations.old locks.old) }
 {
-    batches::refine_list(
+    let mut tables = Tables {
         positions,
         corners,
         links,
         generations,
         locks,
-        counts,
-        list,
-        spare_positions,
-        spare_corners,
-        spare_links,
-        spare_generations,
-        spare_locks,
-    )
+    };
+    let mut spares = Tables {
+        positions: spare_positions,
+        corners: spare_corners,
+        links: spare_links,
+        generations: spare_generations,
+        locks: spare_locks,
+    };
+    batches::refine_list(&mut tables, counts, list, &mut spares)
 }
 
 // Refines what has a corner in a box, all or nothing, in spare tables.
@@ -72,8 +72,7 @@ pub extern "C" fn rawplinth_refine_box(
     spare_generations: &mut [u8],
     spare_locks: &mut [u8],
 ) -> BatchWorked
-    ensures { batch_outcome result positions.new corners.new links.new
-        generations.new locks.new
+    ensures { batch_outcome result (spares_now positions.new corners.new links.new generations.new locks.new)
         (spares_now spare_positions.new spare_corners.new spare_links.new
         spare_generations.new spare_locks.new)
         ≡ box_call (box_of low high below) (spares_now spare_positions.old spare_corners.old
@@ -81,22 +80,21 @@ pub extern "C" fn rawplinth_refine_box(
         (mesh_now counts positions.old corners.old links.old
         generations.old locks.old) }
 {
-    boxes::refine_box(
+    let mut tables = Tables {
         positions,
         corners,
         links,
         generations,
         locks,
-        counts,
-        low,
-        high,
-        below,
-        spare_positions,
-        spare_corners,
-        spare_links,
-        spare_generations,
-        spare_locks,
-    )
+    };
+    let mut spares = Tables {
+        positions: spare_positions,
+        corners: spare_corners,
+        links: spare_links,
+        generations: spare_generations,
+        locks: spare_locks,
+    };
+    boxes::refine_box(&mut tables, counts, low, high, below, &mut spares)
 }
 
 // Foresees a list of triangles in spare tables; the mesh is only read.
@@ -122,18 +120,19 @@ pub extern "C" fn rawplinth_preview(
         ≡ preview_call list.now (spares_now spare_positions.old spare_corners.old
         spare_links.old spare_generations.old spare_locks.old) m }
 {
-    batches::preview(
+    let view = View {
         positions,
         corners,
         links,
         generations,
         locks,
-        counts,
-        list,
-        spare_positions,
-        spare_corners,
-        spare_links,
-        spare_generations,
-        spare_locks,
-    )
+    };
+    let mut spares = Tables {
+        positions: spare_positions,
+        corners: spare_corners,
+        links: spare_links,
+        generations: spare_generations,
+        locks: spare_locks,
+    };
+    batches::preview(&view, counts, list, &mut spares)
 }

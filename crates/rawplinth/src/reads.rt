@@ -2,7 +2,7 @@
 ghost use Rattle.std.specs.Prelude.{◌≡◌, length};
 ghost use Rattle.rules.specs.Calls.{limit_call, ring_call, position_call, view_call};
 ghost use Rattle.rules.specs.Rim.{curve_call};
-ghost use Rattle.tables.specs.Lent.{mesh_now};
+ghost use Rattle.tables.specs.Lent.{mesh_now, spares_now};
 ghost use Rattle.reading.specs.Answers.{limit_outcome, ring_outcome, position_outcome};
 ghost use Rattle.rim.specs.Traced.{curve_outcome};
 ghost use Rattle.viewer.specs.View.{table_after, shown_outcome};
@@ -10,7 +10,7 @@ ghost use Rattle.rawplinth.specs.Seeing.{point_told};
 
 use reading::{LimitRead, PositionRead, RingRead};
 use rim::RimRead;
-use tables::Counts;
+use tables::{Counts, View};
 use viewer::{Seen, Shown, ViewPoint};
 
 // Writes the limit position of each vertex.
@@ -24,12 +24,18 @@ pub extern "C" fn rawplinth_limit(
     counts: Counts,
     table: &mut [i32],
 ) -> LimitRead
-    ensures { limit_outcome result positions.now corners.now links.now
-        generations.now locks.now table.new
+    ensures { limit_outcome result (spares_now positions.now corners.now links.now generations.now locks.now) table.new
         ≡ limit_call table.old (mesh_now counts positions.now corners.now
         links.now generations.now locks.now) }
 {
-    reading::limit(positions, corners, links, generations, locks, counts, table)
+    let view = View {
+        positions,
+        corners,
+        links,
+        generations,
+        locks,
+    };
+    reading::limit(&view, counts, table)
 }
 
 // Reads the ring of a vertex.
@@ -44,21 +50,18 @@ pub extern "C" fn rawplinth_ring(
     vertex: u32,
     buffer: &mut [u32],
 ) -> RingRead
-    ensures { ring_outcome result positions.now corners.now links.now
-        generations.now locks.now buffer.new
+    ensures { ring_outcome result (spares_now positions.now corners.now links.now generations.now locks.now) buffer.new
         ≡ ring_call vertex buffer.old (mesh_now counts positions.now corners.now
         links.now generations.now locks.now) }
 {
-    reading::ring(
+    let view = View {
         positions,
         corners,
         links,
         generations,
         locks,
-        counts,
-        vertex,
-        buffer,
-    )
+    };
+    reading::ring(&view, counts, vertex, buffer)
 }
 
 // Reads the position of a vertex.
@@ -72,20 +75,18 @@ pub extern "C" fn rawplinth_position(
     counts: Counts,
     vertex: u32,
 ) -> PositionRead
-    ensures { position_outcome result positions.now corners.now links.now
-        generations.now locks.now
+    ensures { position_outcome result (spares_now positions.now corners.now links.now generations.now locks.now)
         ≡ position_call vertex (mesh_now counts positions.now corners.now links.now
         generations.now locks.now) }
 {
-    reading::position(
+    let view = View {
         positions,
         corners,
         links,
         generations,
         locks,
-        counts,
-        vertex,
-    )
+    };
+    reading::position(&view, counts, vertex)
 }
 
 // Writes the curve of a vertex's rim.
@@ -100,21 +101,18 @@ pub extern "C" fn rawplinth_rim_curve(
     vertex: u32,
     table: &mut [i32],
 ) -> RimRead
-    ensures { curve_outcome result positions.now corners.now links.now
-        generations.now locks.now table.new
+    ensures { curve_outcome result (spares_now positions.now corners.now links.now generations.now locks.now) table.new
         ≡ curve_call vertex table.old (mesh_now counts positions.now corners.now
         links.now generations.now locks.now) }
 {
-    rim::curve(
+    let view = View {
         positions,
         corners,
         links,
         generations,
         locks,
-        counts,
-        vertex,
-        table,
-    )
+    };
+    rim::curve(&view, counts, vertex, table)
 }
 
 // What C is told of a seen vertex: on a refusal its number with zeros, and else a point in millimetres.
@@ -139,15 +137,14 @@ pub extern "C" fn rawplinth_view_point(
     ensures { result ≡ point_told (position_call vertex (mesh_now counts positions.now corners.now
         links.now generations.now locks.now)) }
 {
-    match viewer::point(
+    let view = View {
         positions,
         corners,
         links,
         generations,
         locks,
-        counts,
-        vertex,
-    ) {
+    };
+    match viewer::point(&view, counts, vertex) {
         Seen::Point(point) => PointSeen { refusal: 0, point },
         Seen::Refused(refusal) => PointSeen {
             refusal,
@@ -173,9 +170,15 @@ pub extern "C" fn rawplinth_view_triangles(
 ) -> Shown
     ensures { let m = mesh_now counts positions.now corners.now links.now
         generations.now locks.now in
-        (shown_outcome result positions.now corners.now links.now generations.now
-        locks.now ≡ view_call (length table.old) m)
+        (shown_outcome result (spares_now positions.now corners.now links.now generations.now locks.now) ≡ view_call (length table.old) m)
         × (table.new ≡ table_after m table.old) }
 {
-    viewer::triangles(positions, corners, links, generations, locks, counts, table)
+    let view = View {
+        positions,
+        corners,
+        links,
+        generations,
+        locks,
+    };
+    viewer::triangles(&view, counts, table)
 }

@@ -13,7 +13,7 @@ use foreseeing::ForeseenReported;
 use points::Point;
 use refining::Reported;
 use refining::spares::BatchReported;
-use tables::Counts;
+use tables::{Counts, Tables, View};
 
 // Refines one triangle, and reports the slots that it writes.
 #[unsafe(no_mangle)]
@@ -27,22 +27,18 @@ pub extern "C" fn rawplinth_refine_reported(
     triangle: u32,
     report: &mut [u32],
 ) -> Reported
-    ensures { with_report report.new result.reported (worked_outcome result.worked positions.new
-        corners.new links.new
-        generations.new locks.new)
+    ensures { with_report report.new result.reported (worked_outcome result.worked (spares_now positions.new corners.new links.new generations.new locks.new))
         ≡ reported_call (one triangle) report.old (mesh_now counts positions.old corners.old
         links.old generations.old locks.old) }
 {
-    reports::refine(
+    let mut tables = Tables {
         positions,
         corners,
         links,
         generations,
         locks,
-        counts,
-        triangle,
-        report,
-    )
+    };
+    reports::refine(&mut tables, counts, triangle, report)
 }
 
 // The same with a note by which it can be taken back.
@@ -58,24 +54,19 @@ pub extern "C" fn rawplinth_refine_noted_reported(
     note: &mut [u32],
     report: &mut [u32],
 ) -> Reported
-    ensures { with_report report.new result.reported (noted_outcome result.worked positions.new
-        corners.new links.new
-        generations.new locks.new
+    ensures { with_report report.new result.reported (noted_outcome result.worked (spares_now positions.new corners.new links.new generations.new locks.new)
         note.new)
         ≡ reported_call (with_note triangle note.old) report.old (mesh_now counts positions.old corners.old
         links.old generations.old locks.old) }
 {
-    reports::refine_noted(
+    let mut tables = Tables {
         positions,
         corners,
         links,
         generations,
         locks,
-        counts,
-        triangle,
-        note,
-        report,
-    )
+    };
+    reports::refine_noted(&mut tables, counts, triangle, note, report)
 }
 
 // Refines a list of triangles, all or none, in spare tables, and reports the slots that are written.
@@ -95,9 +86,7 @@ pub extern "C" fn rawplinth_refine_list_reported(
     spare_generations: &mut [u8],
     spare_locks: &mut [u8],
 ) -> BatchReported
-    ensures { with_report report.new result.reported (batch_outcome result.worked positions.new
-        corners.new links.new
-        generations.new locks.new
+    ensures { with_report report.new result.reported (batch_outcome result.worked (spares_now positions.new corners.new links.new generations.new locks.new)
         (spares_now spare_positions.new spare_corners.new spare_links.new
         spare_generations.new spare_locks.new))
         ≡ reported_call (each list.now (spares_now spare_positions.old spare_corners.old spare_links.old
@@ -105,21 +94,21 @@ pub extern "C" fn rawplinth_refine_list_reported(
         report.old (mesh_now counts positions.old corners.old
         links.old generations.old locks.old) }
 {
-    reports::refine_list(
+    let mut tables = Tables {
         positions,
         corners,
         links,
         generations,
         locks,
-        counts,
-        list,
-        report,
-        spare_positions,
-        spare_corners,
-        spare_links,
-        spare_generations,
-        spare_locks,
-    )
+    };
+    let mut spares = Tables {
+        positions: spare_positions,
+        corners: spare_corners,
+        links: spare_links,
+        generations: spare_generations,
+        locks: spare_locks,
+    };
+    reports::refine_list(&mut tables, counts, list, report, &mut spares)
 }
 
 // Refines what has a corner in a box, all or nothing, in spare tables, and reports the slots that are written.
@@ -141,9 +130,7 @@ pub extern "C" fn rawplinth_refine_box_reported(
     spare_generations: &mut [u8],
     spare_locks: &mut [u8],
 ) -> BatchReported
-    ensures { with_report report.new result.reported (batch_outcome result.worked positions.new
-        corners.new links.new
-        generations.new locks.new
+    ensures { with_report report.new result.reported (batch_outcome result.worked (spares_now positions.new corners.new links.new generations.new locks.new)
         (spares_now spare_positions.new spare_corners.new spare_links.new
         spare_generations.new spare_locks.new))
         ≡ reported_call (in_box (box_of low high below) (spares_now spare_positions.old spare_corners.old spare_links.old
@@ -151,23 +138,21 @@ pub extern "C" fn rawplinth_refine_box_reported(
         report.old (mesh_now counts positions.old corners.old
         links.old generations.old locks.old) }
 {
-    batch_reports::refine_box(
+    let mut tables = Tables {
         positions,
         corners,
         links,
         generations,
         locks,
-        counts,
-        low,
-        high,
-        below,
-        report,
-        spare_positions,
-        spare_corners,
-        spare_links,
-        spare_generations,
-        spare_locks,
-    )
+    };
+    let mut spares = Tables {
+        positions: spare_positions,
+        corners: spare_corners,
+        links: spare_links,
+        generations: spare_generations,
+        locks: spare_locks,
+    };
+    batch_reports::refine_box(&mut tables, counts, low, high, below, report, &mut spares)
 }
 
 // Foresees a list of triangles in spare tables, and reports the slots that it would write; the mesh is only read.
@@ -196,19 +181,19 @@ pub extern "C" fn rawplinth_preview_reported(
         spare_generations.old spare_locks.old)
         report.old m }
 {
-    batch_reports::preview(
+    let view = View {
         positions,
         corners,
         links,
         generations,
         locks,
-        counts,
-        list,
-        report,
-        spare_positions,
-        spare_corners,
-        spare_links,
-        spare_generations,
-        spare_locks,
-    )
+    };
+    let mut spares = Tables {
+        positions: spare_positions,
+        corners: spare_corners,
+        links: spare_links,
+        generations: spare_generations,
+        locks: spare_locks,
+    };
+    batch_reports::preview(&view, counts, list, report, &mut spares)
 }

@@ -1,24 +1,26 @@
 -- The first refusal of a call that reads, found test by test.
-use borrow.Author.Tests.{le-leb, lt-leb, lt-ltb, le-ltb}
-use mathlib.Core.Bool.{Bool, true, false, not}
-use mathlib.Core.List.{List, [], ◌∷◌}
-use mathlib.Core.Logic.{◌≢◌}
-use mathlib.Core.Path.{◌≡◌, refl, sym, ◌∙◌}
-use Prim.Native.Nat.{ℕ, ◌*◌, ◌≤◌, ◌<◌}
-use lib.Dec.{eqb, leb, ltb}
-use lib.IntN.{ℤ}
-use lib.ListN.{length}
+use Rattle.std.proofs.Common.{Result, Err, ℕ, ◌*◌, ◌<◌, ◌≤◌, Bool, true, false, not, eqb, leb, ltb, List, [], ◌∷◌, length, ℤ, ◌≡◌}
+use Rattle.std.proofs.Common.{◌≢◌, refl, sym, ap, ◌∙◌, le-leb, lt-ltb, le-ltb}
+use borrow.Author.Tests.{lt-leb}
 use Rattle.theory.proofs.Calls.CallRefusals.{position_refusal_first}
 use Rattle.theory.proofs.Numbers.Decide.{stable}
 use Rattle.theory.proofs.Calls.FirstThatHolds.{two_kept, refuses, carries, none_hold}
 use Rattle.theory.proofs.Soundness.SoundTest.{tables_agree_is}
-use Rattle.rules.specs.Calls.{◌if◌, first_of, no_room, buffer_room}
+use Rattle.points.specs.declared.Point.{Point}
+use Rattle.rules.specs.Calls.{◌if◌, first_of, answer_of, outcome_of, no_room, buffer_room}
 use Rattle.rules.specs.Calls.{refused_with, closed_even, long_ring}
 use Rattle.rules.specs.Calls.{limit_refusal, ring_refusal, ring_read, ring_call, position_refusal}
 use Rattle.rules.specs.Calls.{position_read, position_call}
 use Rattle.rules.specs.Ring.{ring}
 use Rattle.rules.specs.Sound.{is_sound}
 use Rattle.rules.specs.Tables.{Mesh, TablesAgree, tables_agree}
+use Rattle.std.specs.Result.{IsErrAnd}
+use Rattle.std.proofs.lemmas.Result.{err_from_is_err_and}
+use Rattle.tables.specs.Lent.{point_in}
+use Rattle.tables.specs.Refusals.{number, refused}
+use Rattle.tables.specs.declared.refusals.Refusal.{Refusal}
+use Rattle.tables.proofs.Refusing.{number_some}
+use Rattle.reading.specs.Answers.{point_outcome}
 use Rattle.tables.specs.Standing.{standing, slot_refusal}
 
 pub limit_standing : (table : List ℤ) (m : Mesh) (r : ℕ) → r ≡ standing m → r ≢ 0 → r ≡ limit_refusal table m
@@ -80,9 +82,19 @@ module _ (v : ℕ) (m : Mesh) (r : ℕ) (e : r ≡ slot_refusal m.topology.verti
   position_refused = refuses m no_room (position_read v m) (position_refusal v m) r of_position
 
   module _ (z : r ≡ 0) where
-    pub position_carried : position_read v m ≡ position_call v m
+    pub position_carried : {p : Point} → p ≡ point_in m.positions v
+        → outcome_of (answer_of 0 0 0 0 (p.x, p.y, p.z) m) m no_room ≡ position_call v m
     unfolding position_call
-    position_carried = carries m no_room (position_read v m) (position_refusal v m) r of_position z
+    position_carried i =
+        ap (λ (p : Point). outcome_of (answer_of 0 0 0 0 (p.x, p.y, p.z) m) m no_room) i
+        ∙ carries m no_room (position_read v m) (position_refusal v m) r of_position z
 
     pub position_agrees : TablesAgree m
     position_agrees = stable (tables_agree_is m) (none_hold (position_refusal_first v m) (sym of_position ∙ z) tt).0
+
+-- A refusal that is passed on.
+pub position_passed : (v : ℕ) (m : Mesh) (r : Result Point Refusal) {s : Result (Unit {0}) Refusal} {x : Refusal} → s ≡ Err x
+    → IsErrAnd r (λ y. y ≡ x) → refused s ≡ slot_refusal m.topology.vertices v m → point_outcome r m ≡ position_call v m
+position_passed v m r was q e =
+    let (y, is, same) = err_from_is_err_and r q in
+    rw is (position_refused v m (number y) (ap number same ∙ sym (ap refused was) ∙ e) (number_some y))

@@ -1,30 +1,15 @@
 -- Requests that come in several reads, each but the last of whole requests, are answered as if they came in one.
-use Rattle.std.proofs.Common.{ℕ, zero, suc, ◌+◌, ◌-◌, ◌*◌, ◌/◌, ◌%◌, ◌^◌, ◌≤◌, arith, List, [], ◌++◌}
+use Rattle.std.proofs.Common.{ℕ, zero, suc, ◌+◌, ◌-◌, ◌*◌, ◌/◌, ◌%◌, ◌^◌, ◌≤◌, ◌<◌, arith, List, [], ◌++◌}
 use Rattle.std.proofs.Common.{◌≡◌, refl, sym, ap, ◌∙◌, length}
 use Rattle.std.proofs.Math.ListN.{get_or, length-append, get_or-append}
 use Rattle.std.proofs.lemmas.List.{get_or-append-add}
-use Rattle.rules.specs.Calls.{refine_call}
+use Rattle.rules.specs.Calls.{Outcome, refine_call}
 use Rattle.rules.specs.Numbers.{number_at}
 use Rattle.rules.specs.Tables.{Mesh}
-use Rattle.refine.specs.Requests.{after_requests, after_bytes, AllAnswered}
+use Rattle.tables.specs.declared.Worked.{Worked}
+use Rattle.refine.specs.Requests.{store_mesh, store_outcome, after_requests, after_bytes, AllAnswered}
+use Rattle.refine.specs.declared.Store.{Store}
 use Rattle.std.proofs.Math.Nat.{mul-zero}
-
-pub none_answered : (bytes : List ℕ) (m : Mesh) → m ≡ after_requests 0 bytes m
-unfolding after_requests
-none_answered bytes m = refl
-
-pub one_more : (i t : ℕ) (bytes : List ℕ) (m before after : Mesh) → t ≡ number_at bytes (4 * i)
-    → before ≡ after_requests i bytes m → after ≡ (refine_call t before).mesh → after ≡ after_requests (i + 1) bytes m
-unfolding after_requests
-one_more i t bytes m before after et eb ea = let q : i + 1 ≡ suc i = omega arith in rw (q, ea, et, eb) refl
-
--- All requests are answered where no more are left.
-pub all_answered : (i : ℕ) (bytes : List ℕ) (m now : Mesh) → i ≤ length bytes / 4 → length bytes / 4 ≤ i
-    → now ≡ after_requests i bytes m → now ≡ after_bytes bytes m
-unfolding after_bytes
-all_answered i bytes m now a b e =
-    let q : i ≡ length bytes / 4 = omega arith in
-    e ∙ ap (λ (k : ℕ). after_requests k bytes m) q
 
 number_before : (xs ys : List ℕ) (i : ℕ) → i + 4 ≤ length xs → number_at (xs ++ ys) i ≡ number_at xs i
 unfolding number_at
@@ -79,6 +64,25 @@ bytes_after xs ys m e =
     let l = length-append xs ys in
     let q : length (xs ++ ys) / 4 ≡ length xs / 4 + length ys / 4 = omega arith in
     rw q (requests_after (length ys / 4) (length xs / 4) xs ys m (omega arith))
+
+-- Less than a request is dropped.
+pub rest_dropped : (bytes : List ℕ) (m : Mesh) → length bytes < 4 → after_bytes bytes m ≡ m
+unfolding after_bytes after_requests
+rest_dropped bytes m l = let q : length bytes / 4 ≡ 0 = omega arith in rw q refl
+
+-- The first request is answered before those behind it.
+pub first_answered : (request rest : List ℕ) {bytes : List ℕ} {t : ℕ} (before after : Store) {done : Worked}
+    → bytes ≡ request ++ rest → length request ≡ 4 → t ≡ number_at request 0 → after.counts ≡ done.counts
+    → store_outcome done after ≡ refine_call t (store_mesh before)
+    → after_bytes rest (store_mesh after) ≡ after_bytes bytes (store_mesh before)
+unfolding after_bytes after_requests
+first_answered request rest before after e l n c o =
+    let m = store_mesh before in
+    let q : length request / 4 ≡ 1 = omega arith in
+    let one : after_bytes request m ≡ (refine_call (number_at request 0) m).mesh = rw q refl in
+    let a : store_mesh after ≡ (refine_call (number_at request 0) m).mesh =
+    rw (c, ← n) (ap (λ (o : Outcome). o.mesh) o) in
+    rw (a, e) (sym (bytes_after request rest m (omega arith) ∙ ap (after_bytes rest) one))
 
 -- After `turns` reads that filled a buffer of `size` bytes, and one more, which brought `last`. The loop began when the
 -- first read, which brought `first`, had led to the mesh `m₀`.

@@ -1,13 +1,33 @@
 -- A fresh store, and what requests make of a mesh.
-use Rattle.std.specs.Prelude.{ℕ, zero, suc, ◌-◌, ◌*◌, ◌/◌, ◌^◌, ◌≤◌, List, ◌++◌, ◌≡◌, length}
-use Rattle.rules.specs.Calls.{refine_call}
+use Rattle.std.specs.Prelude.{ℕ, zero, suc, ◌-◌, ◌*◌, ◌/◌, ◌^◌, ◌≤◌, List, ◌++◌, ◌≡◌, length, decimal, codes}
+use Rattle.rules.specs.Calls.{Outcome, refine_call}
 use Rattle.rules.specs.Numbers.{number_at}
 use Rattle.rules.specs.Tables.{Mesh}
+use Rattle.tables.specs.Answers.{worked_outcome}
+use Rattle.tables.specs.Lent.{mesh_now}
 use Rattle.tables.specs.declared.Counts.{Counts}
+use Rattle.tables.specs.declared.Worked.{Worked}
+use Rattle.refine.specs.declared.Store.{Store}
 
 -- The counts of a fresh store, with rule 1.
 abbrev pub fresh : Counts
 fresh = record { vertices = 0; triangles = 0; rule = 1 }
+
+-- The line of a call: refusal, splits, flips, vertices and triangles.
+abbrev pub spaced : ℕ → List ℕ → List ℕ
+spaced n rest = decimal n ++ (codes " " ++ rest)
+
+abbrev pub line_of : Worked → List ℕ
+line_of done =
+    spaced done.refusal (spaced done.splits (spaced done.flips (spaced done.counts.vertices
+    (decimal done.counts.triangles))))
+
+-- The mesh in a store, and the outcome of a call that left this store.
+abbrev pub store_mesh : Store → Mesh
+store_mesh s = mesh_now s.counts s.positions s.corners s.links s.generations s.locks
+
+abbrev pub store_outcome : Worked → Store → Outcome
+store_outcome done s = worked_outcome done s.positions s.corners s.links s.generations s.locks
 
 -- The mesh after the first n requests in these bytes, each a triangle's number in four of them.
 unfoldable pub after_requests : ℕ → List ℕ → Mesh → Mesh

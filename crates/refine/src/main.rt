@@ -3,257 +3,191 @@
 // the first such error.
 #![tactic(auto)]
 
-ghost use Rattle.std.specs.Prelude.{ℕ, ◌%◌, ◌≤◌, List, ◌≡◌, length, take, is_ok, if◌then◌else◌};
-ghost use Rattle.rules.specs.Calls.{load_call};
-ghost use Rattle.tables.specs.Answers.{worked_outcome};
-ghost use Rattle.tables.specs.Lent.{mesh_now};
-ghost use Rattle.refine.specs.Requests.{fresh, after_bytes, AllAnswered};
+ghost use Rattle.std.specs.Prelude.{ℕ, ◌%◌, ◌≤◌, List, ◌≡◌, Some, length, take};
+ghost use Rattle.rules.specs.Calls.{load_call, refine_call};
+ghost use Rattle.refine.specs.Requests.{fresh, line_of, store_mesh, store_outcome, after_bytes, AllAnswered};
 
 use std::fs::File;
-use std::io;
 use std::io::Read;
 use std::rt::Files;
+use std::{fmt, io};
 use tables::{Counts, Worked};
 
-// The counts after the requests of a read, and how many bytes of the buffer it filled.
-#[derive(Clone, Copy)]
-struct Answered {
+// The mesh that the program keeps, in 1,024 vertex and 2,048 triangle slots.
+#[derive(Drop)]
+struct Store {
+    positions: [i32; 3072],
+    corners: [u32; 6144],
+    links: [u32; 6144],
+    generations: [u8; 2048],
+    locks: [u8; 2048],
     counts: Counts,
-    read: usize,
 }
 
-// Keeps the first error.
-fn note(failure: &mut io::Result<()>, outcome: io::Result<()>)
-    ensures { failure.new ≡ (if is_ok failure.old then outcome else failure.old) }
-{
-    if failure.is_ok() {
-        *failure = outcome;
+impl Store {
+    // One with no mesh in it yet.
+    fn fresh() -> Store
+        ensures { result.counts ≡ fresh }
+    {
+        Store {
+            positions: [0; 3072],
+            corners: [0; 6144],
+            links: [0; 6144],
+            generations: [0; 2048],
+            locks: [0; 2048],
+            counts: Counts {
+                vertices: 0,
+                triangles: 0,
+                rule: 1,
+            },
+        }
+    }
+
+    // Loads a cage by rule 1.
+    fn load(&mut self, cage: &[u8]) -> Worked
+        ensures counts { self.new.counts ≡ result.counts }
+        ensures outcome { store_outcome result self.new ≡ load_call 1 cage.now (store_mesh self.old) }
+    {
+        let done = mesh::load(
+            &mut self.positions,
+            &mut self.corners,
+            &mut self.links,
+            &mut self.generations,
+            &mut self.locks,
+            self.counts,
+            1,
+            cage,
+        );
+        self.counts = done.counts;
+        done
+    }
+
+    // Refines triangle t.
+    fn refine(&mut self, t: u32) -> Worked
+        ensures counts { self.new.counts ≡ result.counts }
+        ensures outcome { store_outcome result self.new ≡ refine_call t (store_mesh self.old) }
+    {
+        let done = mesh::refine(
+            &mut self.positions,
+            &mut self.corners,
+            &mut self.links,
+            &mut self.generations,
+            &mut self.locks,
+            self.counts,
+            t,
+        );
+        self.counts = done.counts;
+        done
     }
 }
 
-fn put(rt: &impl Print, n: u32, after: &str) -> io::Result<()> {
-    print!(rt; "{n}{after}")
-}
+// The line of a call: refusal, splits, flips, vertices and triangles.
+#[derive(Clone, Copy)]
+struct Line(Worked);
 
-// Prints refusal, splits, flips, vertices and triangles.
-fn print(rt: &impl Print, answer: Worked) -> io::Result<()> {
-    put(rt, answer.refusal, " ")?;
-    put(rt, answer.splits, " ")?;
-    put(rt, answer.flips, " ")?;
-    put(rt, answer.counts.vertices, " ")?;
-    put(rt, answer.counts.triangles, "\n")
+impl fmt::Display for Line {
+    ghost output = { λ line. Some (line_of line.0) };
+
+    fn fmt<W: fmt::Write>(&self, f: &mut fmt::Formatter<W>) -> fmt::Result {
+        let done = self.0;
+        write!(
+            f,
+            "{} {} {} {} {}",
+            done.refusal, done.splits, done.flips, done.counts.vertices, done.counts.triangles
+        )
+    }
 }
 
 // Reads until the buffer is full, the file ends or a read fails, and answers how many bytes it then holds.
-fn read_full(file: &mut impl Read, buffer: &mut [u8], failure: &mut io::Result<()>) -> usize
-    ensures { result ≤ length buffer.new }
+fn read_full(file: &mut impl Read, buffer: &mut [u8]) -> (usize, io::Result<()>)
+    ensures { result.0 ≤ length buffer.new }
 {
-    let mut done: usize = 0;
+    let mut done = 0;
+    // Kept: no plainer: a read advances by what it brings, and `read_exact` does not tell what came before the end.
     while done < buffer.len() {
         match file.read(&mut buffer[done..]) {
-            Ok(0) => return done,
+            Ok(0) => break,
             Ok(n) => done += n,
-            Err(e) => {
-                note(failure, Err(e));
-                return done;
-            }
+            Err(e) => return (done, Err(e)),
         }
     }
-    done
+    (done, Ok(()))
 }
 
-// Loads the cage in a file by rule 1, in a fresh store; one that is missing is empty. The buffer has a byte more than
-// the largest cage of this store, so that a longer file is longer here too.
-fn load(
-    positions: &mut [i32],
-    corners: &mut [u32],
-    links: &mut [u32],
-    generations: &mut [u8],
-    locks: &mut [u8],
-    rt: &impl Files,
-    path: &str,
-    failure: &mut io::Result<()>,
-) -> Worked
-    ensures { (bytes : List ℕ) × (
-        worked_outcome result positions.new corners.new links.new generations.new
-        locks.new
-        ≡ load_call 1 bytes (mesh_now fresh positions.old corners.old links.old
-        generations.old locks.old)) }
+// Loads the cage in a file; one that is missing is empty. The buffer has a byte more than the largest cage of this
+// store, so that a longer file is longer here too.
+fn load(store: &mut Store, rt: &impl Files, path: &str) -> (Worked, io::Result<()>)
+    ensures { (bytes : List ℕ) × (store_outcome result.0 store.new ≡ load_call 1 bytes (store_mesh store.old)) }
 {
-    let fresh = Counts {
-        vertices: 0,
-        triangles: 0,
-        rule: 1,
-    };
-    let mut cage = [0u8; 36873];
+    let mut cage = [0; 36873];
     let Ok(mut file) = File::open(rt, path) else {
-        return mesh::load(positions, corners, links, generations, locks, fresh, 1, b"");
+        return (store.load(b""), Ok(()));
     };
-    let n = read_full(&mut file, &mut cage, failure);
-    mesh::load(
-        positions,
-        corners,
-        links,
-        generations,
-        locks,
-        fresh,
-        1,
-        &cage[..n],
-    )
+    let (n, read) = read_full(&mut file, &mut cage);
+    (store.load(&cage[..n]), read)
 }
 
 // Answers the requests in these bytes, four to each, and drops what is left over.
-fn answer(
-    positions: &mut [i32],
-    corners: &mut [u32],
-    links: &mut [u32],
-    generations: &mut [u8],
-    locks: &mut [u8],
-    counts: Counts,
-    rt: &impl Print,
-    requests: &[u8],
-    failure: &mut io::Result<()>,
-) -> Counts
-    ensures { mesh_now result positions.new corners.new links.new generations.new
-        locks.new
-        ≡ after_bytes requests.now (mesh_now counts positions.old corners.old
-        links.old generations.old locks.old) }
+fn answer(store: &mut Store, rt: &impl Print, requests: &[u8]) -> io::Result<()>
+    ensures { store_mesh store.new ≡ after_bytes requests.now (store_mesh store.old) }
 {
-    let mut at = counts;
-    let mut i: usize = 0;
-    while i < requests.len() / 4 {
-        let t = points::number_at(requests, 4 * i);
-        let done = mesh::refine(positions, corners, links, generations, locks, at, t);
-        note(failure, print(rt, done));
-        at = done.counts;
-        i += 1;
+    let mut printed = Ok(());
+    for request in requests.chunks_exact(4) {
+        let done = store.refine(points::number_at(request, 0));
+        printed = printed.and(rt.println(Line(done)));
     }
-    at
+    printed
 }
 
 // Reads into the buffer, and answers the requests that it then holds.
 fn answer_some(
-    positions: &mut [i32],
-    corners: &mut [u32],
-    links: &mut [u32],
-    generations: &mut [u8],
-    locks: &mut [u8],
-    counts: Counts,
+    store: &mut Store,
     rt: &impl Print,
     file: &mut impl Read,
     requests: &mut [u8],
-    failure: &mut io::Result<()>,
-) -> Answered
-    ensures read_in_bounds { result.read ≤ length requests.new }
-    ensures answered { mesh_now result.counts positions.new corners.new links.new generations.new
-        locks.new
-        ≡ after_bytes (take result.read requests.new) (mesh_now counts positions.old
-        corners.old links.old generations.old locks.old) }
+) -> (usize, io::Result<()>)
+    ensures read_in_bounds { result.0 ≤ length requests.new }
+    ensures answered { store_mesh store.new
+        ≡ after_bytes (take result.0 requests.new) (store_mesh store.old) }
 {
-    let n = read_full(file, requests, failure);
-    let after = answer(
-        positions,
-        corners,
-        links,
-        generations,
-        locks,
-        counts,
-        rt,
-        &requests[..n],
-        failure,
-    );
-    Answered {
-        counts: after,
-        read: n,
-    }
+    let (n, read) = read_full(file, requests);
+    let printed = answer(store, rt, &requests[..n]);
+    (n, read.and(printed))
 }
 
 // Answers all requests, read by read, until a read does not fill the buffer. Its length is a multiple of 4, so that no
-// request comes in two reads. A proved loop has to end, and nothing says that a file does: its turns are counted down
-// from a number that no run uses up.
+// request comes in two reads. A proved loop has to end, and nothing says that a file does: its turns are as many as no
+// run uses up.
 fn answer_all(
-    positions: &mut [i32],
-    corners: &mut [u32],
-    links: &mut [u32],
-    generations: &mut [u8],
-    locks: &mut [u8],
-    counts: Counts,
+    store: &mut Store,
     rt: &impl Print,
     file: &mut impl Read,
     requests: &mut [u8],
-    failure: &mut io::Result<()>,
-) -> Answered
+) -> (usize, io::Result<()>)
     requires { length requests.old % 4 ≡ 0 }
-    ensures { AllAnswered (length requests.new) (take result.read requests.new)
-        (mesh_now counts positions.old corners.old links.old
-        generations.old locks.old)
-        (mesh_now result.counts positions.new corners.new links.new
-        generations.new locks.new) }
+    ensures { AllAnswered (length requests.new) (take result.0 requests.new)
+        (store_mesh store.old) (store_mesh store.new) }
 {
-    let mut last = answer_some(
-        positions,
-        corners,
-        links,
-        generations,
-        locks,
-        counts,
-        rt,
-        file,
-        requests,
-        failure,
-    );
-    let mut turns = u64::MAX;
-    while turns > 0 && last.read == requests.len() {
-        last = answer_some(
-            positions,
-            corners,
-            links,
-            generations,
-            locks,
-            last.counts,
-            rt,
-            file,
-            requests,
-            failure,
-        );
-        turns -= 1;
+    let (mut last, mut outcome) = answer_some(store, rt, file, requests);
+    for _turn in 0..u64::MAX {
+        if last < requests.len() {
+            break;
+        }
+        let (read, answered) = answer_some(store, rt, file, requests);
+        last = read;
+        outcome = outcome.and(answered);
     }
-    last
+    (last, outcome)
 }
 
 fn main(rt: HostRuntime) -> io::Result<()> {
-    let mut failure: io::Result<()> = Ok(());
-    let mut positions = [0i32; 3072];
-    let mut corners = [0u32; 6144];
-    let mut links = [0u32; 6144];
-    let mut generations = [0u8; 2048];
-    let mut locks = [0u8; 2048];
-    let loaded = load(
-        &mut positions,
-        &mut corners,
-        &mut links,
-        &mut generations,
-        &mut locks,
-        &rt,
-        "cage.bin",
-        &mut failure,
-    );
-    note(&mut failure, print(&rt, loaded));
+    let mut store = Store::fresh();
+    let (loaded, read) = load(&mut store, &rt, "cage.bin");
+    let outcome = read.and(rt.println(Line(loaded)));
     let Ok(mut file) = File::open(&rt, "requests.bin") else {
-        return failure;
+        return outcome;
     };
-    let mut requests = [0u8; 65536];
-    answer_all(
-        &mut positions,
-        &mut corners,
-        &mut links,
-        &mut generations,
-        &mut locks,
-        loaded.counts,
-        &rt,
-        &mut file,
-        &mut requests,
-        &mut failure,
-    );
-    failure
+    let mut requests = [0; 65536];
+    let (_, answered) = answer_all(&mut store, &rt, &mut file, &mut requests);
+    outcome.and(answered)
 }

@@ -4,6 +4,7 @@ use mathlib.Core.Path.{◌≡◌, refl, ap, ◌∙◌}
 use Prim.Native.Nat.{ℕ, ◌+◌, ◌*◌}
 use native.Mathlib.Numerals.{add-one}
 use native.Mathlib.Omega.{arith}
+use lib.IntN.{ℤ}
 use lib.ListN.{get_or, set}
 use Rattle.rules.specs.Notes.{note_nine, put_back, put_back_all}
 use Rattle.rules.specs.Tables.{Mesh, Topology, with_topology, with_locks}
@@ -11,7 +12,7 @@ use Rattle.tables.specs.declared.Counts.{Counts}
 use Rattle.tables.specs.declared.Triangle.{Triangle}
 use Rattle.tables.proofs.Lending.{same_at_first, same_on}
 use Rattle.tables.specs.declared.Tables.{Tables}
-use Rattle.tables.specs.Lent.{mesh_with, held, put, SameTables}
+use Rattle.tables.specs.Lent.{mesh_with, mesh_over, held, put, SameTables}
 use Rattle.restoring.specs.Putting.{slot_as_triangle}
 
 -- ---- one slot
@@ -31,17 +32,20 @@ one_put note i m a b d = rw (d, a, b, first_of_nine note i) refl
 -- The first i slots of a note have been put into tables.
 pub record PutUpTo (note : List ℕ) (i : ℕ) (old new : Tables) : Type 0 where
   pub put : (n : Counts) → mesh_with n (held new) ≡ put_back_all note i (mesh_with n (held old))
+  pub over : (n : Counts) (p : List ℤ) → mesh_over n p (held new) ≡ put_back_all note i (mesh_over n p (held old))
   pub lent : SameTables new old
 
 pub none_put : (note : List ℕ) (old : Tables) → PutUpTo note 0 old old
 unfolding put_back_all
-none_put note old = record { put = λ n. refl; lent = same_at_first old }
+none_put note old = record { put = λ n. refl; over = λ n p. refl; lent = same_at_first old }
 
 pub one_more_put : {note : List ℕ} {i : ℕ} {old now new : Tables} → PutUpTo note i old now → SameTables new now
     → ((n : Counts) → mesh_with n (held new) ≡ put_back note i (mesh_with n (held now)))
+    → ((n : Counts) (p : List ℤ) → mesh_over n p (held new) ≡ put_back note i (mesh_over n p (held now)))
     → PutUpTo note (i + 1) old new
 unfolding put_back_all
-one_more_put {note} {i} P L f = record {
+one_more_put {note} {i} P L f g = record {
   put = λ n. rw (add-one) (f n ∙ ap (put_back note i) (P.put n));
+  over = λ n p. rw (add-one) (g n p ∙ ap (put_back note i) (P.over n p));
   lent = same_on L P.lent;
 }

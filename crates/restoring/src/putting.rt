@@ -1,8 +1,8 @@
 // The slots of a note put back into tables.
-ghost use Rattle.std.specs.Prelude.{◌≡◌, ◌+◌};
+ghost use Rattle.std.specs.Prelude.{List, ℤ, ◌≡◌, ◌+◌};
 ghost use Rattle.rules.specs.Notes.{old_f, note_slots, note_nine, put_back, put_back_all};
 ghost use Rattle.tables.specs.declared.Counts.{Counts};
-ghost use Rattle.tables.specs.Lent.{mesh_with, held, SameTables};
+ghost use Rattle.tables.specs.Lent.{mesh_with, mesh_over, held, SameTables};
 ghost use Rattle.restoring.specs.Fitting.{NoteFits};
 ghost use Rattle.restoring.specs.Putting.{SlotHeld, SlotRoom, slot_as_triangle};
 
@@ -29,6 +29,8 @@ fn put_back(tables: &mut Tables, note: &[u32], i: usize)
     requires slot_room { SlotRoom (note_nine note.now i 0 + 1) (held tables.old) }
     ensures put { (n : Counts) →
         mesh_with n (held tables.new) ≡ put_back note.now i (mesh_with n (held tables.old)) }
+    ensures over { (n : Counts) (p : List ℤ) →
+        mesh_over n p (held tables.new) ≡ put_back note.now i (mesh_over n p (held tables.old)) }
     ensures lent { SameTables tables.new tables.old }
 {
     let at = 4 + 9 * i;
@@ -45,6 +47,9 @@ pub fn put_back_all(tables: &mut Tables, note: &[u32])
     ensures put { (n : Counts) →
         let note = note.entry.now in
         mesh_with n (held tables.new) ≡ put_back_all note (note_slots note) (mesh_with n (held tables.old)) }
+    ensures over { (n : Counts) (p : List ℤ) →
+        let note = note.entry.now in
+        mesh_over n p (held tables.new) ≡ put_back_all note (note_slots note) (mesh_over n p (held tables.old)) }
     ensures lent { SameTables tables.new tables.old }
 {
     let slots = note[3] as usize;

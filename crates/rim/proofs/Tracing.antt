@@ -1,10 +1,6 @@
 -- A rim followed side by side until it closes.
-use mathlib.Core.Logic.{◌≢◌}
-use mathlib.Core.Path.{◌≡◌, refl, sym, ap, ◌∙◌}
-use Prim.Native.Nat.{ℕ, zero, suc, ◌+◌, ◌-◌, ◌≤◌, ◌<◌}
+use Rattle.std.proofs.Common.{ℕ, zero, suc, ◌+◌, ◌-◌, ◌<◌, ◌≤◌, arith, length, ◌≡◌, ◌≢◌, refl, sym, ap, ◌∙◌}
 use native.Mathlib.Decide.{dec_lt, ℕ_discrete}
-use native.Mathlib.Omega.{arith}
-use lib.ListN.{length}
 use Rattle.theory.proofs.Links.Manifold.{Manifold}
 use Rattle.theory.proofs.Rims.RimWalk.{along, only_side, side_along, rim_open, rim_closes, rim_short, rim_made}
 use Rattle.rules.specs.Rim.{rim}
@@ -25,14 +21,14 @@ module _ (m : Topology) {first : ℕ} (R : OnRimSide m first) where
   abbrev v : ℕ
   v = origin m first
 
-  pub in_use_lem : v < m.vertices
-  in_use_lem = F.corner first R.side.in_use
+  pub starts_in_use : v < m.vertices
+  starts_in_use = F.corner first R.side.in_use
 
-  pub on_boundary_lem : OnBoundary m v
-  on_boundary_lem = (first, R.side.in_use, refl, R.side.edge)
+  pub starts_on_boundary : OnBoundary m v
+  starts_on_boundary = (first, R.side.in_use, refl, R.side.edge)
 
   pub first_is : first_side m v ≡ first
-  first_is = only_side m F in_use_lem R.side
+  first_is = only_side m F starts_in_use R.side
 
   along_on : (n : ℕ) → 0 < n → target m (first_side m (along m v (n - 1))) ≡ along m v n
   unfolding along
@@ -43,7 +39,7 @@ module _ (m : Topology) {first : ℕ} (R : OnRimSide m first) where
 
   pub leaves_at : {h : ℕ} (j : ℕ) → h ≡ first_side m (along m v j) → OnRimSide m h
   leaves_at j e =
-      let S = side_along m F v in_use_lem on_boundary_lem j in
+      let S = side_along m F v starts_in_use starts_on_boundary j in
       record { manifold = F; side = rw e (record { in_use = S.in_use; out = refl; edge = S.edge }) }
 
   pub traced_on_rim : {n h : ℕ} → Tracing m first n h → OnRimSide m h
@@ -53,11 +49,14 @@ module _ (m : Topology) {first : ℕ} (R : OnRimSide m first) where
   unfolding along
   tracing_begins = record {
     some = omega arith;
-    most = omega (arith, (rim_made m F v in_use_lem on_boundary_lem).at_least_two);
+    most = omega (arith, (rim_made m F v starts_in_use starts_on_boundary).at_least_two);
     side = sym first_is;
   }
 
-  module _ {n h k : ℕ} (T : Tracing m first n h) (e : k ≡ first_side m (target m h)) where
+  module _ {n h k : ℕ} (T : Tracing m first n h) (goes_on : OnRimSide m h → k ≡ first_side m (target m h)) where
+    e : k ≡ first_side m (target m h)
+    e = goes_on (traced_on_rim T)
+
     -- The next side leaves the next vertex.
     next_side : k ≡ first_side m (along m v n)
     next_side =
@@ -69,10 +68,10 @@ module _ (m : Topology) {first : ℕ} (R : OnRimSide m first) where
       where
         back : along m v n ≡ v
         back =
-            sym (side_along m F v in_use_lem on_boundary_lem n).out ∙ ap (λ (x : ℕ). origin m x) (sym next_side ∙ q)
+            sym (side_along m F v starts_in_use starts_on_boundary n).out ∙ ap (λ (x : ℕ). origin m x) (sym next_side ∙ q)
 
         go : Dec (n < length (rim m v)) → n ≡ length (rim m v)
-        go (yes l) = absurd (rim_open m F v in_use_lem on_boundary_lem n T.some l back)
+        go (yes l) = absurd (rim_open m F v starts_in_use starts_on_boundary n T.some l back)
         go (no l) = omega (arith, T.most)
 
     -- and else it goes on.
@@ -86,8 +85,8 @@ module _ (m : Topology) {first : ℕ} (R : OnRimSide m first) where
         go : Dec (n ≡ length (rim m v)) → n + 1 ≤ length (rim m v)
         go (yes q) =
             absurd (x (next_side ∙ ap (λ (j : ℕ). first_side m (along m v j)) q
-            ∙ ap (first_side m) (rim_closes m F v in_use_lem on_boundary_lem) ∙ first_is))
+            ∙ ap (first_side m) (rim_closes m F v starts_in_use starts_on_boundary) ∙ first_is))
         go (no q) = omega (arith, T.most)
 
   pub tracing_short : {n h : ℕ} → Tracing m first n h → n ≤ length m.links
-  tracing_short T = omega (arith, T.most, rim_short m F v in_use_lem on_boundary_lem, F.link_room)
+  tracing_short T = omega (arith, T.most, rim_short m F v starts_in_use starts_on_boundary, F.link_room)

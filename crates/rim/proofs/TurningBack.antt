@@ -1,12 +1,6 @@
 -- From one side of a rim to the next: back round the vertex between them.
-use mathlib.Core.Bool.{Bool, true, false, not, ◌&&◌}
-use mathlib.Core.List.{List, []}
-use mathlib.Core.Logic.{◌≢◌, inl, inr}
-use mathlib.Core.Path.{◌≡◌, refl, sym, ap, ◌∙◌, subst}
-use Prim.Native.Nat.{ℕ, zero, suc, ◌/◌, ◌≤◌, ◌<◌}
-use native.Mathlib.Omega.{arith}
-use lib.Dec.{eqb, ltb}
-use lib.ListN.{length, get_or}
+use Rattle.std.proofs.Common.{ℕ, zero, suc, ◌/◌, ◌<◌, ◌≤◌, arith, Bool, true, false, not, ◌&&◌, eqb, ltb, List, []}
+use Rattle.std.proofs.Common.{length, get_or, ◌≡◌, ◌≢◌, refl, sym, ap, ◌∙◌, subst, inl, inr}
 use Rattle.theory.proofs.Links.Manifold.{Manifold}
 use Rattle.theory.proofs.Links.Sides.{next_lt, next_previous}
 use Rattle.theory.proofs.Numbers.Decide.{Decides, is_eq}
@@ -60,11 +54,11 @@ module _ (m : Topology) {h : ℕ} (R : OnRimSide m h) where
   abbrev w : ℕ
   w = target m h
 
-  in_use_lem : w < m.vertices
-  in_use_lem = F.corner (next h) (next_lt h m.triangles R.side.in_use)
+  target_in_use : w < m.vertices
+  target_in_use = F.corner (next h) (next_lt h m.triangles R.side.in_use)
 
   ring_there : RingMakes m w
-  ring_there = ring_at m F w in_use_lem
+  ring_there = ring_at m F w target_in_use
 
   pub begins : (i : ℕ) × At m w (next h) i
   begins = let (i, e, q) = ends m F R.side in (i, record { place = omega arith; side = q })
@@ -79,8 +73,8 @@ module _ (m : Topology) {h : ℕ} (R : OnRimSide m h) where
   at_read A = omega (arith, at_in_use A, F.link_room)
 
   -- At the boundary it is the side sought.
-  pub at_boundary_lem : {k i : ℕ} → At m w k i → link m k ≡ boundary → k ≡ first_side m w
-  at_boundary_lem {k} {i} A e = sym (only_there m F in_use_lem i A.place A.side e)
+  pub sought_at_boundary : {k i : ℕ} → At m w k i → link m k ≡ boundary → k ≡ first_side m w
+  sought_at_boundary {k} {i} A e = sym (only_there m F target_in_use i A.place A.side e)
 
   -- Elsewhere the side across leads one place back.
   pub at_before : {k : ℕ} (i : ℕ) → At m w k i → link m k ≢ boundary
@@ -109,7 +103,7 @@ module _ (m : Topology) {h : ℕ} (R : OnRimSide m h) where
   first_there : {k : ℕ} (i : ℕ) → At m w k i → link m k ≡ boundary → 0 ≡ i
   first_there {k} i A e =
       let q : walk_at m w i ≡ walk_at m w 0 =
-      A.side ∙ at_boundary_lem A e ∙ sym ring_there.first in
+      A.side ∙ sought_at_boundary A e ∙ sym ring_there.first in
       sym (ring_there.once i 0 A.place ring_there.some (ap (λ (x : ℕ). x / 3) q))
 
   turns_are : (n : ℕ) {k i : ℕ} → At m w k i → i < n → turns_back n m.links k ≡ i
@@ -124,6 +118,6 @@ module _ (m : Topology) {h : ℕ} (R : OnRimSide m h) where
       go true d f = first_there i A (d.holds tt)
       go false d f = let (j, e, B) = at_before i A (λ q. d.passes q) in ap suc (f j B (omega arith)) ∙ sym e
 
-  pub turns_back_lem : {k i : ℕ} → At m w k i → turns_back (length m.links) m.links k ≡ i
-  turns_back_lem A =
+  pub turns_to_place : {k i : ℕ} → At m w k i → turns_back (length m.links) m.links k ≡ i
+  turns_to_place A =
       turns_are (length m.links) A (omega (arith, A.place, fan_few m w, F.link_room))

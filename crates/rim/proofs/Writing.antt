@@ -1,11 +1,7 @@
 -- The curve of a rim, written vertex by vertex.
-use mathlib.Core.List.{List}
-use mathlib.Core.Path.{◌≡◌, refl, sym, ap, ◌∙◌}
-use Prim.Native.Nat.{ℕ, zero, suc, ◌+◌, ◌-◌, ◌*◌, ◌/◌, ◌%◌, ◌≤◌, ◌<◌}
-use native.Mathlib.Nat.{mod-eq_of_lt, add-mod_right}
-use native.Mathlib.Omega.{arith}
-use lib.IntN.{ℤ}
-use lib.ListN.{length, get_or}
+use Rattle.std.proofs.Common.{ℕ, zero, suc, ◌+◌, ◌-◌, ◌*◌, ◌/◌, ◌%◌, ◌<◌, ◌≤◌, arith, List, length, get_or, ℤ, ◌≡◌}
+use Rattle.std.proofs.Common.{refl, sym, ap, ◌∙◌, mod-eq_of_lt}
+use native.Mathlib.Nat.{add-mod_right}
 use Rattle.theory.proofs.Links.Manifold.{Manifold}
 use Rattle.theory.proofs.Numbers.Fill.{fill_three, length_fill}
 use Rattle.theory.proofs.Rims.Curve.{point_at_lem}
@@ -20,7 +16,7 @@ use Rattle.points.specs.Axes.{each_axis}
 use Rattle.tables.specs.Lent.{point_in, put_point}
 use Rattle.rim.specs.declared.Trace.{Trace}
 use Rattle.rim.specs.Traced.{OnRimSide, Traced, three_points}
-use Rattle.rim.proofs.Tracing.{in_use_lem, on_boundary_lem, first_is, leaves_at}
+use Rattle.rim.proofs.Tracing.{starts_in_use, starts_on_boundary, first_is, leaves_at}
 
 -- After j vertices of the rim from the side `first` on: the points of the one before and of the next, the side by which
 -- the rim leaves that, and the table.
@@ -51,10 +47,10 @@ module _ (m : Mesh) {first : ℕ} {trace : Trace} (W : Traced m first trace) whe
   place j = point_in m.positions (vertex j)
 
   i : v < tri.vertices
-  i = in_use_lem tri W.on_rim
+  i = starts_in_use tri W.on_rim
 
   on : OnBoundary tri v
-  on = on_boundary_lem tri W.on_rim
+  on = starts_on_boundary tri W.on_rim
 
   two : 2 ≤ length l
   two = (rim_made tri F v i on).at_least_two
@@ -152,7 +148,10 @@ module _ (m : Mesh) {first : ℕ} {trace : Trace} (W : Traced m first trace) whe
       pub writing_size : length table ≡ length lent
       writing_size = ap length R.table ∙ length_fill (9 * j) (curve_at m l) lent
 
-      module _ {k : ℕ} (e : k ≡ first_side tri (target tri h)) where
+      module _ {k : ℕ} (goes_on : OnRimSide tri h → k ≡ first_side tri (target tri h)) where
+        e : k ≡ first_side tri (target tri h)
+        e = goes_on writing_on_rim
+
         next_side : k ≡ first_side tri (vertex (suc j))
         unfolding along
         next_side = e ∙ ap (λ (x : ℕ). first_side tri (target tri x)) R.side
@@ -161,23 +160,26 @@ module _ (m : Mesh) {first : ℕ} {trace : Trace} (W : Traced m first trace) whe
         next_vertex =
             ap (λ (x : ℕ). origin tri x) next_side ∙ (side_along tri F v i on (suc j)).out
 
-        pub next_on_rim : OnRimSide tri k
+        next_on_rim : OnRimSide tri k
         next_on_rim = leaves_at tri W.on_rim (suc j) next_side
+
+        pub next_readable : (k < boundary) × (k < length tri.corners) × (origin tri k < length m.positions / 3)
+        next_readable = readable next_on_rim
 
         pub writing_on : {after : Point} {table' : List ℤ} → j < trace.length
             → after ≡ point_in m.positions (origin tri k) → table' ≡ three_points (3 * j) before this after table
             → Writing m first (j + 1) k this after lent table'
         writing_on b p t = record {
-          side = next_side ∙ ap (λ (x : ℕ). first_side tri (vertex x)) one_more_lem;
+          side = next_side ∙ ap (λ (x : ℕ). first_side tri (vertex x)) one_more;
           before =
               let q : j + 1 + length l - 1 ≡ j + length l = omega arith in
               R.this ∙ ap (point_in m.positions)
               (sym (again tri F v i on j) ∙ ap vertex (sym q));
-          this = p ∙ ap (point_in m.positions) (next_vertex ∙ ap vertex one_more_lem);
+          this = p ∙ ap (point_in m.positions) (next_vertex ∙ ap vertex one_more);
           table =
               t ∙ rw (R.before, R.this, R.table, p, next_vertex)
               (three_more j lent (omega (arith, W.closes.size)));
         }
           where
-            one_more_lem : suc j ≡ j + 1
-            one_more_lem = omega arith
+            one_more : suc j ≡ j + 1
+            one_more = omega arith

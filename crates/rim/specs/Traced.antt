@@ -6,10 +6,11 @@ use Rattle.rules.specs.Calls.{Outcome, answer_of, outcome_of, table_room, zero_p
 use Rattle.rules.specs.Rim.{rim, curve_refusal}
 use Rattle.rules.specs.Ring.{first_side}
 use Rattle.rules.specs.Sound.{Sound}
+use Rattle.rules.specs.Spares.{Spares}
 use Rattle.rules.specs.Tables.{Topology, Mesh, origin}
 use Rattle.points.specs.Axes.{smoothed_point}
 use Rattle.points.specs.declared.Point.{Point}
-use Rattle.tables.specs.Lent.{mesh_now, put_point}
+use Rattle.tables.specs.Lent.{mesh_with, put_point}
 use Rattle.rim.specs.declared.Trace.{Trace}
 use Rattle.rim.specs.declared.FoundRim.{FoundRim}
 use Rattle.rim.specs.declared.RimRead.{RimRead}
@@ -37,23 +38,19 @@ three_points i a b c table =
     put_point (i + 2) (smoothed_point 1 16 10 a b c)
     (put_point (i + 1) (smoothed_point 4 19 4 a b c) (put_point i (smoothed_point 10 16 1 a b c) table))
 
--- A rim that is refused.
-abbrev pub no_rim : ℕ → FoundRim
-no_rim n = record { refusal = n; first = 0; trace = record { length = 0; last = 0 } }
+-- A curve of v into a table with this room is refused with n, or 0 for none.
+pub record Refused (v room n : ℕ) (m : Mesh) : Type 0 where
+  pub first : (table : List ℤ) → length table ≡ room → n ≡ curve_refusal v table m
 
 -- A rim from v on whose curve fits a table with this room.
 pub record Found (v room : ℕ) (m : Mesh) (a : FoundRim) : Type 0 where
   pub traced : Traced m a.first a.trace
   pub from : origin m.topology a.first ≡ v
   pub fits : 9 * a.trace.length ≤ room
-
--- Its refusal for such a table, or the rim where there is none.
-pub record FoundFor (v room : ℕ) (m : Mesh) (a : FoundRim) : Type 0 where
-  pub refused : (table : List ℤ) → length table ≡ room → a.refusal ≡ curve_refusal v table m
-  pub found : a.refusal ≡ 0 → Found v room m a
+  pub accepted : Refused v room 0 m
 
 -- The outcome of a call that reads a curve.
-abbrev pub curve_outcome : RimRead → List ℤ → List ℕ → List ℕ → List ℕ → List ℕ → List ℤ → Outcome
-curve_outcome a positions corners links generations locks table =
-    let m = mesh_now a.counts positions corners links generations locks in
+abbrev pub curve_outcome : RimRead → Spares → List ℤ → Outcome
+curve_outcome a s table =
+    let m = mesh_with a.counts s in
     outcome_of (answer_of a.refusal 0 0 a.length zero_point m) m (table_room table)

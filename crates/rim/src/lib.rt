@@ -1,18 +1,20 @@
 // The rim from one of its vertices on, and its curve: three points for each vertex.
 #![tactic(auto)]
 
-ghost use Rattle.std.specs.Prelude.{List, ◌≡◌, ℕ, ◌+◌, ◌*◌, ◌≤◌, ◌<◌, length, get_or};
+ghost use Rattle.std.specs.Prelude.{List, ◌≡◌, ℕ, ◌+◌, ◌*◌, ◌≤◌, ◌<◌, MatchResult, length, get_or};
 ghost use Rattle.rules.specs.Below.{fill};
 ghost use Rattle.rules.specs.Rim.{rim, curve_at, curve_call};
 ghost use Rattle.rules.specs.Ring.{first_side};
 ghost use Rattle.rules.specs.Tables.{next, origin, target, topology_of};
-ghost use Rattle.tables.specs.Lent.{mesh_now};
+ghost use Rattle.tables.specs.Lent.{seen, mesh_with};
+ghost use Rattle.tables.specs.Refusals.{number};
 ghost use Rattle.tables.specs.declared.Counts.{Counts};
-ghost use Rattle.rim.specs.Traced.{OnRimSide, Closes, Traced, three_points, no_rim, FoundFor, curve_outcome};
+ghost use Rattle.rim.specs.Traced.{OnRimSide, Closes, Traced, three_points, Refused, Found, curve_outcome};
 
 use points::Point;
+use tables::refusals::Refusal;
 use tables::sides::next;
-use tables::{BOUNDARY, Counts};
+use tables::{BOUNDARY, Counts, View};
 
 // The answer of curve: how many vertices the rim has.
 #[repr(C)]
@@ -26,14 +28,13 @@ pub struct RimRead {
 // A rim from one of its sides on: how many vertices it has, and its side back to the first.
 #[derive(Clone, Copy)]
 struct Trace {
-    length: usize,
+    length: u32,
     last: usize,
 }
 
-// What is known of a rim before its curve is written: its refusal, or 0 with its first side and where it closes.
+// What is known of a rim before its curve is written: its first side and where it closes.
 #[derive(Clone, Copy)]
 struct FoundRim {
-    refusal: u32,
     first: usize,
     trace: Trace,
 }
@@ -75,17 +76,17 @@ fn trace_rim(links: &[u32], first: usize) -> Trace
         let m = topology_of v f c links.now g in
         OnRimSide m first → Closes m first result }
 {
-    let mut n: usize = 1;
+    let mut n: u32 = 1;
     let mut h = first;
-    let trace = loop {
+    // Kept: no plainer: the walk has no end that is known before it comes back.
+    loop {
         let k = onward(links, h);
         if k == first {
-            break Trace { length: n, last: h };
+            return Trace { length: n, last: h };
         }
         n += 1;
         h = k;
-    };
-    trace
+    }
 }
 
 // Stores the three points of a vertex at b, where the one before is at a and the one after at c, from slot i of the
@@ -100,134 +101,76 @@ fn store_three(table: &mut [i32], i: u32, a: Point, b: Point, c: Point)
 }
 
 // Writes the curve of the rim from its side `first` on to the front of the table.
-fn write_curve(
-    positions: &[i32],
-    corners: &[u32],
-    links: &[u32],
-    first: usize,
-    trace: Trace,
-    table: &mut [i32],
-)
-    requires { (9 * trace.length ≤ length table.old) × ((n : Counts) × (g k : List ℕ) ×
-        Traced (mesh_now n positions.now corners.now links.now g k) first trace) }
-    ensures { (n : Counts) (g k : List ℕ) →
-        let m = mesh_now n positions.now corners.now links.now g k in
+fn write_curve(view: &View, first: usize, trace: Trace, table: &mut [i32])
+    requires { (9 * trace.length ≤ length table.old)
+        × ((n : Counts) × Traced (mesh_with n (seen view.now)) first trace) }
+    ensures { (n : Counts) →
+        let m = mesh_with n (seen view.now) in
         Traced m first trace → table.new
         ≡ fill (9 * trace.length) (curve_at m (rim m.topology (origin m.topology first))) table.old }
 {
+    let View {
+        positions,
+        corners,
+        links,
+        ..
+    } = *view;
     let last = trace.last;
     let mut before = tables::point_in(positions, corners[last]);
     let mut this = tables::point_in(positions, corners[first]);
     let mut h = first;
-    let mut j: u32 = 0;
-    while (j as usize) < trace.length {
+    for j in 0..trace.length {
         h = onward(links, h);
         let after = tables::point_in(positions, corners[h]);
         store_three(table, 3 * j, before, this, after);
         before = this;
         this = after;
-        j += 1;
-    }
-}
-
-// A rim that is refused.
-fn no_rim(refusal: u32) -> FoundRim
-    ensures { result ≡ no_rim refusal }
-{
-    FoundRim {
-        refusal,
-        first: 0,
-        trace: Trace { length: 0, last: 0 },
     }
 }
 
 // Finds the rim of vertex v for a table of so many entries.
-fn find_rim(
-    positions: &[i32],
-    corners: &[u32],
-    links: &[u32],
-    generations: &[u8],
-    locks: &[u8],
-    counts: Counts,
-    v: u32,
-    room: usize,
-) -> FoundRim
-    ensures { FoundFor v room (mesh_now counts positions.now corners.now
-        links.now generations.now locks.now) result }
+fn find_rim(view: &View, counts: Counts, v: u32, room: usize) -> Result<FoundRim, Refusal>
+    ensures { let m = mesh_with counts (seen view.now) in
+        MatchResult result (λ rim. Found v room m rim) (λ refusal. Refused v room (number refusal) m) }
 {
-    if !soundness::tables_agree(positions, corners, links, generations, locks) {
-        return no_rim(1);
+    if !soundness::tables_agree(view) {
+        return Err(Refusal::TablesDisagree);
     }
-    let start = soundness::sound_start(
-        positions,
-        corners,
-        links,
-        generations,
-        locks,
-        counts.vertices,
-        counts.triangles,
-        counts.rule,
-        v,
-    );
-    if start == 0 {
-        return no_rim(7);
-    }
+    let Some(start) = soundness::sound_start(view, counts, v) else {
+        return Err(Refusal::NotSound);
+    };
     if counts.vertices <= v {
-        return no_rim(8);
+        return Err(Refusal::NotInUse);
     }
-    let first = start as usize - 1;
-    if links[first] != BOUNDARY {
-        return no_rim(24);
+    let first = start as usize;
+    if view.links[first] != BOUNDARY {
+        return Err(Refusal::NotOnRim);
     }
-    let trace = trace_rim(links, first);
-    if room < 9 * trace.length {
-        return no_rim(25);
+    let trace = trace_rim(view.links, first);
+    if room < 9 * (trace.length as usize) {
+        return Err(Refusal::CurveShort);
     }
-    FoundRim {
-        refusal: 0,
-        first,
-        trace,
-    }
+    Ok(FoundRim { first, trace })
 }
 
 // Writes the curve of the rim of vertex v, from v on, to the front of the table.
-pub fn curve(
-    positions: &[i32],
-    corners: &[u32],
-    links: &[u32],
-    generations: &[u8],
-    locks: &[u8],
-    counts: Counts,
-    v: u32,
-    table: &mut [i32],
-) -> RimRead
-    ensures { curve_outcome result positions.now corners.now links.now
-        generations.now locks.now table.new
-        ≡ curve_call v table.old (mesh_now counts positions.now corners.now
-        links.now generations.now locks.now) }
+pub fn curve(view: &View, counts: Counts, v: u32, table: &mut [i32]) -> RimRead
+    ensures { curve_outcome result (seen view.now) table.new
+        ≡ curve_call v table.old (mesh_with counts (seen view.now)) }
 {
-    let found = find_rim(
-        positions,
-        corners,
-        links,
-        generations,
-        locks,
-        counts,
-        v,
-        table.len(),
-    );
-    if found.refusal != 0 {
-        return RimRead {
-            refusal: found.refusal,
+    match find_rim(view, counts, v, table.len()) {
+        Ok(rim) => {
+            write_curve(view, rim.first, rim.trace, table);
+            RimRead {
+                refusal: 0,
+                length: rim.trace.length,
+                counts,
+            }
+        }
+        Err(refusal) => RimRead {
+            refusal: refusal.number(),
             length: 0,
             counts,
-        };
-    }
-    let rim = found.trace;
-    write_curve(positions, corners, links, found.first, rim, table);
-    RimRead {
-        refusal: 0,
-        length: rim.length as u32,
-        counts,
+        },
     }
 }

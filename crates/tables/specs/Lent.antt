@@ -37,6 +37,10 @@ seen v = spares_now v.positions.now v.corners.now v.links.now v.generations.now 
 abbrev pub mesh_with : Counts → Spares → Mesh
 mesh_with n s = mesh_now n s.positions s.corners s.links s.generations s.locks
 
+-- The same with points that are not in them.
+abbrev pub mesh_over : Counts → List ℤ → Spares → Mesh
+mesh_over n positions s = mesh_now n positions s.corners s.links s.generations s.locks
+
 abbrev pub topology_with : Counts → Spares → Topology
 topology_with n s = topology_now n s.corners s.links s.generations
 

@@ -5,6 +5,7 @@ use mathlib.Core.Logic.{◌≢◌}
 use mathlib.Core.Path.{◌≡◌, refl, sym, ap, ◌∙◌}
 use Prim.Native.Nat.{ℕ, ◌≤◌}
 use native.Mathlib.Omega.{arith}
+use lib.IntN.{ℤ}
 use Rattle.theory.proofs.Calls.CallRefusals.{take_back_refusal_first}
 use Rattle.theory.proofs.Calls.Carried.{take_back_found}
 use Rattle.theory.proofs.Calls.FirstThatHolds.{two_kept, two_passed, none_hold, refuses, carries}
@@ -19,7 +20,7 @@ use Rattle.rules.specs.Split.{at_first}
 use Rattle.rules.specs.Tables.{Mesh, tables_agree}
 use Rattle.tables.specs.Standing.{standing}
 use Rattle.tables.specs.declared.Counts.{Counts}
-use Rattle.tables.specs.Lent.{mesh_with}
+use Rattle.tables.specs.Lent.{mesh_with, spares_now}
 use Rattle.restoring.specs.Fitting.{NoteFits}
 use Rattle.restoring.specs.Putting.{SlotRoom}
 use Rattle.undoing.proofs.AcceptedCut.{accepted_counts}
@@ -63,7 +64,9 @@ module _ (note : List ℕ) (m : Mesh) (r : ℕ) (e : r ≡ take_back_refusal not
 -- ---- the lent tables
 
 module _ (n : Counts) (s : Spares) where
-  pub sound_room : {f : ℕ} → Sound (mesh_with n s) → f ≤ n.triangles → SlotRoom f s
+  -- Wherever the points are.
+  pub sound_room : {f : ℕ} {p : List ℤ} → Sound (mesh_with n s) → f ≤ n.triangles
+      → SlotRoom f (spares_now p s.corners s.links s.generations s.locks)
   sound_room S b = record {
     triangles = record {
       corners = S.tables.corners;

@@ -4,7 +4,7 @@
 
 ghost use Rattle.std.specs.Prelude.{◌≡◌};
 ghost use Rattle.tables.specs.Answers.{worked_outcome};
-ghost use Rattle.tables.specs.Lent.{mesh_with, held, seen, SameTables};
+ghost use Rattle.tables.specs.Lent.{mesh_with, mesh_now, spares_now, seen};
 ghost use Rattle.tables.specs.Refusals.{refused};
 ghost use Rattle.rules.specs.Notes.{accepted, take_back_refusal, take_back_call};
 ghost use Rattle.rules.specs.Sound.{Sound};
@@ -42,21 +42,40 @@ fn check_note(
 }
 
 // Takes back the refine that wrote the note: every slot in use and the counts are as they were. A refusal leaves them.
+// Kept: C lends the positions for reading, so that the five do not go as one.
 pub fn take_back(
-    tables: &mut Tables,
+    positions: &[i32],
+    corners: &mut [u32],
+    links: &mut [u32],
+    generations: &mut [u8],
+    locks: &mut [u8],
     counts: Counts,
     stands: Result<(), Refusal>,
     note: &[u32],
 ) -> Worked
-    requires { refused stands ≡ standing (mesh_with counts (held tables.old)) }
-    ensures taken_back { worked_outcome result (held tables.new)
-        ≡ take_back_call note.now (mesh_with counts (held tables.old)) }
-    ensures lent { SameTables tables.new tables.old }
+    requires { refused stands ≡ standing (mesh_now counts positions.now corners.old links.old generations.old
+        locks.old) }
+    ensures { worked_outcome result (spares_now positions.now corners.new links.new generations.new locks.new)
+        ≡ take_back_call note.now (mesh_now counts positions.now corners.old links.old generations.old locks.old) }
 {
-    if let Err(refusal) = check_note(&tables.view(), counts, stands, note) {
+    let view = View {
+        positions,
+        corners,
+        links,
+        generations,
+        locks,
+    };
+    if let Err(refusal) = check_note(&view, counts, stands, note) {
         return Worked::refused(refusal, counts);
     }
-    restoring::putting::put_back_all(tables, note);
+    let mut tables = Tables {
+        positions: &mut [],
+        corners,
+        links,
+        generations,
+        locks,
+    };
+    restoring::putting::put_back_all(&mut tables, note);
     Worked {
         refusal: 0,
         splits: 0,

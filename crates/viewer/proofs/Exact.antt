@@ -1,18 +1,12 @@
 -- A coordinate in millimetres is exact, and times 1024 it is the coordinate again.
-use Prim.Native.Nat.{ℕ, suc, ◌*◌, ◌^◌, ◌≤◌, ◌<◌}
-use native.Mathlib.Omega.{arith}
+use Rattle.std.proofs.Common.{ℕ, suc, ◌*◌, ◌^◌, ◌<◌, ◌≤◌, arith, Bool, true, false, ℤ, pos, negsuc, ◌≡◌, refl, sym}
+use Rattle.std.proofs.Common.{ap, ◌∙◌, subst, lt_trans, mul_assoc, T, lit<, le→leb, lt→ltb, Float, nat_abs, shl_lt}
 use native.Mathlib.Decide.{dec_lt}
-use native.Mathlib.Nat.{lt_trans, mul_assoc}
-use mathlib.Core.Path.{◌≡◌, refl, sym, ap, ◌∙◌, subst}
-use mathlib.Core.Bool.{Bool, true, false}
-use lib.Dec.{T, lit<, le→leb, lt→ltb}
-use lib.Ieee.{Float, nan, inf, fin, binary32, round, mul, div, of_int, in_float, in_signed, to_signed, up, down, unlike}
+use lib.Ieee.{nan, inf, fin, binary32, round, mul, div, of_int, in_float, in_signed, to_signed, up, down, unlike}
 use lib.Ieee.Back.{round_whole, positive_back, negative_back}
 use lib.Ieee.Exact.{HasValue, round_exact}
 use lib.Ieee.Fits.{down_pos}
 use lib.Ieee.Scale.{round_same}
-use lib.IntN.{ℤ, pos, negsuc, nat_abs}
-use lib.Pow.{shl_lt}
 use Rattle.theory.proofs.Numbers.Differences.{its, nat, neg, near, at_most_gives}
 use Rattle.rules.specs.Numbers.{InRange}
 use Rattle.viewer.specs.View.{scale, millimetres, negative, IsExact}

@@ -1,9 +1,6 @@
 -- What a viewer is given, computed from the definitions.
-use Prim.Native.Nat.{ℕ, ◌*◌}
-use mathlib.Core.List.{List, [], ◌∷◌, map}
-use mathlib.Core.Path.{◌≡◌, refl}
-use lib.Ieee.{Float, binary32, div, of_int, to_bits}
-use lib.IntN.{pos, negsuc}
+use Rattle.std.proofs.Common.{ℕ, ◌*◌, List, [], ◌∷◌, map, pos, negsuc, ◌≡◌, refl, Float}
+use lib.Ieee.{binary32, div, of_int, to_bits}
 use Rattle.rules.proofs.Computing.{computing}
 use Rattle.rules.specs.Calls.{position_call}
 use Rattle.rules.specs.Tables.{Mesh, topology_of, mesh_of, boundary}

@@ -1,12 +1,5 @@
 -- What is proved of what a viewer is given, to be read alone. (Request j)
-use mathlib.Core.List.{List}
-use mathlib.Core.Logic.{◌≢◌}
-use mathlib.Core.Path.{◌≡◌, refl, sym, ap}
-use Prim.Native.Nat.{ℕ, ◌+◌, ◌*◌, ◌<◌}
-use native.Mathlib.Omega.{arith}
-use lib.Ieee.{Float}
-use lib.IntN.{ℤ}
-use lib.ListN.{length}
+use Rattle.std.proofs.Common.{ℕ, ◌+◌, ◌*◌, ◌<◌, arith, List, length, ℤ, ◌≡◌, ◌≢◌, refl, sym, ap, Float}
 use Rattle.theory.proofs.Calls.CallRefusals.{view_judged}
 use Rattle.theory.proofs.Calls.FirstThatHolds.{judged_carried, judged_refusal}
 use Rattle.theory.proofs.Results.Rings.{position_carried}

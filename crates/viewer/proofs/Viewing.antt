@@ -1,11 +1,6 @@
 -- What a viewer is given of one vertex and of all triangles, by the outcomes of the calls.
-use mathlib.Core.Path.{◌≡◌, refl, sym, ap, ◌∙◌}
-use mathlib.Core.List.{List}
-use mathlib.Core.Logic.{◌≢◌}
-use Prim.Native.Nat.{ℕ, zero, suc, ◌+◌, ◌*◌, ◌/◌, ◌%◌, ◌≤◌}
-use native.Mathlib.Omega.{arith}
-use lib.Ieee.{Float}
-use lib.ListN.{length}
+use Rattle.std.proofs.Common.{ℕ, zero, suc, ◌+◌, ◌*◌, ◌/◌, ◌%◌, ◌≤◌, arith, List, length, ◌≡◌, ◌≢◌, refl, sym, ap}
+use Rattle.std.proofs.Common.{◌∙◌, Float}
 use Rattle.theory.proofs.Calls.CallRefusals.{position_judged, position_refusal_first, view_refusal_first}
 use Rattle.theory.proofs.Calls.FirstThatHolds.{Judged, carried, refused, judged_carried, none_hold}
 use Rattle.theory.proofs.Numbers.Decide.{is_lt, stable}

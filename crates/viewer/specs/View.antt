@@ -7,8 +7,9 @@ use Rattle.points.specs.declared.Point.{Point}
 use Rattle.rules.specs.Below.{fill}
 use Rattle.rules.specs.Calls.{Outcome, answer_of, no_room, outcome_of, zero_point, view_refusal}
 use Rattle.rules.specs.Numbers.{InRange}
+use Rattle.rules.specs.Spares.{Spares}
 use Rattle.rules.specs.Tables.{Mesh, origin, coordinate}
-use Rattle.tables.specs.Lent.{mesh_now, point_in}
+use Rattle.tables.specs.Lent.{mesh_with, point_in}
 use Rattle.viewer.specs.declared.Seen.{Seen}
 use Rattle.viewer.specs.declared.Seen.TheVariants as Seen·
 use Rattle.viewer.specs.declared.Shown.{Shown}
@@ -61,9 +62,9 @@ abbrev pub table_after : Mesh → List Float → List Float
 table_after m table = shown_unless (view_refusal (length table) m) m table
 
 -- The outcome of such a call.
-abbrev pub shown_outcome : Shown → List ℤ → List ℕ → List ℕ → List ℕ → List ℕ → Outcome
-shown_outcome a positions corners links generations locks =
-    let m = mesh_now a.counts positions corners links generations locks in
+abbrev pub shown_outcome : Shown → Spares → Outcome
+shown_outcome a s =
+    let m = mesh_with a.counts s in
     outcome_of (answer_of a.refusal 0 0 0 zero_point m) m no_room
 
 -- ---- what is promised

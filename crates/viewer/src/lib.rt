@@ -6,12 +6,14 @@ ghost use Rattle.rules.specs.Below.{fill};
 ghost use Rattle.rules.specs.Calls.{position_call, view_call, view_refusal};
 ghost use Rattle.rules.specs.Numbers.{InRange};
 ghost use Rattle.rules.specs.Tables.{put_three};
-ghost use Rattle.tables.specs.Lent.{mesh_now};
+ghost use Rattle.tables.specs.Lent.{seen, mesh_with};
+ghost use Rattle.tables.specs.Refusals.{refused};
 ghost use Rattle.viewer.specs.View.{millimetres, in_millimetres, seen_of, entry_of, table_after, shown_outcome};
 ghost use Rattle.viewer.specs.View.{PointInRange, Corners};
 
 use points::Point;
-use tables::Counts;
+use tables::refusals::Refusal;
+use tables::{Counts, View};
 
 // A point in millimetres.
 #[repr(C)]
@@ -23,6 +25,7 @@ pub struct ViewPoint {
 }
 
 // What is seen of a vertex: its point, or the number of the refusal.
+// Kept: the outline asks for this enum, and `Results.point_carried` names it (docs/DECISIONS.md).
 #[derive(Clone, Copy)]
 pub enum Seen {
     Point(ViewPoint),
@@ -30,6 +33,7 @@ pub enum Seen {
 }
 
 // The answer for all triangles.
+// Kept: the C interface answers a number, 0 for none.
 #[repr(C)]
 #[derive(Clone, Copy)]
 pub struct Shown {
@@ -46,6 +50,7 @@ fn millimetres(x: i32) -> f32
 }
 
 // A point in range in millimetres.
+// Kept: no plainer: a From may not ask for the range, in which alone the cast is exact.
 fn view_point(p: Point) -> ViewPoint
     requires { PointInRange p }
     ensures { result ≡ in_millimetres (p.x, p.y, p.z) }
@@ -58,19 +63,10 @@ fn view_point(p: Point) -> ViewPoint
 }
 
 // Where vertex v is.
-pub fn point(
-    positions: &[i32],
-    corners: &[u32],
-    links: &[u32],
-    generations: &[u8],
-    locks: &[u8],
-    counts: Counts,
-    v: u32,
-) -> Seen
-    ensures { result ≡ seen_of (position_call v (mesh_now counts positions.now corners.now
-        links.now generations.now locks.now)) }
+pub fn point(view: &View, counts: Counts, v: u32) -> Seen
+    ensures { result ≡ seen_of (position_call v (mesh_with counts (seen view.now))) }
 {
-    let read = reading::position(positions, corners, links, generations, locks, counts, v);
+    let read = reading::position(view, counts, v);
     if read.refusal != 0 {
         return Seen::Refused(read.refusal);
     }
@@ -97,64 +93,35 @@ fn write_corners(positions: &[i32], corners: &[u32], count: u32, table: &mut [f3
     ensures { table.new
         ≡ fill (3 * count) (entry_of positions.now corners.now) table.old }
 {
-    let mut h: u32 = 0;
-    while h < count {
+    for h in 0..count {
         let p = reading::point_of(positions, corners[h as usize]);
         store(table, h, view_point(p));
-        h += 1;
     }
 }
 
-// The refusal of all triangles into a table of so many numbers, or 0.
-fn view_refusal(
-    positions: &[i32],
-    corners: &[u32],
-    links: &[u32],
-    generations: &[u8],
-    locks: &[u8],
-    counts: Counts,
-    entries: usize,
-) -> u32
-    ensures { result ≡ view_refusal entries (mesh_now counts positions.now corners.now
-        links.now generations.now locks.now) }
+// What refuses all triangles into a table of so many numbers.
+fn view_refusal(view: &View, counts: Counts, entries: usize) -> Result<(), Refusal>
+    ensures { refused result ≡ view_refusal entries (mesh_with counts (seen view.now)) }
 {
-    let bad = soundness::first_refusal(positions, corners, links, generations, locks, counts);
-    if bad != 0 {
-        return bad;
-    }
+    soundness::first_refusal(view, counts)?;
     if entries < 9 * (counts.triangles as usize) {
-        return 20;
+        return Err(Refusal::ViewShort);
     }
-    0
+    Ok(())
 }
 
 // All triangles in the order of their slots, nine numbers each, corner by corner.
-pub fn triangles(
-    positions: &[i32],
-    corners: &[u32],
-    links: &[u32],
-    generations: &[u8],
-    locks: &[u8],
-    counts: Counts,
-    table: &mut [f32],
-) -> Shown
-    ensures { let m = mesh_now counts positions.now corners.now links.now
-        generations.now locks.now in
-        (shown_outcome result positions.now corners.now links.now generations.now
-        locks.now ≡ view_call (length table.old) m)
+pub fn triangles(view: &View, counts: Counts, table: &mut [f32]) -> Shown
+    ensures { let m = mesh_with counts (seen view.now) in
+        (shown_outcome result (seen view.now) ≡ view_call (length table.old) m)
         × (table.new ≡ table_after m table.old) }
 {
-    let refusal = view_refusal(
-        positions,
-        corners,
-        links,
-        generations,
-        locks,
-        counts,
-        table.len(),
-    );
-    if refusal == 0 {
-        write_corners(positions, corners, 3 * counts.triangles, table);
+    if let Err(refusal) = view_refusal(view, counts, table.len()) {
+        return Shown {
+            refusal: refusal.number(),
+            counts,
+        };
     }
-    Shown { refusal, counts }
+    write_corners(view.positions, view.corners, 3 * counts.triangles, table);
+    Shown { refusal: 0, counts }
 }

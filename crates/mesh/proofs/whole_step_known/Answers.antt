@@ -1,20 +1,16 @@
 -- `mesh::whole_step_known` meets its contract.
+use mathlib.Core.Path.{sym, ap, ◌∙◌}
 use Rattle.theory.proofs.Steps.StepRefusals.{step_refused}
-use Rattle.rules.specs.Tables.{Mesh}
-use Rattle.tables.specs.Lent.{mesh_now}
 use Rattle.mesh.proofs.Refusing.{step_standing}
+use Rattle.tables.specs.Refusals.{refused}
 use Rattle.tables.proofs.Standing.{standing_sound}
+use Rattle.tables.proofs.Refusing.{number_some}
 use Rattle.mesh.proofs.whole_step_known.Goals as goal
 
-pub returns-then-bad-ne0 : goal.returns-then-bad-ne0
-returns-then-bad-ne0 c =
-    let mesh_of : Mesh = mesh_now c.args.counts c.args.positions.now c.args.corners.now c.args.links.now c.args.generations.now
-    c.args.locks.now in
-    let m = mesh_of in
-    step_refused m _ (step_standing m _ c.requires c.if-bad-ne0.true) c.if-bad-ne0.true
-
 pub smoothing_step-requires : goal.smoothing_step-requires
-smoothing_step-requires c =
-    let mesh_of : Mesh = mesh_now c.args.counts c.args.positions.now c.args.corners.now c.args.links.now c.args.generations.now
-    c.args.locks.now in
-    standing_sound mesh_of _ c.requires c.if-bad-ne0.false
+smoothing_step-requires c = standing_sound _ _ c.requires (ap refused c.in-Ok.is)
+
+pub returns-in-Err-clause-stepped : goal.returns-in-Err-clause-stepped
+returns-in-Err-clause-stepped c =
+    let some = number_some c.in-Err.refusal in
+    rw c.refused.ensures (step_refused _ _ (step_standing _ _ (sym (ap refused c.in-Err.is) ∙ c.requires) some) some)

@@ -1,7 +1,6 @@
 -- `points::mean_of` meets its contract: counted from the least number, the mean is one of naturals.
-use Prim.Native.Nat.{ℕ, ◌+◌, ◌*◌, ◌≤◌}
+use Prim.Native.Nat.{ℕ, ◌+◌, ◌*◌}
 use native.Mathlib.Omega.{arith}
-use native.Mathlib.Nat.{mul-le-mul}
 use mathlib.Core.Path.{◌≡◌, ap, ◌∙◌}
 use lib.IntN.{ℤ, pos, ◌+ℤ◌, ◌-ℤ◌, ◌*ℤ◌}
 use mir.Syntax.{w32}
@@ -9,7 +8,7 @@ use mir.Facts.{to_z-of_z}
 use Rattle.rules.specs.Numbers.{rounded}
 use Rattle.theory.proofs.Numbers.Differences.{Is, nat, add, sub, scale, equal, at_most_gives}
 use Rattle.theory.proofs.Numbers.Rounding.{mean, mean_at_most}
-use Rattle.points.proofs.Signed.{returned, counted, sum_of_one, sum_of_some, widened, widens}
+use Rattle.points.proofs.Signed.{returned, counted, sum_of_one, sum_of_some, widened}
 use Rattle.points.proofs.mean_of.Goals as goal
 
 -- With every place counted from c below zero, so is the mean.
@@ -21,47 +20,6 @@ mean_is rule a b n c k x t {p} {s} at_p at-s e =
     let z : pos (a * x + b * t) -ℤ pos (c * (a + b * n)) ≡ pos a *ℤ p +ℤ pos b *ℤ s =
     equal (sub (nat (a * x + b * t)) (nat (c * (a + b * n)))) (add (scale a at_p) (scale b at-s)) (omega arith) in
     e ∙ ap (λ n'. rounded rule n' (a + b * n)) z
-
-pub overflow_mul-m : goal.overflow_mul-m
-overflow_mul-m c =
-    let one : c.args.a * c.raised.result ≤ 786432 * 4294967295 = mul-le-mul c.requires.own_most c.raised.ensures.1 in
-    omega (arith, one)
-
-pub overflow_cast-s : goal.overflow_cast-s
-overflow_cast-s c =
-    widens c.ranges.s
-
-pub raised_sum-requires : goal.raised_sum-requires
-raised_sum-requires c =
-    rw (widened c.ranges.s) (c.requires.few, sum_of_some c.requires.some c.ranges.s)
-
-pub overflow_mul-m-2 : goal.overflow_mul-m-2
-overflow_mul-m-2 c =
-    let others : c.args.b * c.raised_sum.result ≤ 131073 * (12 * 4294967295) = mul-le-mul {m₂ = 12 * 4294967295} c.requires.most (omega (arith, c.requires.few)) in
-    omega (arith, others)
-
-pub overflow_add-m : goal.overflow_add-m
-overflow_add-m c =
-    let one : c.args.a * c.raised.result ≤ 786432 * 4294967295 = mul-le-mul c.requires.own_most c.raised.ensures.1 in
-    let others : c.args.b * c.raised_sum.result ≤ 131073 * (12 * 4294967295) = mul-le-mul {m₂ = 12 * 4294967295} c.requires.most (omega (arith, c.requires.few)) in
-    omega (arith, one, others)
-
-pub overflow_mul-b : goal.overflow_mul-b
-overflow_mul-b c =
-    let all_parts : c.args.b * c.args.n ≤ 131073 * 12 = mul-le-mul c.requires.most c.requires.few in
-    omega (arith, all_parts)
-
-pub overflow_add-a : goal.overflow_add-a
-overflow_add-a c =
-    let all_parts : c.args.b * c.args.n ≤ 131073 * 12 = mul-le-mul c.requires.most c.requires.few in
-    omega (arith, all_parts, c.requires.own_most)
-
-pub rounded-requires : goal.rounded-requires
-rounded-requires c =
-    let one : c.args.a * c.raised.result ≤ 786432 * 4294967295 = mul-le-mul c.requires.own_most c.raised.ensures.1 in
-    let others : c.args.b * c.raised_sum.result ≤ 131073 * (12 * 4294967295) = mul-le-mul {m₂ = 12 * 4294967295} c.requires.most (omega (arith, c.requires.few)) in
-    let all_parts : c.args.b * c.args.n ≤ 131073 * 12 = mul-le-mul c.requires.most c.requires.few in
-    omega (arith, one, others, all_parts, c.requires.own, c.requires.own_most)
 
 pub lowered-requires : goal.lowered-requires
 lowered-requires c =

@@ -2,7 +2,7 @@
 use Prim.Native.Nat.{ℕ, ◌+◌, ◌*◌, ◌/◌, ◌%◌, ◌≤◌, ◌<◌}
 use native.Mathlib.Omega.{arith}
 use native.Mathlib.Decide.{ℕ_discrete}
-use native.Mathlib.Nat.{div-add-mod, div-le_self, mod-lt, mul-le-mul_left}
+use native.Mathlib.Nat.{div-add-mod, mod-lt, mul-le-mul_left}
 use mathlib.Core.Bool.{◌&&◌, ◌||◌}
 use mathlib.Core.Logic.{◌⊎◌, inl, inr}
 use mathlib.Core.Path.{◌≡◌, sym, ◌∙◌}
@@ -72,14 +72,6 @@ module _ (rule m d c : ℕ) (some : 0 < d) where
           let e = div-add-mod m d in
           let s = shy_none rule n (inr (at_most (nat 0) (sub (nat m) (nat (c * d))) (omega arith))) in
           omega arith
-
-pub overflow_mul-m : goal.overflow_mul-m
-overflow_mul-m c =
-    omega (arith, mod-lt c.args.m c.requires.0)
-
-pub overflow_add-result : goal.overflow_add-result
-overflow_add-result c =
-    omega (arith, div-le_self c.args.m c.args.d, c.requires)
 
 pub returns-then-goes_down : goal.returns-then-goes_down
 returns-then-goes_down c =

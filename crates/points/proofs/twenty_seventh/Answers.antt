@@ -20,41 +20,6 @@ mean_is x y z {p} {q} {r} {d} e at_a at_b at_c =
     let f : (x + y + z) * d ≡ 27 * d = ap (λ (n : ℕ). n * d) e in
     floor_only (record { low = at_most k n (omega arith); high = less n (add k (nat 54)) (omega arith) })
 
-pub overflow_mul-sum : goal.overflow_mul-sum
-overflow_mul-sum c =
-    let one : c.args.x * c.raised.result ≤ c.args.x * 4294967295 = mul-le-mul_left c.args.x c.raised.ensures.1 in
-    omega (arith, one, c.requires)
-
-pub overflow_mul-sum-2 : goal.overflow_mul-sum-2
-overflow_mul-sum-2 c =
-    let two : c.args.y * c.raised-2.result ≤ c.args.y * 4294967295 = mul-le-mul_left c.args.y c.raised-2.ensures.1 in
-    omega (arith, two, c.requires)
-
-pub overflow_add-sum : goal.overflow_add-sum
-overflow_add-sum c =
-    let one : c.args.x * c.raised.result ≤ c.args.x * 4294967295 = mul-le-mul_left c.args.x c.raised.ensures.1 in
-    let two : c.args.y * c.raised-2.result ≤ c.args.y * 4294967295 = mul-le-mul_left c.args.y c.raised-2.ensures.1 in
-    omega (arith, one, two, c.requires)
-
-pub overflow_mul-sum-3 : goal.overflow_mul-sum-3
-overflow_mul-sum-3 c =
-    let three : c.args.z * c.raised-3.result ≤ c.args.z * 4294967295 = mul-le-mul_left c.args.z c.raised-3.ensures.1 in
-    omega (arith, three, c.requires)
-
-pub overflow_add-sum-2 : goal.overflow_add-sum-2
-overflow_add-sum-2 c =
-    let one : c.args.x * c.raised.result ≤ c.args.x * 4294967295 = mul-le-mul_left c.args.x c.raised.ensures.1 in
-    let two : c.args.y * c.raised-2.result ≤ c.args.y * 4294967295 = mul-le-mul_left c.args.y c.raised-2.ensures.1 in
-    let three : c.args.z * c.raised-3.result ≤ c.args.z * 4294967295 = mul-le-mul_left c.args.z c.raised-3.ensures.1 in
-    omega (arith, one, two, three, c.requires)
-
-pub overflow_add-sum-3 : goal.overflow_add-sum-3
-overflow_add-sum-3 c =
-    let one : c.args.x * c.raised.result ≤ c.args.x * 4294967295 = mul-le-mul_left c.args.x c.raised.ensures.1 in
-    let two : c.args.y * c.raised-2.result ≤ c.args.y * 4294967295 = mul-le-mul_left c.args.y c.raised-2.ensures.1 in
-    let three : c.args.z * c.raised-3.result ≤ c.args.z * 4294967295 = mul-le-mul_left c.args.z c.raised-3.ensures.1 in
-    omega (arith, one, two, three, c.requires)
-
 pub lowered-requires : goal.lowered-requires
 lowered-requires c =
     let one : c.args.x * c.raised.result ≤ c.args.x * 4294967295 = mul-le-mul_left c.args.x c.raised.ensures.1 in

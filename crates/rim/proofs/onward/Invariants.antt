@@ -1,6 +1,4 @@
-use mathlib.Core.List.{List}
-use Prim.Native.Nat.{ℕ}
-use lib.ListN.{length}
+use Rattle.std.proofs.Common.{ℕ, List, length}
 use Rattle.rules.specs.Tables.{next, target, topology_of}
 use Rattle.rim.specs.Traced.{OnRimSide}
 use Rattle.rim.proofs.TurningBack.{At, turns_back}

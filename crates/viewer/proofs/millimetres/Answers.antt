@@ -1,13 +1,8 @@
 -- `viewer::millimetres` meets its contract.
 use lib.Ieee.{of_bits}
 use mir.Facts.{to_z-of_z}
-use Rattle.viewer.proofs.Exact.{castable}
 use Rattle.viewer.specs.View.{millimetres}
 use Rattle.viewer.proofs.millimetres.Goals as goal
-
-pub int_to_float-result : goal.int_to_float-result
-int_to_float-result c =
-    rw (to_z-of_z c.ranges.x) (castable _ c.requires)
 
 pub returns : goal.returns
 unfolding millimetres of_bits

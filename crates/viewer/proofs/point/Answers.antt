@@ -1,5 +1,5 @@
 -- `viewer::point` meets its contract.
-use mathlib.Core.Path.{ap, ◌∙◌}
+use Rattle.std.proofs.Common.{ap, ◌∙◌}
 use Rattle.viewer.proofs.Viewing.{refused_seen, read_seen, read_near}
 use Rattle.viewer.specs.declared.Seen.TheVariants as Seen·
 use Rattle.viewer.proofs.point.Goals as goal

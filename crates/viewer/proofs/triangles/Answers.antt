@@ -1,20 +1,24 @@
 -- `viewer::triangles` meets its contract.
-use native.Mathlib.Omega.{arith}
+use Rattle.std.proofs.Common.{refl, arith}
+use Rattle.tables.proofs.Refusing.{number_some}
 use Rattle.viewer.proofs.Viewing.{view_answered, view_kept, view_fits, view_corners, view_shown}
 use Rattle.viewer.proofs.triangles.Goals as goal
 
+pub returns-in-Err : goal.returns-in-Err
+returns-in-Err c = (
+  rw c.number.ensures (view_answered _ _ _ c.in-Err.ensures),
+  view_kept _ _ _ c.in-Err.ensures _ (number_some c.in-Err.refusal),
+)
+
 pub overflow_mul-counts : goal.overflow_mul-counts
-overflow_mul-counts c =
-    omega (arith, (view_corners _ _ _ c.view_refusal-refusal.ensures c.if-refusal-eq0.true).few)
+overflow_mul-counts c = omega (arith, (view_corners _ _ _ c.in_default.ensures refl).few)
 
 pub write_corners-requires : goal.write_corners-requires
 write_corners-requires c =
-    (view_corners _ _ _ c.view_refusal-refusal.ensures c.if-refusal-eq0.true, view_fits _ _ _ c.view_refusal-refusal.ensures c.if-refusal-eq0.true)
+    (view_corners _ _ _ c.in_default.ensures refl, view_fits _ _ _ c.in_default.ensures refl)
 
-pub returns-then-refusal-eq0 : goal.returns-then-refusal-eq0
-returns-then-refusal-eq0 c =
-    (view_answered _ _ _ c.view_refusal-refusal.ensures, view_shown _ _ _ c.view_refusal-refusal.ensures c.if-refusal-eq0.true _ c.write_corners.ensures)
-
-pub returns-else-refusal-eq0 : goal.returns-else-refusal-eq0
-returns-else-refusal-eq0 c =
-    (view_answered _ _ _ c.view_refusal-refusal.ensures, view_kept _ _ _ c.view_refusal-refusal.ensures _ c.if-refusal-eq0.false)
+pub returns : goal.returns
+returns c = (
+  view_answered _ _ _ c.in_default.ensures,
+  view_shown _ _ _ c.in_default.ensures refl _ c.write_corners.ensures,
+)

@@ -1,33 +1,25 @@
 -- `viewer::view_refusal` meets its contract.
-use borrow.Author.Tests.{lt-ltb, le-ltb}
-use Prim.Native.Nat.{◌*◌}
-use lib.Dec.{ltb}
+use Rattle.std.proofs.Common.{ap, ◌∙◌, lt-ltb, le-ltb}
 use Rattle.theory.proofs.Calls.FirstThatHolds.{third_kept, third_holds, third_none}
 use Rattle.rules.specs.Calls.{view_refusal}
-use Rattle.rules.specs.Tables.{Mesh}
-use Rattle.tables.specs.Lent.{mesh_now}
+use Rattle.tables.specs.Refusals.{refused}
+use Rattle.tables.proofs.Refusing.{refused_some, passed_on}
 use Rattle.viewer.proofs.view_refusal.Goals as goal
 
-pub returns-then-bad-ne0 : goal.returns-then-bad-ne0
+pub returns-in_err-first_refusal : goal.returns-in_err-first_refusal
 unfolding view_refusal
-returns-then-bad-ne0 c =
-    let mesh_of : Mesh = mesh_now c.args.counts c.args.positions.now c.args.corners.now c.args.links.now c.args.generations.now
-    c.args.locks.now in
-    third_kept mesh_of 20 (ltb c.args.entries (9 * c.args.counts.triangles)) _
-    c.first_refusal-bad.ensures c.if-bad-ne0.true
+returns-in_err-first_refusal c =
+    passed_on _ c.in_err-first_refusal.was c.from_residual.ensures.1
+    ∙ third_kept _ 20 _ _ c.first_refusal.ensures (refused_some c.in_err-first_refusal.was)
 
 pub returns-then-entries-counts : goal.returns-then-entries-counts
 unfolding view_refusal
 returns-then-entries-counts c =
-    let mesh_of : Mesh = mesh_now c.args.counts c.args.positions.now c.args.corners.now c.args.links.now c.args.generations.now
-    c.args.locks.now in
-    third_holds mesh_of 20 _ _ c.first_refusal-bad.ensures
-    c.if-bad-ne0.false (lt-ltb _ _ c.if-entries-counts.true)
+    third_holds _ 20 _ _ c.first_refusal.ensures (ap refused c.in_ok-first_refusal.was)
+    (lt-ltb _ _ c.if-entries-counts.true)
 
 pub returns : goal.returns
 unfolding view_refusal
 returns c =
-    let mesh_of : Mesh = mesh_now c.args.counts c.args.positions.now c.args.corners.now c.args.links.now c.args.generations.now
-    c.args.locks.now in
-    third_none mesh_of 20 _ _ c.first_refusal-bad.ensures
-    c.if-bad-ne0.false (le-ltb _ _ c.if-entries-counts.false)
+    third_none _ 20 _ _ c.first_refusal.ensures (ap refused c.in_ok-first_refusal.was)
+    (le-ltb _ _ c.if-entries-counts.false)

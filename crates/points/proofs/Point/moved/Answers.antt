@@ -1,18 +1,11 @@
 -- `points::Point::moved` meets its contract.
 use native.Mathlib.Omega.{arith}
-use Rattle.points.proofs.Means.{light, own_most_lem, move_parts, move_by}
+use Rattle.points.proofs.Means.{light, move_parts, move_by}
 use Rattle.points.proofs.Point.moved.Goals as goal
 
 pub overflow_sub-w : goal.overflow_sub-w
 overflow_sub-w c =
     omega (arith, light c.args.n c.weight_of-w.result c.weight_of-w.ensures)
-
-pub overflow_mul-n : goal.overflow_mul-n
-overflow_mul-n c =
-    omega (
-      arith,
-      own_most_lem c.args.n c.weight_of-w.result c.weight_of-w.ensures c.requires.0 c.requires.1,
-    )
 
 pub mean-requires : goal.mean-requires
 mean-requires c =

@@ -6,4 +6,4 @@ pub loop-i-init : goal.loop-i-init
 loop-i-init c = none_put _ _
 
 pub loop-i-preserved : goal.loop-i-preserved
-loop-i-preserved c = one_more_put c.loop-i.invariant c.put_back.ensures.lent c.put_back.ensures.put
+loop-i-preserved c = one_more_put c.loop-i.invariant c.put_back.ensures.lent c.put_back.ensures.put c.put_back.ensures.over

@@ -1,8 +1,0 @@
--- `viewer::store` meets its contract.
-use lib.ListN.{length-set}
-use native.Mathlib.Omega.{arith}
-use Rattle.viewer.proofs.store.Goals as goal
-
-pub bounds-table-first-2 : goal.bounds-table-first-2
-bounds-table-first-2 c =
-    simp length-set (omega arith)
