@@ -23,18 +23,16 @@ pub fn preview(
     report: &mut [u32],
     spares: &mut Tables,
 ) -> ForeseenReported
-    ensures done { let m = mesh_with counts (seen view.now) in
+    ensures foreseen { let m = mesh_with counts (seen view.now) in
         with_report report.new result.reported (foreseen_outcome result.foreseen m (held spares.new))
         ≡ report_foreseen list.now (held spares.old)
         report.old m }
     ensures spares_lent { SameTables spares.new spares.old }
 {
-    let bad = soundness::first_refusal(view, counts);
-    let refusal = lending::refusal(view, counts, bad, true, spares);
-    if refusal != 0 {
-        let foreseen = BatchForeseen::refused(refusal, counts);
+    let stands = soundness::first_refusal(view, counts);
+    if let Err(refusal) = lending::refusal(view, stands, true, &spares.view()) {
         return ForeseenReported {
-            foreseen,
+            foreseen: BatchForeseen::refused(refusal, counts),
             reported: 0,
         };
     }
@@ -52,24 +50,18 @@ pub fn refine_box(
     report: &mut [u32],
     spares: &mut Tables,
 ) -> BatchReported
-    ensures done { with_report report.new result.reported (batch_outcome result.worked (held tables.new) (held spares.new))
+    ensures boxed { with_report report.new result.reported (batch_outcome result.worked (held tables.new) (held spares.new))
         ≡ reported_call (in_box (box_of low high below) (held spares.old))
         report.old (mesh_with counts (held tables.old)) }
     ensures lent { SameTables tables.new tables.old }
     ensures spares_lent { SameTables spares.new spares.old }
 {
-    let bad = soundness::first_refusal(tables, counts);
-    let refusal = lending::refusal(
-        tables,
-        counts,
-        bad,
-        points::box_fits(low, high, below),
-        spares,
-    );
-    if refusal != 0 {
-        let worked = BatchWorked::refused(refusal, counts);
+    let view = tables.view();
+    let stands = soundness::first_refusal(&view, counts);
+    let fits = points::box_fits(low, high, below);
+    if let Err(refusal) = lending::refusal(&view, stands, fits, &spares.view()) {
         return BatchReported {
-            worked,
+            worked: BatchWorked::refused(refusal, counts),
             reported: 0,
         };
     }

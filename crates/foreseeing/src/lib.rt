@@ -4,12 +4,14 @@
 ghost use Rattle.std.specs.Prelude.{◌≡◌};
 ghost use Rattle.rules.specs.Calls.{with_report};
 ghost use Rattle.rules.specs.Lists.{refine_each};
-ghost use Rattle.tables.specs.Lent.{mesh_now, spares_now};
+ghost use Rattle.tables.specs.Lent.{mesh_with, held, seen, SameTables};
+ghost use Rattle.tables.specs.Refusals.{number};
 ghost use Rattle.refining.specs.Batches.{MayWork, list_done, only_read, reported_done};
 ghost use Rattle.foreseeing.specs.Foreseen.{refused_foreseen, foreseen_of, foreseen_outcome};
 
 use refining::spares::Batch;
-use tables::Counts;
+use tables::refusals::Refusal;
+use tables::{Counts, Tables, View};
 
 // The answer of a preview: V and F are those that the list would answer, and no counts of the mesh, which stands. On a
 // refusal they are the mesh's own.
@@ -27,11 +29,11 @@ pub struct BatchForeseen {
 
 impl BatchForeseen {
     // The answer of a preview that is refused before the work.
-    pub fn refused(refusal: u32, counts: Counts) -> Self
-        ensures { result ≡ refused_foreseen refusal counts }
+    pub fn refused(refusal: Refusal, counts: Counts) -> Self
+        ensures { result ≡ refused_foreseen (number refusal) counts }
     {
         Self {
-            refusal,
+            refusal: refusal.number(),
             splits: 0,
             flips: 0,
             foreseen_vertices: counts.vertices,
@@ -74,47 +76,13 @@ fn foresee(counts: Counts, made: Batch) -> BatchForeseen
 }
 
 // Foresees a list of triangles: what refine_list answers and leaves in the spare tables, with the mesh only read.
-pub fn preview(
-    positions: &[i32],
-    corners: &[u32],
-    links: &[u32],
-    generations: &[u8],
-    locks: &[u8],
-    counts: Counts,
-    list: &[u32],
-    spare_positions: &mut [i32],
-    spare_corners: &mut [u32],
-    spare_links: &mut [u32],
-    spare_generations: &mut [u8],
-    spare_locks: &mut [u8],
-) -> BatchForeseen
-    requires { MayWork (mesh_now counts positions.now corners.now links.now generations.now locks.now)
-        (spares_now spare_positions.old spare_corners.old spare_links.old spare_generations.old
-        spare_locks.old) }
-    ensures { let m = mesh_now counts positions.now corners.now links.now
-        generations.now locks.now in
-        foreseen_outcome result m (spares_now spare_positions.new spare_corners.new
-        spare_links.new spare_generations.new spare_locks.new)
-        ≡ only_read m (list_done list.now m (spares_now spare_positions.old
-        spare_corners.old spare_links.old spare_generations.old
-        spare_locks.old)) }
+pub fn preview(view: &View, counts: Counts, list: &[u32], spares: &mut Tables) -> BatchForeseen
+    requires { MayWork (mesh_with counts (seen view.now)) (held spares.old) }
+    ensures foreseen { let m = mesh_with counts (seen view.now) in
+        foreseen_outcome result m (held spares.new) ≡ only_read m (list_done list.now m (held spares.old)) }
+    ensures spares_lent { SameTables spares.new spares.old }
 {
-    let mut none = [0u32; 1];
-    let made = listing::work_in_spares(
-        positions,
-        corners,
-        links,
-        generations,
-        locks,
-        counts,
-        list,
-        &mut none,
-        spare_positions,
-        spare_corners,
-        spare_links,
-        spare_generations,
-        spare_locks,
-    );
+    let made = listing::work_in_spares(view, counts, list, &mut [], spares);
     foresee(counts, made)
 }
 
@@ -128,46 +96,19 @@ pub struct ForeseenReported {
 
 // Foresees a list as preview does, and reports the slots that it would write.
 pub fn preview_reported(
-    positions: &[i32],
-    corners: &[u32],
-    links: &[u32],
-    generations: &[u8],
-    locks: &[u8],
+    view: &View,
     counts: Counts,
     list: &[u32],
     report: &mut [u32],
-    spare_positions: &mut [i32],
-    spare_corners: &mut [u32],
-    spare_links: &mut [u32],
-    spare_generations: &mut [u8],
-    spare_locks: &mut [u8],
+    spares: &mut Tables,
 ) -> ForeseenReported
-    requires { MayWork (mesh_now counts positions.now corners.now links.now generations.now locks.now)
-        (spares_now spare_positions.old spare_corners.old spare_links.old spare_generations.old
-        spare_locks.old) }
-    ensures { let m = mesh_now counts positions.now corners.now links.now
-        generations.now locks.now in
-        with_report report.new result.reported (foreseen_outcome result.foreseen m (spares_now spare_positions.new spare_corners.new
-        spare_links.new spare_generations.new spare_locks.new))
-        ≡ only_read m (reported_done (refine_each list.now m) report.old m (spares_now spare_positions.old
-        spare_corners.old spare_links.old spare_generations.old
-        spare_locks.old)) }
+    requires { MayWork (mesh_with counts (seen view.now)) (held spares.old) }
+    ensures foreseen { let m = mesh_with counts (seen view.now) in
+        with_report report.new result.reported (foreseen_outcome result.foreseen m (held spares.new))
+        ≡ only_read m (reported_done (refine_each list.now m) report.old m (held spares.old)) }
+    ensures spares_lent { SameTables spares.new spares.old }
 {
-    let made = listing::work_reported(
-        positions,
-        corners,
-        links,
-        generations,
-        locks,
-        counts,
-        list,
-        report,
-        spare_positions,
-        spare_corners,
-        spare_links,
-        spare_generations,
-        spare_locks,
-    );
+    let made = listing::work_reported(view, counts, list, report, spares);
     let foreseen = foresee(counts, made);
     ForeseenReported {
         foreseen,

@@ -25,15 +25,15 @@ module _ (s : Spares) (m : Mesh) (buffer : List ℕ) where
   refused_first zero p x = absurd (x refl)
   refused_first (suc n) p x = refl
 
-  same_number_lem : (n : ℕ) (p : Progress) → (all_or_nothing n p s m).answer.refusal ≡ n
-  same_number_lem zero p = refl
-  same_number_lem (suc n) p = refl
+  same_refusal : (n : ℕ) (p : Progress) → (all_or_nothing n p s m).answer.refusal ≡ n
+  same_refusal zero p = refl
+  same_refusal (suc n) p = refl
 
   not_first : (p : Progress) → reported_done p buffer m s ≡ called 0 p
   not_first p =
       ap (λ (n : ℕ).
       reported_as n p.work.report buffer (all_or_nothing p.refusal p s m) (all_or_nothing 23 p s m))
-      (sym (same_number_lem p.refusal p))
+      (sym (same_refusal p.refusal p))
 
   module _ (r : ℕ) where
     module _ (e : r ≡ work_refusal true s m) (list : List ℕ) where

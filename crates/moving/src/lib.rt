@@ -8,7 +8,8 @@ ghost use Rattle.rules.specs.Step.{move_vertices};
 ghost use Rattle.rules.specs.Tables.{Mesh, topology_of, boundary};
 ghost use Rattle.moving.specs.Moves.{Movable};
 
-use tables::BOUNDARY;
+use rings::sums::RingSum;
+use tables::{BOUNDARY, Counts};
 
 // Whether none of the first n sides is on the boundary.
 #[tactic(auto, using(theory::proofs::Numbers::Decide::all_and), unfolding(rules::specs::Below::all))]
@@ -55,16 +56,16 @@ pub fn closed_even(links: &[u32], generations: &[u8], triangles: u32) -> bool
 }
 
 // Each vertex moved by the length and the sum of its ring, and by the rule.
-pub fn move_all(positions: &mut [i32], vertices: u32, rule: u32, lengths: &[u8], sums: &[i32])
-    requires { (m : Mesh) × Movable vertices rule m positions.old lengths.now sums.now }
+pub fn move_all(positions: &mut [i32], counts: Counts, rings: &[RingSum])
+    requires { (m : Mesh) × Movable counts.vertices counts.rule m positions.old rings.now }
     ensures { (m : Mesh) →
-        Movable vertices rule m positions.old lengths.now sums.now
-        → positions.new ≡ move_vertices vertices m positions.old }
+        Movable counts.vertices counts.rule m positions.old rings.now
+        → positions.new ≡ move_vertices counts.vertices m positions.old }
 {
-    for v in 0..vertices {
-        let n = lengths[v as usize] as usize;
+    for v in 0..counts.vertices {
+        let ring = rings[v as usize];
+        let n = ring.length as usize;
         let p = tables::point_in(positions, v);
-        let sum = tables::point_in(sums, v);
-        tables::store_point(positions, v, p.moved(rule, n, sum));
+        tables::store_point(positions, v, p.moved(counts.rule, n, ring.sum));
     }
 }

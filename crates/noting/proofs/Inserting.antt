@@ -42,22 +42,6 @@ module _ {l k : List ℕ} {a b : ℕ} (M : Moved l a b k) where
   pub moved_back : Back l a b k
   moved_back = record { moved = M.moved; after = λ i c d. M.after i d }
 
--- The last of them moved back.
-pub back_less : {l k : List ℕ} {a b : ℕ} → Back l a b k → 1 < b → b ≤ length k
-    → Back l a (b - 1) (set k (b - 1) (get_or k (b - 2) 0))
-back_less {l} {k} {a} {b} B p r = record {
-  moved = λ i c d. get_or-set_other k (b - 1) i (get_or k (b - 2) 0) 0 (λ e. omega arith) ∙ B.moved i c (omega arith);
-  after = λ i c d. go i c d (ℕ_discrete i (b - 1));
-}
-  where
-    go : (i : ℕ) → a < i → b - 1 ≤ i → Dec (i ≡ b - 1) → get_or (set k (b - 1) (get_or k (b - 2) 0)) i 0 ≡ get_or l i 0
-    go i c d (yes e) =
-        let f : suc (b - 2) ≡ i = omega arith in
-        ap (λ (h : ℕ). get_or (set k (b - 1) (get_or k (b - 2) 0)) h 0) e
-        ∙ get_or-set_same k (b - 1) (get_or k (b - 2) 0) 0 (omega arith)
-        ∙ B.moved (b - 2) (omega arith) (omega arith) ∙ ap (λ (h : ℕ). get_or l h 0) f
-    go i c d (no e) = get_or-set_other k (b - 1) i (get_or k (b - 2) 0) 0 e ∙ B.after i c (omega arith)
-
 -- ---- numbers passed
 
 -- None stands in an array that is filled with the boundary's number.

@@ -317,17 +317,17 @@ module _ {t : ℕ} {m : Mesh} (S : Sound m) (u : t < m.topology.triangles) where
           let e = path_last (chain_path t m S u) ∙ ap (λ (j : ℕ). chain_at j m.topology t) z in
           near_end (subst (λ (d : ℕ). Near m.topology.links d y) (sym e) N)
 
-  on_chain_lem : {y : ℕ} (i : ℕ) → i < chain_odd m.topology t
+  listed_on_chain : {y : ℕ} (i : ℕ) → i < chain_odd m.topology t
       → Near m.topology.links (chain_at i m.topology t) y → Listed y
-  on_chain_lem {y} i l N = go (dec_lt (suc i) (chain_odd m.topology t))
+  listed_on_chain {y} i l N = go (dec_lt (suc i) (chain_odd m.topology t))
     where
       go : Dec (suc i < chain_odd m.topology t) → Listed y
       go (yes b) = inl (inl (i, b, N))
       go (no b) = near_last i l (omega arith) N
 
   changes_listed : {y : ℕ} → Changes m.topology t y → Listed y
-  changes_listed (on_chain i l e) = on_chain_lem i l (inl e)
-  changes_listed (beside_chain i l q e) = on_chain_lem i l (inr (q, e))
+  changes_listed (on_chain i l e) = listed_on_chain i l (inl e)
+  changes_listed (beside_chain i l q e) = listed_on_chain i l (inr (q, e))
   changes_listed (is_end e) = near_end (inl e)
   changes_listed (beside_end i l q (inr B) e) = inl (inr (near_met i l (B, inl e)))
   changes_listed (beside_end zero l q (inl o) e) = absurd (omega arith)

@@ -2,9 +2,10 @@
 use Rattle.std.specs.Prelude.{ℕ, zero, suc, ◌-◌, ◌*◌, ◌/◌, ◌^◌, ◌≤◌, List, ◌++◌, ◌≡◌, length, decimal, codes}
 use Rattle.rules.specs.Calls.{Outcome, refine_call}
 use Rattle.rules.specs.Numbers.{number_at}
+use Rattle.rules.specs.Spares.{Spares}
 use Rattle.rules.specs.Tables.{Mesh}
 use Rattle.tables.specs.Answers.{worked_outcome}
-use Rattle.tables.specs.Lent.{mesh_now}
+use Rattle.tables.specs.Lent.{mesh_with, spares_now}
 use Rattle.tables.specs.declared.Counts.{Counts}
 use Rattle.tables.specs.declared.Worked.{Worked}
 use Rattle.refine.specs.declared.Store.{Store}
@@ -22,12 +23,16 @@ line_of done =
     spaced done.refusal (spaced done.splits (spaced done.flips (spaced done.counts.vertices
     (decimal done.counts.triangles))))
 
+-- The tables of a store.
+abbrev pub tables_of : Store → Spares
+tables_of s = spares_now s.positions s.corners s.links s.generations s.locks
+
 -- The mesh in a store, and the outcome of a call that left this store.
 abbrev pub store_mesh : Store → Mesh
-store_mesh s = mesh_now s.counts s.positions s.corners s.links s.generations s.locks
+store_mesh s = mesh_with s.counts (tables_of s)
 
 abbrev pub store_outcome : Worked → Store → Outcome
-store_outcome done s = worked_outcome done s.positions s.corners s.links s.generations s.locks
+store_outcome done s = worked_outcome done (tables_of s)
 
 -- The mesh after the first n requests in these bytes, each a triangle's number in four of them.
 unfoldable pub after_requests : ℕ → List ℕ → Mesh → Mesh

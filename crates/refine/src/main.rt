@@ -11,7 +11,7 @@ use std::fs::File;
 use std::io::Read;
 use std::rt::Files;
 use std::{fmt, io};
-use tables::{Counts, Worked};
+use tables::{Counts, Tables, Worked};
 
 // The mesh that the program keeps, in 1,024 vertex and 2,048 triangle slots.
 #[derive(Drop)]
@@ -48,16 +48,14 @@ impl Store {
         ensures counts { self.new.counts ≡ result.counts }
         ensures outcome { store_outcome result self.new ≡ load_call 1 cage.now (store_mesh self.old) }
     {
-        let done = mesh::load(
-            &mut self.positions,
-            &mut self.corners,
-            &mut self.links,
-            &mut self.generations,
-            &mut self.locks,
-            self.counts,
-            1,
-            cage,
-        );
+        let mut tables = Tables {
+            positions: &mut self.positions,
+            corners: &mut self.corners,
+            links: &mut self.links,
+            generations: &mut self.generations,
+            locks: &mut self.locks,
+        };
+        let done = mesh::load(&mut tables, self.counts, 1, cage);
         self.counts = done.counts;
         done
     }
@@ -67,15 +65,14 @@ impl Store {
         ensures counts { self.new.counts ≡ result.counts }
         ensures outcome { store_outcome result self.new ≡ refine_call t (store_mesh self.old) }
     {
-        let done = mesh::refine(
-            &mut self.positions,
-            &mut self.corners,
-            &mut self.links,
-            &mut self.generations,
-            &mut self.locks,
-            self.counts,
-            t,
-        );
+        let mut tables = Tables {
+            positions: &mut self.positions,
+            corners: &mut self.corners,
+            links: &mut self.links,
+            generations: &mut self.generations,
+            locks: &mut self.locks,
+        };
+        let done = mesh::refine(&mut tables, self.counts, t);
         self.counts = done.counts;
         done
     }

@@ -49,15 +49,15 @@ module _ (m x : Mesh) (f t : ℕ) (g : List ℕ) (W : StartsWith f g m) where
   entry_eight l = by_tests (le-leb m.topology.triangles t (omega (arith, W.triangles))) refl
 
   module _ (l : t < f) where
-    in_use_lem : leb m.topology.triangles t ≡ false
-    in_use_lem = lt-leb m.topology.triangles t (omega (arith, W.triangles))
+    counted : leb m.topology.triangles t ≡ false
+    counted = lt-leb m.topology.triangles t (omega (arith, W.triangles))
 
     pub entry_passed : get_or g t 0 < generation x.topology t → worked (at_first x) ≡ entry_outcome m t x
-    entry_passed r = by_tests in_use_lem (lt-ltb _ _ (rw W.generations at r))
+    entry_passed r = by_tests counted (lt-ltb _ _ (rw W.generations at r))
 
     pub entry_refined : generation x.topology t ≤ get_or g t 0 → refine_call t x ≡ entry_outcome m t x
     unfolding refine_call
-    entry_refined r = by_tests in_use_lem (le-ltb _ _ (rw W.generations at r))
+    entry_refined r = by_tests counted (le-ltb _ _ (rw W.generations at r))
 
   -- What is told of it.
   work_by : {r : Bool} → risen m t x ≡ r

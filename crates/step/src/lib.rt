@@ -14,6 +14,7 @@ ghost use Rattle.tables.specs.Refusals.{refused};
 ghost use Rattle.rings.specs.Sums.{Cleared, RingSums};
 ghost use Rattle.step.specs.Stepped.{stepped};
 
+use rings::sums::RingSum;
 use tables::refusals::Refusal;
 use tables::{Counts, Tables, View, Worked};
 
@@ -48,13 +49,13 @@ fn split_all(tables: &mut Tables, counts: Counts)
     dividing::unlock_new(tables.locks, f);
 }
 
-// What the step is refused with. Where it is not, the two arrays, zero at first, have the length of each ring and the
-// sum of its positions.
-fn refusal(view: &View, counts: Counts, lengths: &mut [u8], sums: &mut [i32]) -> Result<(), Refusal>
+// What the step is refused with. Where it is not, the rings, of which nothing is known at first, have their lengths and
+// the sums of their positions.
+fn refusal(view: &View, counts: Counts, rings: &mut [RingSum]) -> Result<(), Refusal>
     requires { Sound (mesh_with counts (seen view.now))
-        × Cleared counts.vertices lengths.old sums.old }
+        × Cleared counts.vertices rings.old }
     ensures { let m = mesh_with counts (seen view.now) in
-        (refused result ≡ whole_step_refusal m) × (refused result ≡ 0 → RingSums m lengths.new sums.new) }
+        (refused result ≡ whole_step_refusal m) × (refused result ≡ 0 → RingSums m rings.new) }
 {
     let f = counts.triangles;
     if !moving::closed_even(view.links, view.generations, f) {
@@ -63,7 +64,7 @@ fn refusal(view: &View, counts: Counts, lengths: &mut [u8], sums: &mut [i32]) ->
     if view.generations[0] == 20 {
         return Err(Refusal::Generation);
     }
-    if !rings::sums::ring_sums(view.positions, view.corners, counts, lengths, sums) {
+    if !rings::sums::ring_sums(view.positions, view.corners, counts, rings) {
         return Err(Refusal::RingLong);
     }
     if some_locked(view.locks, f) {
@@ -75,56 +76,54 @@ fn refusal(view: &View, counts: Counts, lengths: &mut [u8], sums: &mut [i32]) ->
     Ok(())
 }
 
-// The work of the step, with the length of each ring and the sum of its positions.
-fn whole_step(tables: &mut Tables, counts: Counts, lengths: &[u8], sums: &[i32]) -> Worked
+// The work of the step, with the rings.
+fn whole_step(tables: &mut Tables, counts: Counts, rings: &[RingSum]) -> Worked
     requires { let m = mesh_with counts (held tables.old) in
-        StepFound m × RingSums m lengths.now sums.now }
+        StepFound m × RingSums m rings.now }
     ensures stepped { worked_outcome result (held tables.new)
         ≡ worked (whole_step (mesh_with counts (held tables.old))) }
     ensures lent { SameTables tables.new tables.old }
 {
-    let v = counts.vertices;
     let f = counts.triangles;
-    let rule = counts.rule;
     split_all(tables, counts);
-    moving::move_all(tables.positions, v, rule, lengths, sums);
+    moving::move_all(tables.positions, counts, rings);
     Worked {
         refusal: 0,
         splits: f,
         flips: 3 * f / 2,
         counts: Counts {
-            vertices: v + f,
+            vertices: counts.vertices + f,
             triangles: 3 * f,
-            rule,
+            rule: counts.rule,
         },
     }
 }
 
-// The whole step, with two arrays lent, zero at first, for the length of each ring and the sum of its positions.
-fn step_by(tables: &mut Tables, counts: Counts, lengths: &mut [u8], sums: &mut [i32]) -> Worked
+// The whole step, with an array lent for the rings, of which nothing is known at first.
+fn step_by(tables: &mut Tables, counts: Counts, rings: &mut [RingSum]) -> Worked
     requires { Sound (mesh_with counts (held tables.old))
-        × Cleared counts.vertices lengths.old sums.old }
+        × Cleared counts.vertices rings.old }
     ensures stepped { worked_outcome result (held tables.new)
         ≡ whole_step_call (mesh_with counts (held tables.old)) }
     ensures lent { SameTables tables.new tables.old }
 {
-    match refusal(&tables.view(), counts, lengths, sums) {
+    match refusal(&tables.view(), counts, rings) {
         Err(refusal) => Worked::refused(refusal, counts),
-        Ok(()) => whole_step(tables, counts, lengths, sums),
+        Ok(()) => whole_step(tables, counts, rings),
     }
 }
 
-// The same for up to N vertices, of which there are no more than 32,768, with room for the S sums on their axes.
-fn step_within<const N: usize, const S: usize>(tables: &mut Tables, counts: Counts) -> Worked
+// The same for up to N vertices, of which there are no more than 32,768.
+fn step_within<const N: usize>(tables: &mut Tables, counts: Counts) -> Worked
     requires sound { Sound (mesh_with counts (held tables.old)) }
-    requires slots { (counts.vertices ≤ N) × (N ≤ 32768) × (S ≡ 3 * N) }
+    requires slots { (counts.vertices ≤ N) × (N ≤ 32768) }
     ensures stepped { worked_outcome result (held tables.new)
         ≡ whole_step_call (mesh_with counts (held tables.old)) }
     ensures lent { SameTables tables.new tables.old }
 {
-    let mut lengths = [0u8; N];
-    let mut sums = [0i32; S];
-    step_by(tables, counts, &mut lengths, &mut sums)
+    let unknown = RingSum::nothing();
+    let mut rings = [unknown; N];
+    step_by(tables, counts, &mut rings)
 }
 
 // The whole step on sound tables. All is decided before anything lent is written, and a small mesh has little to clear.
@@ -136,13 +135,13 @@ pub fn smoothing_step(tables: &mut Tables, counts: Counts) -> Worked
     ensures lent { SameTables tables.new tables.old }
 {
     if counts.vertices <= 128 {
-        return step_within::<128, 384>(tables, counts);
+        return step_within::<128>(tables, counts);
     }
     if counts.vertices <= 2048 {
-        return step_within::<2048, 6144>(tables, counts);
+        return step_within::<2048>(tables, counts);
     }
     if counts.vertices <= 12288 {
-        return step_within::<12288, 36864>(tables, counts);
+        return step_within::<12288>(tables, counts);
     }
-    step_within::<32768, 98304>(tables, counts)
+    step_within::<32768>(tables, counts)
 }

@@ -196,8 +196,8 @@ module _ {b : Box} {m : Mesh} {bits words : List ℕ} {t : ℕ} (S : Sound m) (M
   none_below : (j : ℕ) → j < t → j < m.topology.triangles → ¬ Wanted b m j
   none_below j l u W = L.none j l (subst T (sym (marks_wanted j u)) ((wanted_is b m j).passes W))
 
-  pub lowest_wanted_lem : t < m.topology.triangles → LowestWanted b m t
-  lowest_wanted_lem u = record {
+  pub lowest_is_wanted : t < m.topology.triangles → LowestWanted b m t
+  lowest_is_wanted u = record {
     in_use = u;
     wanted = (wanted_is b m t).holds (subst T (marks_wanted t u)
         (L.passes (omega (arith, M.fit.room, S.triangle_room))));

@@ -1,14 +1,24 @@
 -- `batches::preview` meets its contract.
-use mathlib.Core.Path.{◌∙◌}
+use mathlib.Core.Bool.{true}
+use mathlib.Core.Path.{refl, ◌∙◌}
+use Rattle.tables.proofs.Refusing.{number_some}
 use Rattle.lending.proofs.InSpares.{may_work, preview_refused, preview_carried}
+use Rattle.lending.proofs.Seen.{by_seen}
 use Rattle.batches.proofs.preview.Goals as goal
 
-pub returns-then-refusal-ne0-clause-done : goal.returns-then-refusal-ne0-clause-done
-returns-then-refusal-ne0-clause-done c =
-    rw c.refused.ensures (preview_refused _ _ _ c.refusal-refusal.ensures _ c.if-refusal-ne0.true)
+pub returns-in-Err-clause-foreseen : goal.returns-in-Err-clause-foreseen
+returns-in-Err-clause-foreseen c =
+    rw c.refused.ensures
+    (preview_refused _ _ _
+    (by_seen c.args.counts true refl c.view.ensures.same c.in-Err.ensures c.first_refusal-stands.ensures) _ (number_some _))
 
 pub preview-requires : goal.preview-requires
-preview-requires c = may_work _ _ _ c.refusal-refusal.ensures c.if-refusal-ne0.false
+preview-requires c =
+    may_work _ _ _
+    (by_seen c.args.counts true refl c.view.ensures.same c.in_default.ensures c.first_refusal-stands.ensures) refl
 
-pub returns-clause-done : goal.returns-clause-done
-returns-clause-done c = c.preview.ensures ∙ preview_carried _ _ _ c.refusal-refusal.ensures _ c.if-refusal-ne0.false
+pub returns-clause-foreseen : goal.returns-clause-foreseen
+returns-clause-foreseen c =
+    c.preview.ensures.foreseen
+    ∙ preview_carried _ _ _
+    (by_seen c.args.counts true refl c.view.ensures.same c.in_default.ensures c.first_refusal-stands.ensures) _ refl

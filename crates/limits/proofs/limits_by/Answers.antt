@@ -3,11 +3,11 @@ use native.Mathlib.Omega.{arith}
 use mathlib.Core.List.{List}
 use mathlib.Core.Path.{refl, sym, ap, ◌∙◌}
 use Prim.Native.Nat.{ℕ}
-use lib.IntN.{ℤ}
 use Rattle.theory.proofs.Steps.StepRefusals.{limit_refused, limit_carried}
 use Rattle.rules.specs.Sound.{Sound}
 use Rattle.rules.specs.Tables.{Mesh}
 use Rattle.rings.specs.Sums.{RingSums}
+use Rattle.rings.specs.declared.sums.RingSum.{RingSum}
 use Rattle.tables.specs.Answers.{table_outcome}
 use Rattle.tables.specs.Lent.{mesh_now}
 use Rattle.tables.specs.Refusals.{refused}
@@ -15,15 +15,15 @@ use Rattle.tables.proofs.Refusing.{refused_some, passed_on}
 use Rattle.moving.specs.Moves.{Movable}
 use Rattle.limits.proofs.limits_by.Goals as goal
 
-movable : {m : Mesh} {lengths : List ℕ} {sums : List ℤ} → Sound m → RingSums m lengths sums
-    → Movable m.topology.vertices m.rule m m.positions lengths sums
+movable : {m : Mesh} {rings : List RingSum} → Sound m → RingSums m rings
+    → Movable m.topology.vertices m.rule m m.positions rings
 movable {m} S R = record {
   all = refl;
   rule = refl;
   few = omega (arith, S.tables.few_vertices, S.vertex_room);
   room = omega (arith, S.tables.positions, S.vertex_room);
   old = λ i l. refl;
-  rings = R;
+  summed = R;
 }
 
 pub returns-in_err-refusal : goal.returns-in_err-refusal

@@ -4,5 +4,4 @@ use Rattle.limits.proofs.limits_within.Goals as goal
 
 pub limits_by-requires : goal.limits_by-requires
 limits_by-requires g c =
-    let (few, _, sums) = c.requires.slots in
-    (c.requires.sound, rw sums (cleared _ g.row.N few))
+    (c.requires.sound, rw c.nothing-unknown.ensures (cleared _ g.row.N c.requires.slots.0))

@@ -13,4 +13,4 @@ limit_at m i = limit_coordinate m (i / 3) (i % 3)
 
 abbrev pub invariant-loop-v : goal.invariant-loop-v
 invariant-loop-v l =
-    (m : Mesh) → Movable l.vertices l.rule m l.positions l.lengths l.sums → l.table ≡ fill (3 * l.v) (limit_at m) l.initial.table
+    (m : Mesh) → Movable l.fn.counts.vertices l.fn.counts.rule m l.positions l.rings → l.table ≡ fill (3 * l.v) (limit_at m) l.initial.table

@@ -1,37 +1,54 @@
 -- `listing::handle` meets its contract.
-use mathlib.Core.Path.{◌∙◌}
-use Rattle.rules.specs.Tables.{Mesh}
-use Rattle.tables.specs.Lent.{mesh_now}
+use lib.ListN.{get_or}
+use mathlib.Core.Path.{◌≡◌, ap, ◌∙◌}
+use Rattle.rules.specs.Spares.{Spares}
+use Rattle.rules.specs.Tables.{Mesh, generation}
+use Rattle.tables.specs.Lent.{mesh_with, held}
 use Rattle.reporting.proofs.Telling.{tells_none}
 use Rattle.refining.proofs.Batching.{entry_eight, entry_passed, entry_refined, passed_told, refined_told}
-use Rattle.listing.proofs.handle.Goals.{Start}
+use Rattle.listing.proofs.handle.Goals.{Start, After-generation_at-2}
 use Rattle.listing.proofs.handle.Goals as goal
 
 abbrev mesh_of : Start → Mesh
-mesh_of c =
-    mesh_now c.args.counts c.args.positions.now c.args.corners.now c.args.links.now c.args.generations.now
-    c.args.locks.now
+mesh_of c = mesh_with c.args.counts (held c.args.tables.now)
 
-pub returns-then-triangles-t : goal.returns-then-triangles-t
-returns-then-triangles-t c = record {
-  locks_after = λ m W.
-      entry_eight m (mesh_of (goal.at.returns-then-triangles-t c).Start) _ _ _ W c.if-triangles-t.true;
-  told = λ m W. (_, tells_none _ _);
-}
+-- The generation of the triangle, read by the view.
+now : (c : After-generation_at-2)
+    → c.generation_at-2.result ≡ generation (mesh_with c.args.counts (held c.args.tables.now)).topology c.args.t
+now c =
+    c.generation_at-2.ensures
+    ∙ ap (λ (s : Spares). get_or s.generations c.args.t 0) c.view.ensures.same
 
-pub returns-then-generation_at : goal.returns-then-generation_at
-returns-then-generation_at c =
-    let x = mesh_of (goal.at.returns-then-generation_at c).Start in
-    let risen = rw (c.generation_at.ensures, c.generation_at-2.ensures) at c.if-generation_at.true in record {
-      locks_after = λ m W. entry_passed m x _ _ _ W c.if-triangles-t.false risen;
-      told = λ m W. passed_told m x _ _ _ W risen;
-    }
+pub returns-then-triangles-t-clause-handled : goal.returns-then-triangles-t-clause-handled
+returns-then-triangles-t-clause-handled c m W =
+    rw c.refused.ensures
+    (entry_eight m (mesh_of (goal.at.returns-then-triangles-t-clause-handled c).Start) _ _ _ W c.if-triangles-t.true)
 
-pub returns : goal.returns
-returns c =
-    let x = mesh_of (goal.at.returns c).Start in
-    let still = rw (c.generation_at.ensures, c.generation_at-2.ensures) at c.if-generation_at.false in record {
-      locks_after = λ m W.
-          c.refine.ensures.locks_after ∙ entry_refined m x _ _ _ W c.if-triangles-t.false still;
-      told = λ m W. refined_told m x _ _ _ W c.refine.result.refusal still c.refine.ensures.told;
-    }
+pub returns-then-triangles-t-clause-told : goal.returns-then-triangles-t-clause-told
+returns-then-triangles-t-clause-told c m W = rw c.refused.ensures (_, tells_none _ _)
+
+pub returns-then-generation_at-clause-handled : goal.returns-then-generation_at-clause-handled
+returns-then-generation_at-clause-handled c m W =
+    let x = mesh_of (goal.at.returns-then-generation_at-clause-handled c).Start in
+    let e = now (goal.at.returns-then-generation_at-clause-handled c).After-generation_at-2 in
+    entry_passed m x _ _ _ W c.if-triangles-t.false (rw (c.generation_at.ensures, e) at c.if-generation_at.true)
+
+pub returns-then-generation_at-clause-told : goal.returns-then-generation_at-clause-told
+returns-then-generation_at-clause-told c m W =
+    let x = mesh_of (goal.at.returns-then-generation_at-clause-told c).Start in
+    let e = now (goal.at.returns-then-generation_at-clause-told c).After-generation_at-2 in
+    passed_told m x _ _ _ W (rw (c.generation_at.ensures, e) at c.if-generation_at.true)
+
+pub returns-clause-handled : goal.returns-clause-handled
+returns-clause-handled c m W =
+    let x = mesh_of (goal.at.returns-clause-handled c).Start in
+    let e = now (goal.at.returns-clause-handled c).After-generation_at-2 in
+    c.refine.ensures.refined
+    ∙ entry_refined m x _ _ _ W c.if-triangles-t.false (rw (c.generation_at.ensures, e) at c.if-generation_at.false)
+
+pub returns-clause-told : goal.returns-clause-told
+returns-clause-told c m W =
+    let x = mesh_of (goal.at.returns-clause-told c).Start in
+    let e = now (goal.at.returns-clause-told c).After-generation_at-2 in
+    refined_told m x _ _ _ W c.refine.result.refusal
+    (rw (c.generation_at.ensures, e) at c.if-generation_at.false) c.refine.ensures.told

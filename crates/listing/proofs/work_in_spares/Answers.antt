@@ -4,11 +4,11 @@ use Rattle.listing.proofs.work_in_spares.Goals as goal
 
 pub copy_mesh-requires : goal.copy_mesh-requires
 copy_mesh-requires c =
-    let (there, spare) = slots_there c.args.counts c.requires in
-    record { has_slots = there; has_slots_2 = spare }
+    let (own, spare) = slots_there c.args.counts c.requires in
+    record { own_slots = own; spare_slots = spare }
 
 pub handle_all-requires : goal.handle_all-requires
-handle_all-requires c = (_, _, may_begin c.requires c.copy_mesh.ensures)
+handle_all-requires c = (_, _, may_begin c.requires c.copy_mesh.ensures.copied)
 
-pub returns : goal.returns
-returns c = c.handle_all.ensures _ _ (may_begin c.requires c.copy_mesh.ensures)
+pub returns-clause-worked : goal.returns-clause-worked
+returns-clause-worked c = c.handle_all.ensures.handled _ _ (may_begin c.requires c.copy_mesh.ensures.copied)

@@ -6,4 +6,4 @@ use Rattle.moving.proofs.move_all.Given as goal
 
 abbrev pub invariant-loop-v : goal.invariant-loop-v
 invariant-loop-v l =
-    (m : Mesh) → Movable l.vertices l.rule m l.initial.positions l.lengths l.sums → l.positions ≡ move_vertices l.v m l.initial.positions
+    (m : Mesh) → Movable l.fn.counts.vertices l.fn.counts.rule m l.initial.positions l.rings → l.positions ≡ move_vertices l.v m l.initial.positions

@@ -12,7 +12,7 @@ use Rattle.step.proofs.step_by.Goals as goal
 pub whole_step-requires : goal.whole_step-requires
 whole_step-requires c =
     let same = ap (λ (s : Spares). whole_step_refusal (mesh_with c.args.counts s)) c.view.ensures.same in
-    let P : Spares → Type 0 = λ s. RingSums (mesh_with c.args.counts s) c.refusal.new.lengths c.refusal.new.sums in
+    let P : Spares → Type 0 = λ s. RingSums (mesh_with c.args.counts s) c.refusal.new.rings in
     let told = c.in-Ok.ensures in
     (step_found _ (sym (told.0 ∙ same)), subst P c.view.ensures.same (told.1 refl))
 

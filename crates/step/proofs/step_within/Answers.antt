@@ -4,5 +4,4 @@ use Rattle.step.proofs.step_within.Goals as goal
 
 pub step_by-requires : goal.step_by-requires
 step_by-requires g c =
-    let (few, _, sums) = c.requires.slots in
-    (c.requires.sound, rw sums (cleared _ g.row.N few))
+    (c.requires.sound, rw c.nothing-unknown.ensures (cleared _ g.row.N c.requires.slots.0))

@@ -1,5 +1,5 @@
 -- `step::whole_step` meets its contract.
-use Prim.Native.Nat.{ℕ, ◌*◌, ◌/◌}
+use Prim.Native.Nat.{◌*◌, ◌/◌}
 use native.Mathlib.Omega.{arith}
 use mathlib.Core.List.{List, []}
 use mathlib.Core.Path.{◌≡◌, refl, sym, ap, ◌∙◌}
@@ -12,6 +12,7 @@ use Rattle.rules.specs.Split.{Work, with_mesh}
 use Rattle.rules.specs.Step.{move_vertices, whole_step}
 use Rattle.rules.specs.Tables.{Mesh, mesh_of, with_positions}
 use Rattle.rings.specs.Sums.{RingSums}
+use Rattle.rings.specs.declared.sums.RingSum.{RingSum}
 use Rattle.moving.specs.Moves.{Movable}
 use Rattle.dividing.proofs.ChildRows.{length_placed}
 use Rattle.step.proofs.whole_step.Goals as goal
@@ -33,8 +34,8 @@ whole_step_steps m R w positions ew ep =
     rw (ep, ew) refl ∙ sym (ap after (step_closed m R))
 
 -- After the splits the vertices still stand where they stood.
-movable : {m : Mesh} {lengths : List ℕ} {sums : List ℤ} {w : Mesh} → StepFound m → RingSums m lengths sums
-    → w ≡ closed_step m → Movable m.topology.vertices m.rule m w.positions lengths sums
+movable : {m : Mesh} {rings : List RingSum} {w : Mesh} → StepFound m → RingSums m rings
+    → w ≡ closed_step m → Movable m.topology.vertices m.rule m w.positions rings
 unfolding closed_step
 movable {m} {w = w} F R e =
     let p : w.positions ≡ with_centres m.topology.triangles m = ap (λ (x : Mesh). x.positions) e in
@@ -50,7 +51,7 @@ movable {m} {w = w} F R e =
         ap length p ∙ length_placed m m.topology.triangles,
       );
       old = λ i l. ap (λ (x : List ℤ). get_or x i (pos 0)) p ∙ centres_leave m.topology.triangles m i l;
-      rings = R;
+      summed = R;
     }
 
 pub move_all-requires : goal.move_all-requires

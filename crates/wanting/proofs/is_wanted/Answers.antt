@@ -26,8 +26,8 @@ module _ {b : Box} {m : Mesh} {c g inside : List ℕ} {k t : ℕ} (X : Looks b m
   corner_there : 3 * t + 2 < length c
   corner_there = rw X.corners (omega (arith, X.sound.tables.corners, X.sound.triangle_room))
 
-  corner_room_lem : (i : ℕ) → i < 3 → get_or c (3 * t + i) 0 < 64 * length inside
-  corner_room_lem i l =
+  corner_has_mark : (i : ℕ) → i < 3 → get_or c (3 * t + i) 0 < 64 * length inside
+  corner_has_mark i l =
       rw X.corners
       (omega (arith, X.sound.corner (3 * t + i) (omega arith), X.sound.vertex_room, X.seen.room))
 
@@ -61,7 +61,7 @@ module _ {b : Box} {m : Mesh} {c g inside : List ℕ} {k t : ℕ} (X : Looks b m
 pub has_marked_corner-requires : goal.has_marked_corner-requires
 has_marked_corner-requires c =
     let (b, m, X, u) = c.requires in
-    (corner_there X u, corner_room_lem X u)
+    (corner_there X u, corner_has_mark X u)
 
 pub returns-then-not-has_marked_corner : goal.returns-then-not-has_marked_corner
 returns-then-not-has_marked_corner c b m X u =

@@ -25,7 +25,7 @@ use Rattle.tables.specs.Lent.{held, mesh_with}
 use Rattle.wanting.specs.Wanting.{SeenFrom, Looks, Marked, Unseen}
 use Rattle.wanting.proofs.Begins.{begins_sound}
 use Rattle.wanting.proofs.Told.{BoxingTold, told_begins, told_on, told_stops, told_ends}
-use Rattle.wanting.proofs.Turn.{refine_carried, lowest_wanted_lem, none_wanted, marked_all, unmarked_fit}
+use Rattle.wanting.proofs.Turn.{refine_carried, lowest_is_wanted, none_wanted, marked_all, unmarked_fit}
 use Rattle.wanting.proofs.Turn.{seen_all, grows_by}
 use Rattle.wanting.proofs.refine_wanted.Goals as goal
 
@@ -98,7 +98,7 @@ module _ {b : Box} {m : Mesh} {s : Spares} {at k f : ℕ} {before now : List ℕ
       (e : o ≡ refine_call t x) {after : List ℕ}
       (T : Told (told_unless o.answer.refusal (refine t (at_first x)).report) now after (3 * k + 2 * f)) where
     next : LowestWanted b x t
-    next = lowest_wanted_lem (holding_sound D.1.held) M.marks l u
+    next = lowest_is_wanted (holding_sound D.1.held) M.marks l u
 
     stops : o.answer.refusal ≢ 0
         → Done (refine_in_box b m) s o.answer.refusal at k f o.mesh

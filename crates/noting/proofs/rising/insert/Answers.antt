@@ -1,171 +1,45 @@
 -- `noting::rising::insert` meets its contract.
-use mathlib.Core.List.{List}
 use mathlib.Core.Path.{◌≡◌, sym, ◌∙◌}
-use Prim.Native.Nat.{ℕ, ◌+◌, ◌≤◌, ◌<◌}
+use Prim.Native.Nat.{◌+◌, ◌≤◌}
 use native.Mathlib.Omega.{arith}
 use lib.ListN.{length, get_or, length-set}
 use Rattle.noting.specs.Rising.{Passed}
-use Rattle.noting.proofs.Inserting.{moved_back, found_there, put_there}
+use Rattle.noting.proofs.Inserting.{moved_back, moved_one, found_there, put_there}
+use Rattle.noting.proofs.rising.insert.Goals.{After-pass_some-at}
 use Rattle.noting.proofs.rising.insert.Goals as goal
 
-pub pass_two-two-requires : goal.pass_two-two-requires
-pass_two-two-requires c =
-    let Passing : ℕ → ℕ → List ℕ → Type 0 = λ more at k. Passed c.args.numbers.now c.args.from c.args.x at k × (c.args.x ≤ get_or c.args.numbers.now (at + more) 0) × (length k ≡ length c.args.numbers.now) in
-    let by_fours : Passing 4 c.pass_fours-fours.result c.pass_fours-fours.new.numbers = (c.pass_fours-fours.ensures.0, c.pass_fours-fours.ensures.1, c.pass_fours-fours.auto.numbers) in
-    let (P, b, e) = by_fours in
-    (omega (arith, P.begins, c.requires.1), omega (arith, P.ends, e, c.requires.0.size))
+passed : (c : After-pass_some-at)
+    → Passed c.args.numbers.now c.args.from c.args.x c.pass_some-at.result c.pass_some-at.new.numbers
+    × (c.args.x ≤ get_or c.args.numbers.now (c.pass_some-at.result + 1) 0)
+passed c =
+    let (P, b) = c.pass_fours-fours.ensures in
+    let (Q, d) = c.pass_some-two.ensures _ _ c.requires.0 P b in
+    c.pass_some-at.ensures _ _ c.requires.0 Q d
 
-pub pass_one-at-requires : goal.pass_one-at-requires
-pass_one-at-requires c =
-    let Passing : ℕ → ℕ → List ℕ → Type 0 = λ more at k. Passed c.args.numbers.now c.args.from c.args.x at k × (c.args.x ≤ get_or c.args.numbers.now (at + more) 0) × (length k ≡ length c.args.numbers.now) in
-    let by_fours : Passing 4 c.pass_fours-fours.result c.pass_fours-fours.new.numbers = (c.pass_fours-fours.ensures.0, c.pass_fours-fours.ensures.1, c.pass_fours-fours.auto.numbers) in
-    let by_two : Passing 2 c.pass_two-two.result c.pass_two-two.new.numbers = let (P, b, e) = by_fours in
-    let (Q, d) = c.pass_two-two.ensures _ _ c.requires.0 P b in
-    (Q, d, c.pass_two-two.auto.numbers ∙ e) in
-    let (P, b, e) = by_two in
-    (omega (arith, P.begins, c.requires.1), omega (arith, P.ends, e, c.requires.0.size))
+size : (c : After-pass_some-at) → length c.pass_some-at.new.numbers ≡ length c.args.numbers.now
+size c = c.pass_some-at.auto.numbers ∙ c.pass_some-two.auto.numbers ∙ c.pass_fours-fours.auto.numbers
 
-pub overflow_add-at : goal.overflow_add-at
-overflow_add-at c =
-    let Passing : ℕ → ℕ → List ℕ → Type 0 = λ more at k. Passed c.args.numbers.now c.args.from c.args.x at k × (c.args.x ≤ get_or c.args.numbers.now (at + more) 0) × (length k ≡ length c.args.numbers.now) in
-    let at : ℕ = c.pass_one-at.result in
-    let by_fours : Passing 4 c.pass_fours-fours.result c.pass_fours-fours.new.numbers = (c.pass_fours-fours.ensures.0, c.pass_fours-fours.ensures.1, c.pass_fours-fours.auto.numbers) in
-    let by_two : Passing 2 c.pass_two-two.result c.pass_two-two.new.numbers = let (P, b, e) = by_fours in
-    let (Q, d) = c.pass_two-two.ensures _ _ c.requires.0 P b in
-    (Q, d, c.pass_two-two.auto.numbers ∙ e) in
-    let by_one : Passing 1 at c.pass_one-at.new.numbers = let (P, b, e) = by_two in
-    let (Q, d) = c.pass_one-at.ensures _ _ c.requires.0 P b in
-    (Q, d, c.pass_one-at.auto.numbers ∙ e) in
-    omega (arith, by_one.0.ends)
-
-pub offset_bounds-numbers-at : goal.offset_bounds-numbers-at
-offset_bounds-numbers-at c =
-    let Passing : ℕ → ℕ → List ℕ → Type 0 = λ more at k. Passed c.args.numbers.now c.args.from c.args.x at k × (c.args.x ≤ get_or c.args.numbers.now (at + more) 0) × (length k ≡ length c.args.numbers.now) in
-    let at : ℕ = c.pass_one-at.result in
-    let by_fours : Passing 4 c.pass_fours-fours.result c.pass_fours-fours.new.numbers = (c.pass_fours-fours.ensures.0, c.pass_fours-fours.ensures.1, c.pass_fours-fours.auto.numbers) in
-    let by_two : Passing 2 c.pass_two-two.result c.pass_two-two.new.numbers = let (P, b, e) = by_fours in
-    let (Q, d) = c.pass_two-two.ensures _ _ c.requires.0 P b in
-    (Q, d, c.pass_two-two.auto.numbers ∙ e) in
-    let by_one : Passing 1 at c.pass_one-at.new.numbers = let (P, b, e) = by_two in
-    let (Q, d) = c.pass_one-at.ensures _ _ c.requires.0 P b in
-    (Q, d, c.pass_one-at.auto.numbers ∙ e) in
-    omega (arith, by_one.0.ends)
-
-pub bounds-numbers-at : goal.bounds-numbers-at
-bounds-numbers-at c =
-    let at : ℕ = c.pass_one-at.result in
-    let Passing : ℕ → ℕ → List ℕ → Type 0 = λ more at k. Passed c.args.numbers.now c.args.from c.args.x at k × (c.args.x ≤ get_or c.args.numbers.now (at + more) 0) × (length k ≡ length c.args.numbers.now) in
-    let by_fours : Passing 4 c.pass_fours-fours.result c.pass_fours-fours.new.numbers = (c.pass_fours-fours.ensures.0, c.pass_fours-fours.ensures.1, c.pass_fours-fours.auto.numbers) in
-    let by_two : Passing 2 c.pass_two-two.result c.pass_two-two.new.numbers = let (P, b, e) = by_fours in
-    let (Q, d) = c.pass_two-two.ensures _ _ c.requires.0 P b in
-    (Q, d, c.pass_two-two.auto.numbers ∙ e) in
-    let by_one : Passing 1 at c.pass_one-at.new.numbers = let (P, b, e) = by_two in
-    let (Q, d) = c.pass_one-at.ensures _ _ c.requires.0 P b in
-    (Q, d, c.pass_one-at.auto.numbers ∙ e) in
-    let inside : at + 1 < length c.pass_one-at.new.numbers = omega (arith, by_one.0.ends, by_one.2, c.requires.0.size) in
-    inside
-
-pub move_back-requires : goal.move_back-requires
-move_back-requires c =
-    let at : ℕ = c.pass_one-at.result in
-    let Passing : ℕ → ℕ → List ℕ → Type 0 = λ more at k. Passed c.args.numbers.now c.args.from c.args.x at k × (c.args.x ≤ get_or c.args.numbers.now (at + more) 0) × (length k ≡ length c.args.numbers.now) in
-    let by_fours : Passing 4 c.pass_fours-fours.result c.pass_fours-fours.new.numbers = (c.pass_fours-fours.ensures.0, c.pass_fours-fours.ensures.1, c.pass_fours-fours.auto.numbers) in
-    let by_two : Passing 2 c.pass_two-two.result c.pass_two-two.new.numbers = let (P, b, e) = by_fours in
-    let (Q, d) = c.pass_two-two.ensures _ _ c.requires.0 P b in
-    (Q, d, c.pass_two-two.auto.numbers ∙ e) in
-    let by_one : Passing 1 at c.pass_one-at.new.numbers = let (P, b, e) = by_two in
-    let (Q, d) = c.pass_one-at.ensures _ _ c.requires.0 P b in
-    (Q, d, c.pass_one-at.auto.numbers ∙ e) in
-    let inside : at + 1 < length c.pass_one-at.new.numbers = omega (arith, by_one.0.ends, by_one.2, c.requires.0.size) in
-    (c.requires.1, omega (arith, inside))
+next : (c : After-pass_some-at)
+    → get_or c.pass_some-at.new.numbers (c.pass_some-at.result + 1) 0
+    ≡ get_or c.args.numbers.now (c.pass_some-at.result + 1) 0
+next c = (passed c).0.moved.after (c.pass_some-at.result + 1) (omega arith)
 
 pub returns-then-numbers-at : goal.returns-then-numbers-at
 returns-then-numbers-at c =
-    let Passing : ℕ → ℕ → List ℕ → Type 0 = λ more at k. Passed c.args.numbers.now c.args.from c.args.x at k × (c.args.x ≤ get_or c.args.numbers.now (at + more) 0) × (length k ≡ length c.args.numbers.now) in
-    let at : ℕ = c.pass_one-at.result in
-    let by_fours : Passing 4 c.pass_fours-fours.result c.pass_fours-fours.new.numbers = (c.pass_fours-fours.ensures.0, c.pass_fours-fours.ensures.1, c.pass_fours-fours.auto.numbers) in
-    let by_two : Passing 2 c.pass_two-two.result c.pass_two-two.new.numbers = let (P, b, e) = by_fours in
-    let (Q, d) = c.pass_two-two.ensures _ _ c.requires.0 P b in
-    (Q, d, c.pass_two-two.auto.numbers ∙ e) in
-    let by_one : Passing 1 at c.pass_one-at.new.numbers = let (P, b, e) = by_two in
-    let (Q, d) = c.pass_one-at.ensures _ _ c.requires.0 P b in
-    (Q, d, c.pass_one-at.auto.numbers ∙ e) in
-    let next : get_or c.pass_one-at.new.numbers (at + 1) 0 ≡ get_or c.args.numbers.now (at + 1) 0 = by_one.0.moved.after (at + 1) (omega arith) in
-    let (P, b, e) = by_one in (
+    let at = (goal.at.returns-then-numbers-at c).After-pass_some-at in
+    let (P, b) = passed at in (
       found_there c.requires.0 (omega (arith, c.requires.1)) c.requires.2 P b
-          (sym next ∙ c.if-numbers-at.true) (c.move_back.auto.numbers ∙ e)
+          (sym (next at) ∙ c.if-numbers-at.true) (c.move_back.auto.numbers ∙ size at)
           (c.move_back.ensures _ (moved_back P.moved)),
       omega arith,
     )
 
-pub move_one-requires : goal.move_one-requires
-move_one-requires c =
-    let Passing : ℕ → ℕ → List ℕ → Type 0 = λ more at k. Passed c.args.numbers.now c.args.from c.args.x at k × (c.args.x ≤ get_or c.args.numbers.now (at + more) 0) × (length k ≡ length c.args.numbers.now) in
-    let at : ℕ = c.pass_one-at.result in
-    let by_fours : Passing 4 c.pass_fours-fours.result c.pass_fours-fours.new.numbers = (c.pass_fours-fours.ensures.0, c.pass_fours-fours.ensures.1, c.pass_fours-fours.auto.numbers) in
-    let by_two : Passing 2 c.pass_two-two.result c.pass_two-two.new.numbers = let (P, b, e) = by_fours in
-    let (Q, d) = c.pass_two-two.ensures _ _ c.requires.0 P b in
-    (Q, d, c.pass_two-two.auto.numbers ∙ e) in
-    let by_one : Passing 1 at c.pass_one-at.new.numbers = let (P, b, e) = by_two in
-    let (Q, d) = c.pass_one-at.ensures _ _ c.requires.0 P b in
-    (Q, d, c.pass_one-at.auto.numbers ∙ e) in
-    let inside : at + 1 < length c.pass_one-at.new.numbers = omega (arith, by_one.0.ends, by_one.2, c.requires.0.size) in
-    (omega (arith, by_one.0.begins, c.requires.1), omega (arith, inside))
-
-pub offset_bounds-numbers-at-2 : goal.offset_bounds-numbers-at-2
-offset_bounds-numbers-at-2 c =
-    let Passing : ℕ → ℕ → List ℕ → Type 0 = λ more at k. Passed c.args.numbers.now c.args.from c.args.x at k × (c.args.x ≤ get_or c.args.numbers.now (at + more) 0) × (length k ≡ length c.args.numbers.now) in
-    let at : ℕ = c.pass_one-at.result in
-    let by_fours : Passing 4 c.pass_fours-fours.result c.pass_fours-fours.new.numbers = (c.pass_fours-fours.ensures.0, c.pass_fours-fours.ensures.1, c.pass_fours-fours.auto.numbers) in
-    let by_two : Passing 2 c.pass_two-two.result c.pass_two-two.new.numbers = let (P, b, e) = by_fours in
-    let (Q, d) = c.pass_two-two.ensures _ _ c.requires.0 P b in
-    (Q, d, c.pass_two-two.auto.numbers ∙ e) in
-    let by_one : Passing 1 at c.pass_one-at.new.numbers = let (P, b, e) = by_two in
-    let (Q, d) = c.pass_one-at.ensures _ _ c.requires.0 P b in
-    (Q, d, c.pass_one-at.auto.numbers ∙ e) in
-    omega (arith, by_one.0.ends)
-
-pub bounds-numbers-at-2 : goal.bounds-numbers-at-2
-bounds-numbers-at-2 c =
-    let at : ℕ = c.pass_one-at.result in
-    let Passing : ℕ → ℕ → List ℕ → Type 0 = λ more at k. Passed c.args.numbers.now c.args.from c.args.x at k × (c.args.x ≤ get_or c.args.numbers.now (at + more) 0) × (length k ≡ length c.args.numbers.now) in
-    let by_fours : Passing 4 c.pass_fours-fours.result c.pass_fours-fours.new.numbers = (c.pass_fours-fours.ensures.0, c.pass_fours-fours.ensures.1, c.pass_fours-fours.auto.numbers) in
-    let by_two : Passing 2 c.pass_two-two.result c.pass_two-two.new.numbers = let (P, b, e) = by_fours in
-    let (Q, d) = c.pass_two-two.ensures _ _ c.requires.0 P b in
-    (Q, d, c.pass_two-two.auto.numbers ∙ e) in
-    let by_one : Passing 1 at c.pass_one-at.new.numbers = let (P, b, e) = by_two in
-    let (Q, d) = c.pass_one-at.ensures _ _ c.requires.0 P b in
-    (Q, d, c.pass_one-at.auto.numbers ∙ e) in
-    let inside : at + 1 < length c.pass_one-at.new.numbers = omega (arith, by_one.0.ends, by_one.2, c.requires.0.size) in
-    omega (arith, c.move_one.auto.numbers, inside)
-
-pub shape_of-numbers : goal.shape_of-numbers
-shape_of-numbers c =
-    let Passing : ℕ → ℕ → List ℕ → Type 0 = λ more at k. Passed c.args.numbers.now c.args.from c.args.x at k × (c.args.x ≤ get_or c.args.numbers.now (at + more) 0) × (length k ≡ length c.args.numbers.now) in
-    let at : ℕ = c.pass_one-at.result in
-    let by_fours : Passing 4 c.pass_fours-fours.result c.pass_fours-fours.new.numbers = (c.pass_fours-fours.ensures.0, c.pass_fours-fours.ensures.1, c.pass_fours-fours.auto.numbers) in
-    let by_two : Passing 2 c.pass_two-two.result c.pass_two-two.new.numbers = let (P, b, e) = by_fours in
-    let (Q, d) = c.pass_two-two.ensures _ _ c.requires.0 P b in
-    (Q, d, c.pass_two-two.auto.numbers ∙ e) in
-    let by_one : Passing 1 at c.pass_one-at.new.numbers = let (P, b, e) = by_two in
-    let (Q, d) = c.pass_one-at.ensures _ _ c.requires.0 P b in
-    (Q, d, c.pass_one-at.auto.numbers ∙ e) in
-    simp length-set (c.move_one.auto.numbers ∙ by_one.2)
-
 pub returns : goal.returns
 returns c =
-    let Passing : ℕ → ℕ → List ℕ → Type 0 = λ more at k. Passed c.args.numbers.now c.args.from c.args.x at k × (c.args.x ≤ get_or c.args.numbers.now (at + more) 0) × (length k ≡ length c.args.numbers.now) in
-    let at : ℕ = c.pass_one-at.result in
-    let by_fours : Passing 4 c.pass_fours-fours.result c.pass_fours-fours.new.numbers = (c.pass_fours-fours.ensures.0, c.pass_fours-fours.ensures.1, c.pass_fours-fours.auto.numbers) in
-    let by_two : Passing 2 c.pass_two-two.result c.pass_two-two.new.numbers = let (P, b, e) = by_fours in
-    let (Q, d) = c.pass_two-two.ensures _ _ c.requires.0 P b in
-    (Q, d, c.pass_two-two.auto.numbers ∙ e) in
-    let by_one : Passing 1 at c.pass_one-at.new.numbers = let (P, b, e) = by_two in
-    let (Q, d) = c.pass_one-at.ensures _ _ c.requires.0 P b in
-    (Q, d, c.pass_one-at.auto.numbers ∙ e) in
-    let next : get_or c.pass_one-at.new.numbers (at + 1) 0 ≡ get_or c.args.numbers.now (at + 1) 0 = by_one.0.moved.after (at + 1) (omega arith) in
-    let (P, b, e) = by_one in (
+    let at = (goal.at.returns c).After-pass_some-at in
+    let (P, b) = passed at in (
       put_there c.requires.0 (omega (arith, c.requires.1)) c.requires.2 P b
-          (λ q. c.if-numbers-at.false (next ∙ q)) (c.move_one.auto.numbers ∙ e) c.move_one.ensures,
+          (λ q. c.if-numbers-at.false (next at ∙ q)) (simp length-set (size at))
+          (moved_one c.pass_some-at.new.numbers c.pass_some-at.result (omega (arith, P.begins, c.requires.1)) (omega (arith, P.ends, size at, c.requires.0.size))),
       omega (arith, c.requires.1),
     )

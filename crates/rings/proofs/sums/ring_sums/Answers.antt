@@ -1,11 +1,12 @@
 -- `rings::sums::ring_sums` meets its contract: a pass over the sides adds up every ring.
-use Prim.Native.Nat.{ℕ, ◌+◌, ◌*◌, ◌<◌}
+use Prim.Native.Nat.{ℕ, ◌<◌}
 use native.Mathlib.Omega.{arith}
 use mathlib.Core.List.{List}
 use mathlib.Core.Path.{◌≡◌, sym, ◌∙◌, subst}
 use lib.Dec.{T}
-use lib.IntN.{ℤ}
+use lib.IntN.{ℤ, pos}
 use lib.ListN.{length, get_or}
+use Rattle.points.specs.Axes.{coordinate}
 use Rattle.theory.proofs.Rings.RingSums.{out_of, SumOut, none_added, none_out, ring_counted, ring_added}
 use Rattle.theory.proofs.Rings.RingVertices.{ring_some}
 use Rattle.rules.specs.Conditions.{LongRing}
@@ -13,7 +14,9 @@ use Rattle.rules.specs.Ring.{ring}
 use Rattle.rules.specs.Tables.{Topology, Mesh, sides}
 use Rattle.tables.specs.Lent.{mesh_now}
 use Rattle.tables.specs.declared.Counts.{Counts}
-use Rattle.rings.specs.Sums.{Closed, Cleared, RingSums, Summable, Summed}
+use Rattle.rings.specs.declared.sums.RingSum.{RingSum}
+use Rattle.rings.proofs.sums.Sides.{on_each}
+use Rattle.rings.specs.Sums.{nothing, Closed, Cleared, RingSums, Summable, Summed}
 use Rattle.rings.proofs.sums.ring_sums.Goals as goal
 
 -- ---- before the first side
@@ -31,16 +34,15 @@ module _ {n : Counts} {positions : List ℤ} {corners links generations locks : 
         range = S.range;
       }
 
-none_summed : {n : ℕ} {positions : List ℤ} {corners lengths : List ℕ} {sums : List ℤ} → Cleared n lengths sums
-    → Summed 0 n positions corners lengths sums
-none_summed {n} {positions} {corners} Z = record {
-  length_room = Z.length_zeros.size;
-  sum_room = Z.sum_zeros.size;
-  counted = λ v b. Z.length_zeros.each v b ∙ sym (none_out positions corners v);
-  few = λ v b. omega (arith, Z.length_zeros.each v b);
+none_summed : {n : ℕ} {positions : List ℤ} {corners : List ℕ} {rings : List RingSum} → Cleared n rings
+    → Summed 0 n positions corners rings
+none_summed {n} {positions} {corners} {rings} Z = record {
+  room = Z.size;
+  counted = λ v b. rw (Z.each v b) (sym (none_out positions corners v));
+  few = λ v b. rw (Z.each v b) (omega arith);
   added = λ v k b i.
-      subst (SumOut 0 positions corners v k) (sym (Z.sum_zeros.each (3 * v + k) (omega arith)))
-      (none_added positions corners v k);
+      subst (λ (r : RingSum). SumOut 0 positions corners v k (coordinate r.sum k)) (sym (Z.each v b))
+      (subst (SumOut 0 positions corners v k) (sym (on_each (λ _. pos 0) k i)) (none_added positions corners v k));
 }
 
 -- ---- after the last side
@@ -52,15 +54,13 @@ module _ {m : Mesh} (C : Closed m) where
   some_ring_long : (v : ℕ) × (v < t.vertices) × (12 < out_of (sides t) t.corners v) → LongRing t
   some_ring_long (v, b, l) = (v, b, rw (ring_counted C.sound C.inner v b) l)
 
-  module _ {lengths : List ℕ} {sums : List ℤ}
-      (S : Summed (sides t) t.vertices m.positions t.corners lengths sums) where
-    is_length : (v : ℕ) → v < t.vertices → get_or lengths v 0 ≡ length (ring t v)
+  module _ {rings : List RingSum} (S : Summed (sides t) t.vertices m.positions t.corners rings) where
+    is_length : (v : ℕ) → v < t.vertices → (get_or rings v nothing).length ≡ length (ring t v)
     is_length v b = S.counted v b ∙ sym (ring_counted C.sound C.inner v b)
 
-    ring_sums : RingSums m lengths sums
+    ring_sums : RingSums m rings
     ring_sums = record {
-      length_room = S.length_room;
-      sum_room = S.sum_room;
+      room = S.room;
       long = is_length;
       some = λ v b. omega (arith, is_length v b, ring_some C.sound v b);
       few = S.few;
