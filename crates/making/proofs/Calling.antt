@@ -1,7 +1,7 @@
 -- What a change of each kind is to be made of, as the code reads it from a body.
 use Prim.Native.Nat.{ℕ, zero, suc, ◌+◌, ◌-◌, ◌*◌, ◌/◌, ◌≤◌, ◌<◌}
 use native.Mathlib.Omega.{arith}
-use mathlib.Core.Bool.{Bool, true, false, true≢false}
+use mathlib.Core.Bool.{Bool, true, false}
 use mathlib.Core.List.{List, [], ◌∷◌, ◌++◌}
 use mathlib.Core.Logic.{◌≢◌, ◌⊎◌, inl, inr}
 use mathlib.Core.Path.{◌≡◌, refl, ap, sym, ◌∙◌}
@@ -19,12 +19,10 @@ use Rattle.making.specs.Making.{told, counts_after, Makes}
 use Rattle.journal.specs.Replay.{call_of, numbers_of}
 use Rattle.journal.proofs.Entries.{Kinds, kinds_are, length_numbers}
 use Rattle.journal.proofs.Numbers.{number_drop}
-use Rattle.journal.proofs.Stopping.{no_kind}
-use Rattle.journal.specs.Kinds.{number_of, IsKindOf}
+use Rattle.journal.specs.Kinds.{number_of}
 use Rattle.journal.specs.declared.kinds.Kind.{Kind}
 use Rattle.journal.specs.declared.kinds.Kind.TheVariants.{Load, Refine, WholeStep, RefineList, RefineBox, Lock, Unlock, TakeBack}
-use Rattle.journal.specs.declared.stops.Stop.{Stop}
-use Rattle.std.proofs.Common.{Result, Ok, Err, IsOk, ℤ}
+use Rattle.std.proofs.Common.{Result}
 use Rattle.tables.specs.Answers.{worked_outcome}
 use Rattle.tables.specs.Lent.{mesh_with}
 use Rattle.tables.specs.declared.Counts.{Counts}
@@ -113,25 +111,29 @@ no_numbers TakeBack body x y = absurd (y refl)
 
 -- ---- kinds and the sizes of their bodies
 
-pub record Sizes (kind size : ℕ) : Type 0 where
-  pub four : kind ≢ 3 → kind ≢ 4 → kind ≢ 8 → 4 ≤ size
-  pub box : kind ≡ 5 → size ≡ 28
-
-pub sizes : (kind size : ℕ) → is_kind kind size ≡ true → Sizes kind size
-sizes kind size k = go (when_true (kinds_are kind size) k)
+pub four_long : {kind size : ℕ} → is_kind kind size ≡ true → kind ≢ 3 → kind ≢ 4 → kind ≢ 8 → 4 ≤ size
+four_long {kind} {size} h x y z = go (when_true (kinds_are kind size) h)
   where
-    told : (kind ≢ 3 → kind ≢ 4 → kind ≢ 8 → 4 ≤ size) → (kind ≡ 5 → size ≡ 28) → Sizes kind size
-    told f b = record { four = f; box = b }
+    go : Kinds kind size → 4 ≤ size
+    go (inl (inl (inl (inl (e, l))))) = l
+    go (inl (inl (inl (inr (l, e))))) = omega arith
+    go (inl (inl (inr (l, e)))) = absurd (x e)
+    go (inl (inr (l, inl e))) = absurd (y e)
+    go (inl (inr (l, inr e))) = absurd (z e)
+    go (inr (l, e)) = omega arith
 
-    go : Kinds kind size → Sizes kind size
-    go (inl (inl (inl (inl (e, l))))) = told (λ x y z. l) (λ f. omega arith)
-    go (inl (inl (inl (inr (l, inl (inl e)))))) = told (λ x y z. omega arith) (λ f. omega arith)
-    go (inl (inl (inl (inr (l, inl (inr e)))))) = told (λ x y z. omega arith) (λ f. omega arith)
-    go (inl (inl (inl (inr (l, inr e))))) = told (λ x y z. omega arith) (λ f. omega arith)
-    go (inl (inl (inr (l, e)))) = told (λ x y z. absurd (x e)) (λ f. omega arith)
-    go (inl (inr (l, inl e))) = told (λ x y z. absurd (y e)) (λ f. omega arith)
-    go (inl (inr (l, inr e))) = told (λ x y z. absurd (z e)) (λ f. omega arith)
-    go (inr (l, e)) = told (λ x y z. omega arith) (λ f. l)
+pub box_long : {kind size : ℕ} → is_kind kind size ≡ true → kind ≡ 5 → size ≡ 28
+box_long {kind} {size} h f = go (when_true (kinds_are kind size) h)
+  where
+    go : Kinds kind size → size ≡ 28
+    go (inl (inl (inl (inl (e, l))))) = omega arith
+    go (inl (inl (inl (inr (l, inl (inl e)))))) = omega arith
+    go (inl (inl (inl (inr (l, inl (inr e)))))) = omega arith
+    go (inl (inl (inl (inr (l, inr e))))) = omega arith
+    go (inl (inl (inr (l, e)))) = omega arith
+    go (inl (inr (l, inl e))) = omega arith
+    go (inl (inr (l, inr e))) = omega arith
+    go (inr (l, e)) = l
 
 -- ---- what the calls make
 

@@ -4,7 +4,10 @@
 ghost use Rattle.std.specs.Prelude.{true, List, ◌≡◌, ℕ, ◌+◌, ◌/◌, ◌≤◌, length};
 ghost use Rattle.rules.specs.History.{changed};
 ghost use Rattle.rules.specs.Numbers.{number_at, signed};
-ghost use Rattle.tables.specs.Lent.{held, mesh_with, SameTables};
+ghost use Rattle.rules.specs.Calls.{lock_call};
+ghost use Rattle.rules.specs.Notes.{take_back_call};
+ghost use Rattle.tables.specs.Answers.{worked_outcome};
+ghost use Rattle.tables.specs.Lent.{held, mesh_now, mesh_with, spares_now, SameTables};
 ghost use Rattle.tables.specs.Refusals.{refused};
 ghost use Rattle.tables.specs.Standing.{standing};
 ghost use Rattle.journal.specs.Journal.{numbers_in, is_kind, entry_of};
@@ -15,7 +18,7 @@ ghost use Rattle.journal.specs.Replay.{call_of, numbers_of};
 use journal::kinds::Kind;
 use points::Point;
 use tables::refusals::Refusal;
-use tables::{Counts, Tables};
+use tables::{Counts, Tables, Worked};
 
 // The numbers that a change of this kind, with a body of this size, has to be read into a table for.
 pub fn numbers_of(kind: Kind, size: usize) -> usize
@@ -66,6 +69,64 @@ fn told(refusal: u32, counts: Counts) -> Result<Counts, u32>
     }
 }
 
+// Sets or clears a lock, and leaves what is lent beside the locks.
+// Kept: what is read only is lent for writing here, since tables of one value are not lent apart for both.
+fn lock_in(
+    positions: &mut [i32],
+    corners: &mut [u32],
+    links: &mut [u32],
+    generations: &mut [u8],
+    locks: &mut [u8],
+    counts: Counts,
+    t: u32,
+    on: bool,
+    stands: Result<(), Refusal>,
+) -> Worked
+    requires { refused stands ≡ standing (mesh_now counts positions.old corners.old links.old generations.old locks.old) }
+    ensures { worked_outcome result (spares_now positions.new corners.new links.new generations.new locks.new)
+        ≡ lock_call on t (mesh_now counts positions.old corners.old links.old generations.old locks.old) }
+{
+    mesh::lock_known(
+        positions,
+        corners,
+        links,
+        generations,
+        locks,
+        counts,
+        t,
+        on,
+        stands,
+    )
+}
+
+// Takes back the refine that wrote the note, and leaves the positions.
+// Kept: the same.
+fn take_back_in(
+    positions: &mut [i32],
+    corners: &mut [u32],
+    links: &mut [u32],
+    generations: &mut [u8],
+    locks: &mut [u8],
+    counts: Counts,
+    stands: Result<(), Refusal>,
+    note: &[u32],
+) -> Worked
+    requires { refused stands ≡ standing (mesh_now counts positions.old corners.old links.old generations.old locks.old) }
+    ensures { worked_outcome result (spares_now positions.new corners.new links.new generations.new locks.new)
+        ≡ take_back_call note.now (mesh_now counts positions.old corners.old links.old generations.old locks.old) }
+{
+    undoing::take_back(
+        positions,
+        corners,
+        links,
+        generations,
+        locks,
+        counts,
+        stands,
+        note,
+    )
+}
+
 // Makes the change of this kind and this body, and tells the counts after it, or what it is refused with. The spare
 // tables and the table for numbers are worked in.
 pub fn make(
@@ -114,12 +175,32 @@ pub fn make(
         }
         Kind::Lock | Kind::Unlock => {
             let t = points::number_at(body, 0);
-            let done = mesh::lock_known(tables, counts, t, kind == Kind::Lock, stands);
+            let on = kind == Kind::Lock;
+            let done = lock_in(
+                tables.positions,
+                tables.corners,
+                tables.links,
+                tables.generations,
+                tables.locks,
+                counts,
+                t,
+                on,
+                stands,
+            );
             told(done.refusal, done.counts)
         }
         Kind::TakeBack => {
             let note = numbers_in(body, numbers);
-            let done = undoing::take_back(tables, counts, stands, note);
+            let done = take_back_in(
+                tables.positions,
+                tables.corners,
+                tables.links,
+                tables.generations,
+                tables.locks,
+                counts,
+                stands,
+                note,
+            );
             told(done.refusal, done.counts)
         }
     }
