@@ -15,6 +15,7 @@ use tables::{Counts, Tables, View};
 
 // The answer of a preview: V and F are those that the list would answer, and no counts of the mesh, which stands. On a
 // refusal they are the mesh's own.
+// Kept: the C interface answers a number, 0 for none.
 #[repr(C)]
 #[derive(Clone, Copy)]
 pub struct BatchForeseen {
@@ -49,6 +50,7 @@ impl BatchForeseen {
 }
 
 // What is foreseen where this work was made of a mesh with these counts.
+// Kept: the C interface: the work has the number that a refine answered.
 fn foresee(counts: Counts, made: Batch) -> BatchForeseen
     ensures { result ≡ foreseen_of counts made }
 {
@@ -95,6 +97,7 @@ pub struct ForeseenReported {
 }
 
 // Foresees a list as preview does, and reports the slots that it would write.
+// Kept: the C interface has the call without a report and this one.
 pub fn preview_reported(
     view: &View,
     counts: Counts,

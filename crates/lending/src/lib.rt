@@ -13,6 +13,7 @@ use tables::refusals::Refusal;
 
 // What refuses a call that works in spare tables: tables that disagree, spare tables of other sizes, arguments that do not
 // fit, or a mesh that is not sound. The mesh stands or is refused itself.
+// Kept: no plainer: whether the arguments fit is asked after the sizes of the spare tables.
 pub fn refusal(
     view: &View,
     stands: Result<(), Refusal>,

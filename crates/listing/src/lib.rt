@@ -54,6 +54,7 @@ fn handle(
 
 // Handles the entries of a list in tables that hold the mesh, whose generations at the call's start are given, and
 // tells them where the report has room.
+// Kept: the C interface: a refine answers the number of its refusal, 0 for none.
 fn handle_all(
     tables: &mut Tables,
     counts: Counts,
@@ -123,6 +124,7 @@ pub fn work_in_spares(
 
 // The same, refused with 23 where the buffer is shorter than the report. How long this is, is known only after the
 // work; so the work is done twice, and a refused call leaves the buffer.
+// Kept: the C interface: the work has the number that a refine answered.
 pub fn work_reported(
     view: &View,
     counts: Counts,
@@ -137,8 +139,7 @@ pub fn work_reported(
         × (report.new ≡ report_left p report.old) }
     ensures spares_lent { SameTables spares.new spares.old }
 {
-    let mut none = [0u32; 1];
-    let first = work_in_spares(view, counts, list, &mut none, spares);
+    let first = work_in_spares(view, counts, list, &mut [], spares);
     let fitted = refining::spares::fit(first, report.len());
     if fitted.refusal != 0 {
         return fitted;
@@ -159,12 +160,12 @@ pub fn refine_list(
     ensures lent { SameTables tables.new tables.old }
     ensures spares_lent { SameTables spares.new spares.old }
 {
-    let mut none = [0u32; 1];
-    let made = work_in_spares(&tables.view(), counts, list, &mut none, spares);
+    let made = work_in_spares(&tables.view(), counts, list, &mut [], spares);
     refining::spares::carry_back(tables, counts, made, &spares.view())
 }
 
 // The same with a report of the slots that are written.
+// Kept: the C interface has the call without a report and this one.
 pub fn refine_list_reported(
     tables: &mut Tables,
     counts: Counts,

@@ -30,8 +30,7 @@ pub fn refine(tables: &mut Tables, counts: Counts, t: u32) -> Worked
     ensures lent { SameTables tables.new tables.old }
 {
     let stands = soundness::first_refusal(&tables.view(), counts);
-    let mut none = [0u32; 1];
-    refining::refine(tables, counts, t, stands, &mut none, 1)
+    refining::refine(tables, counts, t, stands, &mut [], 0)
 }
 
 // Refines triangle t, with a note by which it can be taken back.

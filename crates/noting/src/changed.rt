@@ -28,6 +28,7 @@ fn add_met(links: &[u32], generations: &[u8], odd: &mut [u32], n: usize, h: usiz
 }
 
 // Puts those whose bases meet triangle v behind them.
+// Kept: no heap; the room of the odd ones is fixed, with their number beside it.
 fn add_mets(links: &[u32], generations: &[u8], odd: &mut [u32], n: usize, v: u32) -> usize
     requires { (n + 2 < length odd.old) × ((i : ℕ) → i < 3 → Met links.now generations.now (3 * v + i)) }
     ensures { Joins links.now odd.old n (NearMets links.now generations.now v)
@@ -97,6 +98,7 @@ fn list_beside(links: &[u32], generations: &[u8], slots: &mut [u32], from: usize
 // Lists the slots in use that a refine along this chain changes, in rising order, behind the place that is answered: the
 // odd triangles of the chain before its last and those whose bases meet its end, all with those across their sides 1;
 // and its end with those beside it. (The last odd one meets the end, or is the end.)
+// Kept: no heap; the slots stand in a fixed array, in order.
 pub fn list_changed(view: &View, chain: Chain, slots: &mut [u32]) -> usize
     requires { Rising slots.old 32
         × ((t : ℕ) × (n : Counts) × Goes t (mesh_with n (seen view.now)) chain) }

@@ -85,6 +85,7 @@ fn write_note(view: &View, counts: Counts, t: u32, slots: &[u32], note: &mut [u3
 
 // Writes the note of a refine of t along this chain; or refuses it where what is lent is too short for it, and then where
 // a report of the refine does not fit.
+// Kept: no plainer: whether the report fits is asked after the length of the note.
 fn note_changes(
     view: &View,
     counts: Counts,
@@ -127,15 +128,13 @@ pub fn refine_noted(
         Err(refusal) => return Worked::refused(refusal, counts),
     };
     match note_changes(&tables.view(), counts, t, chain, note, true) {
-        Ok(()) => {
-            let mut none = [0u32; 1];
-            refining::carry_out(tables, counts, t, chain, &mut none, 1)
-        }
+        Ok(()) => refining::carry_out(tables, counts, t, chain, &mut [], 0),
         Err(refusal) => Worked::refused(refusal, counts),
     }
 }
 
 // Refines triangle t with a note as above, and reports the slots that it writes.
+// Kept: the C interface has the call without a report and this one.
 pub fn refine_noted_reported(
     tables: &mut Tables,
     counts: Counts,

@@ -25,6 +25,7 @@ fn pass_fours(numbers: &mut [u32], from: usize, x: u32) -> usize
 }
 
 // Goes on by N, if the next after these is below x.
+// Kept: no heap; the numbers stand in a fixed array, in order.
 fn pass_some<const N: usize>(numbers: &mut [u32], at: usize, x: u32) -> usize
     requires { (0 < at) × (at + N < length numbers.old) × (N < 5) }
     ensures { (l : List ℕ) (from : ℕ) → Rising l from → Passed l from x at numbers.old
@@ -53,6 +54,7 @@ fn move_back(numbers: &mut [u32], from: usize, to: usize)
 }
 
 // Puts x among those behind this place, unless it is there; then they stand behind the place that is answered.
+// Kept: no heap; the numbers stand in a fixed array, in order.
 pub fn insert(numbers: &mut [u32], from: usize, x: u32) -> usize
     requires { Rising numbers.old from × (3 < from) × (x < 4294967295) }
     ensures { Adds numbers.old from (λ y. y ≡ x) numbers.new result × (from ≤ result + 1) }

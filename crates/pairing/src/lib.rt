@@ -32,6 +32,7 @@ fn thread(corners: &[u32], triangles: usize, vertices: usize, heads: &mut [u32],
 }
 
 // The side out of v that is stamped at w, or the boundary.
+// Kept: what it answers is written as a link, and the tables that C lends hold the boundary as a number.
 fn stamped_at(corners: &[u32], slots: &[u32], v: usize, w: usize) -> u32
     requires w_in_bounds { w < length slots.now }
     requires side_in_bounds { get_or slots.now w 0 ≤ length corners.now }
@@ -51,6 +52,7 @@ fn stamped_at(corners: &[u32], slots: &[u32], v: usize, w: usize) -> u32
 
 impl Threaded<'_> {
     // Stamps each side out of v at its target. False where two have one target.
+    // Kept: the loop goes down a thread and counts no index.
     fn stamp(&self, slots: &mut [u32], v: usize) -> bool
         requires stamps { Stamps (threaded self.now) v slots.old }
         requires v_in_use { v < self.now.vertices }
@@ -70,6 +72,7 @@ impl Threaded<'_> {
     }
 
     // Links each side into v.
+    // Kept: the loop goes down a thread and counts no index.
     fn join(&self, slots: &[u32], links: &mut [u32], v: usize)
         requires stamping { Stamping (threaded self.now) v 0 slots.now }
         requires linking { Linking (threaded self.now) v (3 * self.now.triangles) links.old }

@@ -226,30 +226,12 @@ fn mean_of(rule: u32, a: u64, b: u64, n: usize, p: i32, s: i32) -> i32
     lowered(rounded(rule, m, a + b * k))
 }
 
-// The number of four bytes, low byte first.
-fn number_of(a: u8, b: u8, c: u8, d: u8) -> u32
-    ensures { result ≡ a + 256 * b + 65536 * c + 16777216 * d }
-{
-    a as u32 + 256 * (b as u32) + 65536 * (c as u32) + 16777216 * (d as u32)
-}
-
 // The number in the four bytes from place i on.
 pub fn number_at(bytes: &[u8], i: usize) -> u32
     requires { i + 4 ≤ length bytes.now }
     ensures { result ≡ number_at bytes.now i }
 {
-    number_of(bytes[i], bytes[i + 1], bytes[i + 2], bytes[i + 3])
-}
-
-// The signed number of four bytes whose unsigned number is n: from 2147483648 on it counts from the least number.
-fn signed_of(n: u32) -> i32
-    ensures { result ≡ signed n }
-{
-    if n < 2147483648 {
-        n as i32
-    } else {
-        lowered(n as u64 - 2147483648)
-    }
+    u32::from_le_bytes([bytes[i], bytes[i + 1], bytes[i + 2], bytes[i + 3]])
 }
 
 // The signed number in the four bytes from place i on.
@@ -257,5 +239,5 @@ pub fn signed_at(bytes: &[u8], i: usize) -> i32
     requires { i + 4 ≤ length bytes.now }
     ensures { result ≡ signed (number_at bytes.now i) }
 {
-    signed_of(number_at(bytes, i))
+    number_at(bytes, i).cast_signed()
 }

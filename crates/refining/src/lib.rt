@@ -173,6 +173,7 @@ pub fn refine(
 }
 
 // Refines triangle t of a mesh that stands or is refused itself, and reports the slots that it writes.
+// Kept: the C interface has the call without a report and this one.
 pub fn refine_reported(
     tables: &mut Tables,
     counts: Counts,

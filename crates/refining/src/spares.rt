@@ -11,6 +11,7 @@ use tables::{Counts, Tables, View};
 
 // Refines made one after the other: the number that the next one failed with, 0 for none, how many succeeded, and the
 // counts of the mesh in the spare tables.
+// Kept: the C interface: a refine answers the number of its refusal, 0 for none.
 #[derive(Clone, Copy)]
 pub struct Batch {
     pub refusal: u32,
@@ -22,6 +23,7 @@ pub struct Batch {
 
 // The answer of a call that refines several triangles in spare tables: how many succeeded, which is all of them
 // unless one failed, and the counts of the mesh that the spare tables hold, 0 where none was copied.
+// Kept: the C interface answers a number, 0 for none.
 #[repr(C)]
 #[derive(Clone, Copy)]
 pub struct BatchWorked {
@@ -62,6 +64,7 @@ pub struct BatchReported {
 }
 
 // Work whose report is to go into so many entries: refused with 23 where these are too few.
+// Kept: the C interface: the work has the number that a refine answered.
 pub fn fit(work: Batch, entries: usize) -> Batch
     requires { (work.splits ≤ 32768) × (work.flips ≤ 98304) }
     ensures { result ≡ fit_in entries work }
@@ -79,6 +82,7 @@ pub fn fit(work: Batch, entries: usize) -> Batch
 }
 
 // The end of such a call: the mesh that was made is copied back, unless the work failed half way.
+// Kept: the C interface: the work has the number that a refine answered.
 pub fn carry_back(tables: &mut Tables, counts: Counts, made: Batch, spares: &View) -> BatchWorked
     requires { (p : Progress) × (s : Spares) ×
         Made p s (mesh_with counts (held tables.old)) made (mesh_with made.counts (seen spares.now)) }

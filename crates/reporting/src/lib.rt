@@ -45,6 +45,7 @@ fn is_second_flipped(tables: &Tables, t: u32, f: u32) -> bool
 }
 
 // Tells the flip of child c, if there was one: with the triangle that its side 1 leads to.
+// Kept: no plainer: each of its three callers would test for the flip.
 fn tell_flip(tables: &Tables, c: u32, flipped: bool, report: &mut [u32], at: usize) -> usize
     requires { (3 * c + 1 < length tables.now.links.now)
         × (at + length (flip_after tables.now.links.now flipped c) ≤ length report.old) }
@@ -63,6 +64,7 @@ fn tell_flip(tables: &Tables, c: u32, flipped: bool, report: &mut [u32], at: usi
 
 // Tells the split of t into t, f and f + 1, and its flips, by the tables that it has left, if it is to be told. To look
 // before the split at the bases that the three are to meet would take more: a division for each, flipped or not.
+// Kept: no plainer: both of its callers would test for it.
 fn tell_split(
     tables: &Tables,
     t: u32,

@@ -1,17 +1,9 @@
 // Two meshes compared in every entry in use.
-ghost use Rattle.std.specs.Prelude.{◌&&◌, ◌≡◌, eqb};
+ghost use Rattle.std.specs.Prelude.{◌≡◌};
 ghost use Rattle.rules.specs.Notes.{same_in_use};
 ghost use Rattle.tables.specs.Lent.{mesh_with, seen, HasSlots};
 
 use tables::{Counts, View};
-
-// Whether counts and rule are the same.
-fn same_counts(a: Counts, b: Counts) -> bool
-    ensures { result ≡ (eqb b.vertices a.vertices && eqb b.triangles a.triangles
-        && eqb b.rule a.rule) }
-{
-    b.vertices == a.vertices && b.triangles == a.triangles && b.rule == a.rule
-}
 
 // Whether other tables, which have slots for the same counts, hold the same mesh.
 pub fn same_in_use(view: &View, counts: Counts, other: &View, other_counts: Counts) -> bool
@@ -23,7 +15,9 @@ pub fn same_in_use(view: &View, counts: Counts, other: &View, other_counts: Coun
     let triangles = counts.triangles as usize;
     let sides = 3 * triangles;
     let coordinates = 3 * (counts.vertices as usize);
-    same_counts(counts, other_counts)
+    other_counts.vertices == counts.vertices
+        && other_counts.triangles == counts.triangles
+        && other_counts.rule == counts.rule
         && other.corners[..sides] == view.corners[..sides]
         && other.links[..sides] == view.links[..sides]
         && other.generations[..triangles] == view.generations[..triangles]

@@ -75,6 +75,7 @@ fn load_beyond_2048(
 }
 
 // The same for all. A room is at most eight times the one below, so that clearing it takes little of a load's time.
+// Kept: the room is chosen by the size, and no const argument can be computed from it.
 pub fn load_in_room(
     corners: &mut [u32],
     links: &mut [u32],

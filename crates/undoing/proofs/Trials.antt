@@ -3,13 +3,11 @@ use borrow.Author.Tests.{le-leb, eq-eqb, ne_eqb}
 use mathlib.Core.Bool.{Bool, true, false}
 use mathlib.Core.List.{List}
 use mathlib.Core.Logic.{◌≢◌}
-use mathlib.Core.Path.{◌≡◌, refl, sym, ap, ◌∙◌}
+use mathlib.Core.Path.{◌≡◌, refl, sym, ◌∙◌}
 use Prim.Native.Nat.{ℕ, ◌≤◌}
-use Rattle.theory.proofs.Calls.CallRefusals.{refine_judged}
-use Rattle.theory.proofs.Calls.FirstThatHolds.{judged_refusal, judged_carried}
 use Rattle.theory.proofs.Numbers.Decide.{when_true}
 use Rattle.theory.proofs.Soundness.SoundTest.{sound_is}
-use Rattle.rules.specs.Calls.{Outcome, refine_refusal, refine_call}
+use Rattle.rules.specs.Calls.{refine_refusal}
 use Rattle.rules.specs.Notes.{noted_triangle, old_v, old_f, restored, refined, same_in_use}
 use Rattle.rules.specs.Sound.{is_sound}
 use Rattle.rules.specs.Tables.{Mesh}
@@ -22,21 +20,15 @@ use Rattle.undoing.specs.Trying.{cut, refines_to, accepted_cut}
 pub old_stands : (old : Mesh) {r : Bool} → r ≡ is_sound old → r ≡ true → 0 ≡ standing old
 old_stands old a x = sound_standing (when_true (sound_is old) (sym a ∙ x))
 
-module _ (t : ℕ) (old m : Mesh) {r : Bool} (a : r ≡ is_sound old) (x : r ≡ true) {o : Outcome}
-    (e : o ≡ refine_call t old) where
-  refusal_is : o.answer.refusal ≡ refine_refusal t old
-  refusal_is = ap (λ (y : Outcome). y.answer.refusal) e ∙ judged_refusal refl (refine_judged t old)
-
-  pub not_refined : o.answer.refusal ≢ 0 → false ≡ refines_to t old m
+module _ (t : ℕ) (old m : Mesh) {r : Bool} (a : r ≡ is_sound old) (x : r ≡ true) where
+  pub not_refined : {n : ℕ} → n ≡ refine_refusal t old → n ≢ 0 → false ≡ refines_to t old m
   unfolding refines_to
-  not_refined n = rw (← a, x, ne_eqb _ _ (λ z. n (refusal_is ∙ z))) refl
+  not_refined e n = rw (← a, x, ne_eqb _ _ (λ z. n (e ∙ z))) refl
 
-  pub refined_compared : o.answer.refusal ≡ 0 → {b : Bool} → b ≡ same_in_use m o.mesh → b ≡ refines_to t old m
+  pub refined_compared : refine_refusal t old ≡ 0 → {made : Mesh} → made ≡ refined t old
+      → {b : Bool} → b ≡ same_in_use m made → b ≡ refines_to t old m
   unfolding refines_to
-  refined_compared z f =
-      let carried = judged_carried (refine_judged t old) (sym (ap (λ (y : Outcome). y.answer.refusal) e) ∙ z) in
-      let made : o.mesh ≡ refined t old = ap (λ (y : Outcome). y.mesh) (e ∙ carried.1) in
-      rw (← a, x, eq-eqb _ _ (sym refusal_is ∙ z), ← made) f
+  refined_compared z q f = rw (← a, x, eq-eqb _ _ z, ← q) f
 
 -- ---- whether a note that fits is accepted
 

@@ -17,13 +17,14 @@ fn refines_to(view: &View, counts: Counts, room: &mut Tables, tried: Counts, t: 
     ensures { result ≡ refines_to t (mesh_with tried (held room.old))
         (mesh_with counts (seen view.now)) }
 {
-    if !soundness::is_sound(&room.view(), tried) {
+    let before = room.view();
+    if !soundness::is_sound(&before, tried) {
         return false;
     }
-    let made = refining::refine(room, tried, t, Ok(()), &mut [], 0);
-    if made.refusal != 0 {
+    let Ok(chain) = refining::find(&before, tried, t, Ok(())) else {
         return false;
-    }
+    };
+    let made = refining::carry_out(room, tried, t, chain, &mut [], 0);
     same_in_use(view, counts, &room.view(), made.counts)
 }
 

@@ -200,6 +200,7 @@ fn mend_after(
 }
 
 // Refines triangle t of a sound mesh, told from place `at` of the report on, and puts the marks right.
+// Kept: the C interface: a refine answers the number of its refusal, 0 for none.
 fn refine_marked(
     tables: &mut Tables,
     counts: Counts,

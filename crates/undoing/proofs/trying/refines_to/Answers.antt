@@ -1,13 +1,16 @@
 -- `undoing::trying::refines_to` meets its contract.
-use native.Mathlib.Omega.{arith}
 use mathlib.Core.Bool.{Bool}
-use mathlib.Core.Path.{◌≡◌, ap, ◌∙◌}
+use mathlib.Core.Path.{◌≡◌, sym, ap, ◌∙◌}
+use Rattle.std.specs.Prelude.{Ok, Err}
+use Rattle.rules.specs.Calls.{Outcome}
 use Rattle.rules.specs.Notes.{same_in_use}
 use Rattle.rules.specs.Sound.{is_sound}
 use Rattle.rules.specs.Spares.{Spares}
 use Rattle.rules.specs.Tables.{Mesh}
+use Rattle.tables.proofs.Refusing.{number_some}
 use Rattle.tables.specs.declared.Counts.{Counts}
 use Rattle.tables.specs.Lent.{mesh_with}
+use Rattle.refining.proofs.Refusing.{finds_goes, found_seen}
 use Rattle.undoing.proofs.Trials.{old_stands, not_refined, refined_compared}
 use Rattle.undoing.proofs.trying.refines_to.Goals as goal
 
@@ -20,15 +23,22 @@ same_by_tables : (m : Mesh) (n : Counts) {s t : Spares} {r : Bool} → r ≡ sam
     → r ≡ same_in_use m (mesh_with n t)
 same_by_tables m n e q = e ∙ ap (λ (s : Spares). same_in_use m (mesh_with n s)) q
 
-pub refine-made-requires : goal.refine-made-requires
-refine-made-requires c = old_stands _ (sound_by_tables _ c.is_sound.ensures c.view.ensures.same) c.if-not-is_sound.false
+pub find-requires : goal.find-requires
+find-requires c = old_stands _ c.is_sound.ensures c.if-not-is_sound.false
 
-pub returns-then-made-ne0 : goal.returns-then-made-ne0
-returns-then-made-ne0 c =
-    not_refined _ _ _ (sound_by_tables _ c.is_sound.ensures c.view.ensures.same) c.if-not-is_sound.false c.refine-made.ensures.refined
-    (λ z. omega (arith, c.if-made-ne0.true))
+pub returns-in_default : goal.returns-in_default
+returns-in_default c =
+    not_refined _ _ _ (sound_by_tables _ c.is_sound.ensures c.view-before.ensures.same) c.if-not-is_sound.false
+    (found_seen c.args.tried c.view-before.ensures.same c.args.t (Err c.in_default.field-0) c.in_default.ensures).0
+    (number_some _)
+
+pub carry_out-made-requires : goal.carry_out-made-requires
+carry_out-made-requires c =
+    finds_goes (found_seen c.args.tried c.view-before.ensures.same c.args.t (Ok c.in-Ok.chain) c.in-Ok.ensures)
 
 pub returns : goal.returns
 returns c =
-    refined_compared _ _ _ (sound_by_tables _ c.is_sound.ensures c.view.ensures.same) c.if-not-is_sound.false
-    c.refine-made.ensures.refined c.if-made-ne0.false (same_by_tables _ _ c.same_in_use.ensures c.view-2.ensures.same)
+    let found = found_seen c.args.tried c.view-before.ensures.same c.args.t (Ok c.in-Ok.chain) c.in-Ok.ensures in
+    refined_compared _ _ _ (sound_by_tables _ c.is_sound.ensures c.view-before.ensures.same) c.if-not-is_sound.false
+    (sym found.0) (ap (λ (o : Outcome). o.mesh) c.carry_out-made.ensures.refined)
+    (same_by_tables _ _ c.same_in_use.ensures c.view.ensures.same)
