@@ -76,14 +76,9 @@ pub fn take_back(
         locks,
     };
     restoring::putting::put_back_all(&mut tables, note);
-    Worked {
-        refusal: 0,
-        splits: 0,
-        flips: 0,
-        counts: Counts {
-            vertices: note[1],
-            triangles: note[2],
-            rule: counts.rule,
-        },
-    }
+    Worked::done(Counts {
+        vertices: note[1],
+        triangles: note[2],
+        rule: counts.rule,
+    })
 }
