@@ -50,7 +50,8 @@ pub fn refine_box(
     report: &mut [u32],
     spares: &mut Tables,
 ) -> BatchReported
-    ensures boxed { with_report report.new result.reported (batch_outcome result.worked (held tables.new) (held spares.new))
+    ensures boxed { with_report report.new result.reported (batch_outcome result.worked (held tables.new)
+        (held spares.new))
         ≡ reported_call (in_box (box_of low high below) (held spares.old))
         report.old (mesh_with counts (held tables.old)) }
     ensures lent { SameTables tables.new tables.old }

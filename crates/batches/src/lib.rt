@@ -1,5 +1,6 @@
 // The public calls that refine a list of triangles and that foresee it, without reports. None asks anything of its
-// caller, but the one named `known` is to be told whether the mesh stands or what refuses it. A refusal leaves the mesh.
+// caller, but the one named `known` is to be told whether the mesh stands or what refuses it. A refusal leaves the
+// mesh.
 #![tactic(auto)]
 
 ghost use Rattle.std.specs.Prelude.{◌≡◌};

@@ -17,8 +17,8 @@ use points::Point;
 use refining::spares::{Batch, BatchReported, BatchWorked};
 use tables::{Counts, Tables, View};
 
-// The box worked in tables that hold the mesh, with marks for 64 vertices in each word of INSIDE and for 64 triangles in
-// each of BITS, and for 64 of these in each of WORDS.
+// The box worked in tables that hold the mesh, with marks for 64 vertices in each word of INSIDE and for 64 triangles
+// in each of BITS, and for 64 of these in each of WORDS.
 fn refine_within<const INSIDE: usize, const BITS: usize, const WORDS: usize>(
     tables: &mut Tables,
     counts: Counts,
@@ -74,6 +74,7 @@ fn work_in_spares(
     ensures spares_lent { SameTables spares.new spares.old }
 {
     view.copy_mesh(counts, spares);
+    // Kept: no plainer: the marks are arrays of a constant size, which a test has to choose.
     if spares.generations.len() <= 2048 && spares.positions.len() <= 6144 {
         return refine_within::<32, 32, 1>(spares, counts, low, high, below, report);
     }
@@ -100,6 +101,7 @@ fn work_reported(
 {
     let first = work_in_spares(view, counts, low, high, below, &mut [], spares);
     let fitted = refining::spares::fit(first, report.len());
+    // Kept: no plainer: what was made stands beside the refusal, so that a Result would hold it twice.
     if fitted.refusal != 0 {
         return fitted;
     }
@@ -137,7 +139,8 @@ pub fn refine_box_reported(
     spares: &mut Tables,
 ) -> BatchReported
     requires { MayWork (mesh_with counts (held tables.old)) (held spares.old) }
-    ensures boxed { with_report report.new result.reported (batch_outcome result.worked (held tables.new) (held spares.new))
+    ensures boxed { with_report report.new result.reported (batch_outcome result.worked (held tables.new)
+        (held spares.new))
         ≡ reported_done (refine_in_box (box_of low high below) (mesh_with counts (held tables.old)))
         report.old (mesh_with counts (held tables.old)) (held spares.old) }
     ensures lent { SameTables tables.new tables.old }

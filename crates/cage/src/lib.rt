@@ -48,14 +48,9 @@ pub fn load(tables: &mut Tables, counts: Counts, rule: u32, cage: &[u8]) -> Work
     decoding::writing::place(cage, 3 * (v as usize), tables.positions);
     decoding::writing::clear(f as usize, tables.generations);
     decoding::writing::clear(f as usize, tables.locks);
-    Worked {
-        refusal: 0,
-        splits: 0,
-        flips: 0,
-        counts: Counts {
-            vertices: v,
-            triangles: f,
-            rule,
-        },
-    }
+    Worked::done(Counts {
+        vertices: v,
+        triangles: f,
+        rule,
+    })
 }

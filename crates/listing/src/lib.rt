@@ -42,12 +42,7 @@ fn handle(
         return Worked::refused(Refusal::NotInUse, counts);
     }
     if tables::generation_at(start, t) < tables::generation_at(tables.view().generations, t) {
-        return Worked {
-            refusal: 0,
-            splits: 0,
-            flips: 0,
-            counts,
-        };
+        return Worked::done(counts);
     }
     refining::refine(tables, counts, t, Ok(()), report, at)
 }

@@ -1,53 +1,24 @@
-// The change of one record, made again on a mesh whose first refusal is known.
+// The change of one record, made again on a mesh that stands or is refused itself.
 #![tactic(auto)]
 
-ghost use Rattle.std.specs.Prelude.{true, List, ◌≡◌, ℕ, ◌+◌, ◌*◌, ◌/◌, ◌≤◌, length, take};
-ghost use Rattle.rules.specs.Boxes.{box_call};
+ghost use Rattle.std.specs.Prelude.{true, List, ◌≡◌, ℕ, ◌+◌, ◌/◌, ◌≤◌, length};
 ghost use Rattle.rules.specs.History.{changed};
-ghost use Rattle.rules.specs.Lists.{list_call};
-ghost use Rattle.rules.specs.Notes.{take_back_call};
 ghost use Rattle.rules.specs.Numbers.{number_at, signed};
+ghost use Rattle.rules.specs.Calls.{lock_call};
+ghost use Rattle.rules.specs.Notes.{take_back_call};
 ghost use Rattle.tables.specs.Answers.{worked_outcome};
-ghost use Rattle.tables.specs.Lent.{mesh_now, spares_now};
+ghost use Rattle.tables.specs.Lent.{held, mesh_now, mesh_with, spares_now, SameTables};
+ghost use Rattle.tables.specs.Refusals.{refused};
 ghost use Rattle.tables.specs.Standing.{standing};
-ghost use Rattle.journal.specs.Journal.{numbers_in, is_kind, box_in, entry_of};
+ghost use Rattle.journal.specs.Journal.{numbers_in, is_kind, entry_of};
 ghost use Rattle.journal.specs.Kinds.{number_of};
-ghost use Rattle.making.specs.Making.{Makes};
+ghost use Rattle.making.specs.Making.{told, counts_after, Makes};
 ghost use Rattle.journal.specs.Replay.{call_of, numbers_of};
 
 use journal::kinds::Kind;
 use points::Point;
-use refining::spares::BatchWorked;
-use tables::{Counts, Worked};
-
-// What a call answered: its refusal, or 0, and the counts.
-#[derive(Clone, Copy)]
-pub struct Made {
-    pub refusal: u32,
-    pub counts: Counts,
-}
-
-impl From<Worked> for Made {
-    ghost from_gives = { λ worked made. (made.refusal ≡ worked.refusal) × (made.counts ≡ worked.counts) };
-
-    fn from(worked: Worked) -> Made {
-        Made {
-            refusal: worked.refusal,
-            counts: worked.counts,
-        }
-    }
-}
-
-impl From<BatchWorked> for Made {
-    ghost from_gives = { λ worked made. (made.refusal ≡ worked.refusal) × (made.counts ≡ worked.counts) };
-
-    fn from(worked: BatchWorked) -> Made {
-        Made {
-            refusal: worked.refusal,
-            counts: worked.counts,
-        }
-    }
-}
+use tables::refusals::Refusal;
+use tables::{Counts, Tables, Worked};
 
 // The numbers that a change of this kind, with a body of this size, has to be read into a table for.
 pub fn numbers_of(kind: Kind, size: usize) -> usize
@@ -59,61 +30,16 @@ pub fn numbers_of(kind: Kind, size: usize) -> usize
     }
 }
 
-// Reads the first n numbers of a body into the front of a table.
-fn read_numbers(body: &[u8], n: usize, numbers: &mut [u32])
-    requires { (4 * n ≤ length body.now) × (n ≤ length numbers.old) }
-    ensures { take n numbers.new ≡ numbers_in n body.now }
-{
-    for i in 0..n {
-        numbers[i] = points::number_at(body, 4 * i);
-    }
-}
-
-// Makes a list.
-fn make_list(
-    positions: &mut [i32],
-    corners: &mut [u32],
-    links: &mut [u32],
-    generations: &mut [u8],
-    locks: &mut [u8],
-    counts: Counts,
-    spare_positions: &mut [i32],
-    spare_corners: &mut [u32],
-    spare_links: &mut [u32],
-    spare_generations: &mut [u8],
-    spare_locks: &mut [u8],
-    numbers: &mut [u32],
-    bad: u32,
-    body: &[u8],
-) -> Made
-    requires bad_value { bad ≡ standing (mesh_now counts positions.old corners.old links.old generations.old
-        locks.old) }
-    requires body_in_bounds { length body.now / 4 ≤ length numbers.old }
-    ensures { Makes (list_call (numbers_in (length body.now / 4) body.now)
-        (spares_now spare_positions.old spare_corners.old spare_links.old
-        spare_generations.old spare_locks.old)
-        (mesh_now counts positions.old corners.old links.old
-        generations.old locks.old))
-        result (mesh_now result.counts positions.new corners.new links.new
-        generations.new locks.new) }
+// The numbers of a body, read into the front of a table.
+fn numbers_in<'a>(body: &[u8], table: &'a mut [u32]) -> &'a [u32]
+    requires { length body.now / 4 ≤ length table.old }
+    ensures { result.now ≡ numbers_in (length body.now / 4) body.now }
 {
     let n = body.len() / 4;
-    read_numbers(body, n, numbers);
-    Made::from(batches::refine_list_known(
-        positions,
-        corners,
-        links,
-        generations,
-        locks,
-        counts,
-        &numbers[..n],
-        spare_positions,
-        spare_corners,
-        spare_links,
-        spare_generations,
-        spare_locks,
-        bad,
-    ))
+    for i in 0..n {
+        table[i] = points::number_at(body, 4 * i);
+    }
+    &table[..n]
 }
 
 // The point in the three numbers from place i on.
@@ -132,75 +58,63 @@ fn point_at(body: &[u8], i: usize) -> Point
     }
 }
 
-// Makes a box.
-fn make_box(
+// The counts after a call, or what it is refused with.
+fn told(refusal: u32, counts: Counts) -> Result<Counts, u32>
+    ensures { result ≡ told refusal counts }
+{
+    if refusal == 0 {
+        Ok(counts)
+    } else {
+        Err(refusal)
+    }
+}
+
+// Sets or clears a lock, and leaves what is lent beside the locks.
+// Kept: what is read only is lent for writing here, since tables of one value are not lent apart for both.
+fn lock_in(
     positions: &mut [i32],
     corners: &mut [u32],
     links: &mut [u32],
     generations: &mut [u8],
     locks: &mut [u8],
     counts: Counts,
-    spare_positions: &mut [i32],
-    spare_corners: &mut [u32],
-    spare_links: &mut [u32],
-    spare_generations: &mut [u8],
-    spare_locks: &mut [u8],
-    bad: u32,
-    body: &[u8],
-) -> Made
-    requires bad_value { bad ≡ standing (mesh_now counts positions.old corners.old links.old generations.old
-        locks.old) }
-    requires body_len { length body.now ≡ 28 }
-    ensures { Makes (box_call (box_in body.now)
-        (spares_now spare_positions.old spare_corners.old spare_links.old
-        spare_generations.old spare_locks.old)
-        (mesh_now counts positions.old corners.old links.old
-        generations.old locks.old))
-        result (mesh_now result.counts positions.new corners.new links.new
-        generations.new locks.new) }
+    t: u32,
+    on: bool,
+    stands: Result<(), Refusal>,
+) -> Worked
+    requires { refused stands ≡ standing (mesh_now counts positions.old corners.old links.old generations.old locks.old) }
+    ensures { worked_outcome result (spares_now positions.new corners.new links.new generations.new locks.new)
+        ≡ lock_call on t (mesh_now counts positions.old corners.old links.old generations.old locks.old) }
 {
-    Made::from(boxes::refine_box_known(
+    mesh::lock_known(
         positions,
         corners,
         links,
         generations,
         locks,
         counts,
-        point_at(body, 0),
-        point_at(body, 12),
-        points::number_at(body, 24),
-        spare_positions,
-        spare_corners,
-        spare_links,
-        spare_generations,
-        spare_locks,
-        bad,
-    ))
+        t,
+        on,
+        stands,
+    )
 }
 
-// Makes a take-back.
-fn make_back(
-    positions: &[i32],
+// Takes back the refine that wrote the note, and leaves the positions.
+// Kept: the same.
+fn take_back_in(
+    positions: &mut [i32],
     corners: &mut [u32],
     links: &mut [u32],
     generations: &mut [u8],
     locks: &mut [u8],
     counts: Counts,
-    numbers: &mut [u32],
-    bad: u32,
-    body: &[u8],
+    stands: Result<(), Refusal>,
+    note: &[u32],
 ) -> Worked
-    requires bad_value { bad ≡ standing (mesh_now counts positions.now corners.old links.old generations.old
-        locks.old) }
-    requires body_in_bounds { length body.now / 4 ≤ length numbers.old }
-    ensures { worked_outcome result positions.now corners.new links.new generations.new
-        locks.new
-        ≡ take_back_call (numbers_in (length body.now / 4) body.now) (mesh_now counts
-        positions.now corners.old links.old generations.old
-        locks.old) }
+    requires { refused stands ≡ standing (mesh_now counts positions.old corners.old links.old generations.old locks.old) }
+    ensures { worked_outcome result (spares_now positions.new corners.new links.new generations.new locks.new)
+        ≡ take_back_call note.now (mesh_now counts positions.old corners.old links.old generations.old locks.old) }
 {
-    let n = body.len() / 4;
-    read_numbers(body, n, numbers);
     undoing::take_back(
         positions,
         corners,
@@ -208,127 +122,86 @@ fn make_back(
         generations,
         locks,
         counts,
-        bad,
-        &numbers[..n],
+        stands,
+        note,
     )
 }
 
-// Makes the change of this kind and this body. The spare tables and the table for numbers are worked in.
+// Makes the change of this kind and this body, and tells the counts after it, or what it is refused with. The spare
+// tables and the table for numbers are worked in.
 pub fn make(
-    positions: &mut [i32],
-    corners: &mut [u32],
-    links: &mut [u32],
-    generations: &mut [u8],
-    locks: &mut [u8],
+    tables: &mut Tables,
     counts: Counts,
-    spare_positions: &mut [i32],
-    spare_corners: &mut [u32],
-    spare_links: &mut [u32],
-    spare_generations: &mut [u8],
-    spare_locks: &mut [u8],
+    spares: &mut Tables,
     numbers: &mut [u32],
-    bad: u32,
-    kind: u32,
+    stands: Result<(), Refusal>,
+    kind: Kind,
     body: &[u8],
-) -> Made
-    requires bad_value { bad ≡ standing (mesh_now counts positions.old corners.old links.old generations.old
-        locks.old) }
-    requires body_value { (is_kind kind (length body.now) ≡ true)
-        × (numbers_of (entry_of kind body.now) ≤ length numbers.old) }
-    ensures { Makes (changed (call_of
-        (spares_now spare_positions.old spare_corners.old spare_links.old
-        spare_generations.old spare_locks.old)
-        (entry_of kind body.now))
-        (mesh_now counts positions.old corners.old links.old
-        generations.old locks.old))
-        result (mesh_now result.counts positions.new corners.new links.new
-        generations.new locks.new) }
+) -> Result<Counts, u32>
+    requires stands_value { refused stands ≡ standing (mesh_with counts (held tables.old)) }
+    requires body_value { (is_kind (number_of kind) (length body.now) ≡ true)
+        × (numbers_of (entry_of (number_of kind) body.now) ≤ length numbers.old) }
+    ensures makes { Makes (changed (call_of (held spares.old) (entry_of (number_of kind) body.now))
+        (mesh_with counts (held tables.old)))
+        result (mesh_with (counts_after counts result) (held tables.new)) }
+    ensures lent { SameTables tables.new tables.old }
+    ensures spares_lent { SameTables spares.new spares.old }
 {
-    let kind = Kind::try_from(kind).unwrap();
     match kind {
-        Kind::Load => Made::from(mesh::load(
-            positions,
-            corners,
-            links,
-            generations,
-            locks,
-            counts,
-            points::number_at(body, 0),
-            &body[4..],
-        )),
-        Kind::Refine => Made::from(refining::refine(
-            positions,
-            corners,
-            links,
-            generations,
-            locks,
-            counts,
-            points::number_at(body, 0),
-            bad,
-            &mut [0],
-            1,
-        )),
-        Kind::WholeStep => Made::from(mesh::whole_step_known(
-            positions,
-            corners,
-            links,
-            generations,
-            locks,
-            counts,
-            bad,
-        )),
-        Kind::RefineList => make_list(
-            positions,
-            corners,
-            links,
-            generations,
-            locks,
-            counts,
-            spare_positions,
-            spare_corners,
-            spare_links,
-            spare_generations,
-            spare_locks,
-            numbers,
-            bad,
-            body,
-        ),
-        Kind::RefineBox => make_box(
-            positions,
-            corners,
-            links,
-            generations,
-            locks,
-            counts,
-            spare_positions,
-            spare_corners,
-            spare_links,
-            spare_generations,
-            spare_locks,
-            bad,
-            body,
-        ),
-        Kind::Lock | Kind::Unlock => Made::from(mesh::lock_known(
-            positions,
-            corners,
-            links,
-            generations,
-            locks,
-            counts,
-            points::number_at(body, 0),
-            kind == Kind::Lock,
-            bad,
-        )),
-        Kind::TakeBack => Made::from(make_back(
-            positions,
-            corners,
-            links,
-            generations,
-            locks,
-            counts,
-            numbers,
-            bad,
-            body,
-        )),
+        Kind::Load => {
+            let done = mesh::load(tables, counts, points::number_at(body, 0), &body[4..]);
+            told(done.refusal, done.counts)
+        }
+        Kind::Refine => {
+            let t = points::number_at(body, 0);
+            let done = refining::refine(tables, counts, t, stands, &mut [0], 1);
+            told(done.refusal, done.counts)
+        }
+        Kind::WholeStep => {
+            let done = mesh::whole_step_known(tables, counts, stands);
+            told(done.refusal, done.counts)
+        }
+        Kind::RefineList => {
+            let list = numbers_in(body, numbers);
+            let done = batches::refine_list_known(tables, counts, list, spares, stands);
+            told(done.refusal, done.counts)
+        }
+        Kind::RefineBox => {
+            let low = point_at(body, 0);
+            let high = point_at(body, 12);
+            let below = points::number_at(body, 24);
+            let done = boxes::refine_box_known(tables, counts, low, high, below, spares, stands);
+            told(done.refusal, done.counts)
+        }
+        Kind::Lock | Kind::Unlock => {
+            let t = points::number_at(body, 0);
+            let on = kind == Kind::Lock;
+            let done = lock_in(
+                tables.positions,
+                tables.corners,
+                tables.links,
+                tables.generations,
+                tables.locks,
+                counts,
+                t,
+                on,
+                stands,
+            );
+            told(done.refusal, done.counts)
+        }
+        Kind::TakeBack => {
+            let note = numbers_in(body, numbers);
+            let done = take_back_in(
+                tables.positions,
+                tables.corners,
+                tables.links,
+                tables.generations,
+                tables.locks,
+                counts,
+                stands,
+                note,
+            );
+            told(done.refusal, done.counts)
+        }
     }
 }

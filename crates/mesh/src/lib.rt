@@ -120,12 +120,7 @@ pub fn lock_known(
         return Worked::refused(refusal, counts);
     }
     locks[t as usize] = on.into();
-    Worked {
-        refusal: 0,
-        splits: 0,
-        flips: 0,
-        counts,
-    }
+    Worked::done(counts)
 }
 
 // Sets or clears the lock of triangle t.

@@ -24,7 +24,7 @@ use Rattle.rules.specs.Spares.{Spares}
 use Rattle.rules.specs.Tables.{Mesh}
 use Rattle.journal.specs.Journal.{Entry, loaded, refined, stepped, refined_each, refined_in_box, lock_set, taken_back}
 use Rattle.journal.specs.Journal.{stop_at, size_at, kind_at, body_at, record_length, is_kind, entry_of, entry_at}
-use Rattle.making.specs.Making.{Makes}
+use Rattle.making.specs.Making.{refusal_in, Makes}
 use Rattle.std.proofs.Common.{Result, Ok, Err, IfOk}
 use Rattle.journal.specs.Stops.{IsRecord, ReadsRecord, StopsAt}
 use Rattle.journal.specs.declared.stops.Record.{Record}
@@ -35,7 +35,7 @@ use Rattle.redoing.specs.Replaying.{stop_of, refusal_of, replay_told, Ready, Mak
 use Rattle.journal.specs.Recording.{StopsWith, no_record, too_many, refuses, LentAlike}
 use Rattle.journal.specs.Replay.{call_of, numbers_of, Lent, Replay, stopped, one_more, replay_first, started_at}
 use Rattle.journal.specs.Replay.{replay}
-use Rattle.making.specs.declared.Made.{Made}
+use Rattle.tables.specs.declared.Counts.{Counts}
 use Rattle.redoing.specs.declared.Replayed.{Replayed}
 use Rattle.journal.proofs.Changes.{refused_mesh}
 use Rattle.journal.proofs.Histories.{nothing_left}
@@ -153,7 +153,7 @@ module _ {bytes : List ℕ} {r : Replayed} (R : Ready bytes r) (size kind k : �
         let x : StopsWith lent rest m 7 0 = too_many R.whole (omega arith) in
         stays a b (rw (e, f) x) g
 
-    module _ (s : Replayed) (n : Mesh) (w : Made) (l : k ≤ lent.numbers)
+    module _ (s : Replayed) (n : Mesh) (l : k ≤ lent.numbers) {w : Result Counts ℕ}
         (W : Makes (changed (call_of lent.spares
         (entry_of kind (take (r.end + 12 + size - (r.end + 12)) (drop (r.end + 12) bytes)))) m) w n) where
       makes_here : Makes (changed (call_of lent.spares (entry_at rest)) m) w n
@@ -162,21 +162,34 @@ module _ {bytes : List ℕ} {r : Replayed} (R : Ready bytes r) (size kind k : �
       room_here : numbers_of (entry_at rest) ≤ lent.numbers
       room_here = let q = numbers_here in omega arith
 
-      pub refused_next : w.refusal ≢ 0 → s.records ≡ r.records → s.end ≡ r.end → s.stop ≡ 5
-          → s.refusal ≡ w.refusal → MakesNext lent bytes r m s n
-      refused_next x a b e f =
+      refused_here : refusal_in w ≢ 0 → s.records ≡ r.records → s.end ≡ r.end → s.stop ≡ 5
+          → s.refusal ≡ refusal_in w → MakesNext lent bytes r m s n
+      refused_here x a b e f =
           let c = call_of lent.spares (entry_at rest) in
           let q = makes_here.refusal in
           let y : (changed c m).answer.refusal ≢ 0 = λ z. x (q ∙ z) in
           let h : StopsWith lent rest m 5 (changed c m).answer.refusal = refuses R.whole room_here y in
           stays a b (rw (e, f, q) h) (makes_here.mesh ∙ refused_mesh c m y)
 
-      pub carried_next : w.refusal ≡ 0 → s.records ≡ r.records + 1 → s.end ≡ r.end + 12 + size + 4
+      carried_here : refusal_in w ≡ 0 → s.records ≡ r.records + 1 → s.end ≡ r.end + 12 + size + 4
           → s.stop ≡ stop_at (take (length bytes - s.end) (drop s.end bytes)) → s.refusal ≡ 0
           → MakesNext lent bytes r m s n
-      carried_next z a b e f =
+      carried_here z a b e f =
           goes a (omega arith) (rw (lent_tail s.end bytes) at e) f room_here
           (sym makes_here.refusal ∙ z) makes_here.mesh
+
+    module _ (s : Replayed) (n : Mesh) (l : k ≤ lent.numbers) where
+      pub refused_next : {w : ℕ} → Makes (changed (call_of lent.spares
+          (entry_of kind (take (r.end + 12 + size - (r.end + 12)) (drop (r.end + 12) bytes)))) m) (Err w) n
+          → s.records ≡ r.records → s.end ≡ r.end → s.stop ≡ 5 → s.refusal ≡ w → MakesNext lent bytes r m s n
+      refused_next W a b e f = refused_here s n l W W.some a b e f
+
+      pub carried_next : {counts : Counts} → Makes (changed (call_of lent.spares
+          (entry_of kind (take (r.end + 12 + size - (r.end + 12)) (drop (r.end + 12) bytes)))) m) (Ok counts) n
+          → s.records ≡ r.records + 1 → s.end ≡ r.end + 12 + size + 4
+          → s.stop ≡ stop_at (take (length bytes - s.end) (drop s.end bytes)) → s.refusal ≡ 0
+          → MakesNext lent bytes r m s n
+      carried_next W a b e f = carried_here s n l W refl a b e f
 
 -- ---- all records
 

@@ -2,13 +2,15 @@
 #![tactic(auto)]
 
 ghost use Rattle.std.specs.Prelude.{◌≡◌, length, drop, IfOk};
-ghost use Rattle.tables.specs.Lent.{mesh_now, spares_now};
+ghost use Rattle.tables.specs.Lent.{held, mesh_with, SameTables};
+ghost use Rattle.tables.specs.Refusals.{refused};
 ghost use Rattle.tables.specs.Standing.{standing};
 ghost use Rattle.journal.specs.Stops.{IsRecord};
 ghost use Rattle.redoing.specs.Replaying.{told, Ready, MakesNext};
 
 use journal::stops::{Record, Stop};
-use tables::Counts;
+use tables::refusals::Refusal;
+use tables::{Counts, Tables};
 
 // The answer of a replay: the counts, why it stopped, what the next record's call is refused with, how many records
 // were replayed, and where the next one starts.
@@ -52,38 +54,25 @@ impl Progress {
     }
 }
 
-// Replays the next record, which is whole, on a mesh whose first refusal is known.
+// Replays the next record, which is whole, on a mesh that stands or is refused itself.
 pub fn one_more(
-    positions: &mut [i32],
-    corners: &mut [u32],
-    links: &mut [u32],
-    generations: &mut [u8],
-    locks: &mut [u8],
+    tables: &mut Tables,
     state: Progress,
     next: Record,
-    spare_positions: &mut [i32],
-    spare_corners: &mut [u32],
-    spare_links: &mut [u32],
-    spare_generations: &mut [u8],
-    spare_locks: &mut [u8],
+    spares: &mut Tables,
     numbers: &mut [u32],
-    bad: u32,
+    stands: Result<(), Refusal>,
     bytes: &[u8],
 ) -> Progress
-    requires bad_value { bad ≡ standing (mesh_now state.counts positions.old corners.old links.old
-        generations.old locks.old) }
+    requires stands_value { refused stands ≡ standing (mesh_with state.counts (held tables.old)) }
     requires ready { Ready bytes.now (told state) }
     requires is_next { IsRecord (drop state.end bytes.now) next }
-    ensures makes { MakesNext (record {
-      spares = spares_now spare_positions.old spare_corners.old
-          spare_links.old spare_generations.old spare_locks.old;
-      numbers = length numbers.old;
-    }) bytes.now
-        (told state) (mesh_now state.counts positions.old corners.old links.old
-        generations.old locks.old)
-        (told result) (mesh_now result.counts positions.new corners.new links.new
-        generations.new locks.new) }
+    ensures makes { MakesNext (record { spares = held spares.old; numbers = length numbers.old }) bytes.now
+        (told state) (mesh_with state.counts (held tables.old))
+        (told result) (mesh_with result.counts (held tables.new)) }
     ensures read { IfOk result.next (IsRecord (drop result.end bytes.now)) }
+    ensures lent { SameTables tables.new tables.old }
+    ensures spares_lent { SameTables spares.new spares.old }
 {
     if numbers.len() < making::numbers_of(next.kind, next.size) {
         return Progress {
@@ -93,35 +82,28 @@ pub fn one_more(
     }
     let first = state.end + 12;
     let last = first + next.size;
-    let done = making::make(
-        positions,
-        corners,
-        links,
-        generations,
-        locks,
+    let body = &bytes[first..last];
+    match making::make(
+        tables,
         state.counts,
-        spare_positions,
-        spare_corners,
-        spare_links,
-        spare_generations,
-        spare_locks,
+        spares,
         numbers,
-        bad,
-        u32::from(next.kind),
-        &bytes[first..last],
-    );
-    if done.refusal != 0 {
-        return Progress {
-            counts: done.counts,
-            next: Err(Stop::Refused(done.refusal)),
+        stands,
+        next.kind,
+        body,
+    ) {
+        Err(refusal) => Progress {
+            next: Err(Stop::Refused(refusal)),
             ..state
-        };
-    }
-    let end = last + 4;
-    Progress {
-        counts: done.counts,
-        records: state.records + 1,
-        end,
-        next: journal::stops::read_record(&bytes[end..]),
+        },
+        Ok(counts) => {
+            let end = last + 4;
+            Progress {
+                counts,
+                records: state.records + 1,
+                end,
+                next: journal::stops::read_record(&bytes[end..]),
+            }
+        }
     }
 }

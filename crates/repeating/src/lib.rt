@@ -2,45 +2,34 @@
 #![tactic(auto)]
 
 ghost use Rattle.std.specs.Prelude.{◌≡◌, length};
-ghost use Rattle.tables.specs.Lent.{mesh_now, spares_now};
+ghost use Rattle.tables.specs.Lent.{held, mesh_with, SameTables};
+ghost use Rattle.tables.specs.Refusals.{refused};
 ghost use Rattle.tables.specs.Standing.{standing};
 ghost use Rattle.journal.specs.Replay.{replay_first};
 ghost use Rattle.redoing.specs.Replaying.{replay_told};
 
 use redoing::{Progress, Replayed};
-use tables::Counts;
+use tables::refusals::Refusal;
+use tables::{Counts, Tables};
 
-// Replays records from the front of the bytes on, on a mesh whose first refusal is known. What a call carries out is
-// sound, so that it need not be tested again.
+// Replays records from the front of the bytes on, on a mesh that stands or is refused itself. What a call carries out
+// is sound, so that it need not be tested again.
 pub fn replay_all(
-    positions: &mut [i32],
-    corners: &mut [u32],
-    links: &mut [u32],
-    generations: &mut [u8],
-    locks: &mut [u8],
+    tables: &mut Tables,
     counts: Counts,
-    spare_positions: &mut [i32],
-    spare_corners: &mut [u32],
-    spare_links: &mut [u32],
-    spare_generations: &mut [u8],
-    spare_locks: &mut [u8],
+    spares: &mut Tables,
     numbers: &mut [u32],
-    bad: u32,
+    stands: Result<(), Refusal>,
     bytes: &[u8],
 ) -> Replayed
-    requires { bad ≡ standing (mesh_now counts positions.old corners.old links.old generations.old
-        locks.old) }
-    ensures { replay_told result (mesh_now result.counts positions.new corners.new
-        links.new generations.new locks.new)
-        ≡ replay_first (length bytes.now) (record {
-          spares = spares_now spare_positions.old spare_corners.old
-              spare_links.old spare_generations.old spare_locks.old;
-          numbers = length numbers.old;
-        }) bytes.now
-        (mesh_now counts positions.old corners.old links.old
-        generations.old locks.old) }
+    requires { refused stands ≡ standing (mesh_with counts (held tables.old)) }
+    ensures replayed { replay_told result (mesh_with result.counts (held tables.new))
+        ≡ replay_first (length bytes.now) (record { spares = held spares.old; numbers = length numbers.old }) bytes.now
+        (mesh_with counts (held tables.old)) }
+    ensures lent { SameTables tables.new tables.old }
+    ensures spares_lent { SameTables spares.new spares.old }
 {
-    let mut known = bad;
+    let mut known = stands;
     let mut state = Progress {
         counts,
         records: 0,
@@ -48,24 +37,8 @@ pub fn replay_all(
         next: journal::stops::read_record(bytes),
     };
     while let Ok(next) = state.next {
-        state = redoing::one_more(
-            positions,
-            corners,
-            links,
-            generations,
-            locks,
-            state,
-            next,
-            spare_positions,
-            spare_corners,
-            spare_links,
-            spare_generations,
-            spare_locks,
-            numbers,
-            known,
-            bytes,
-        );
-        known = 0;
+        state = redoing::one_more(tables, state, next, spares, numbers, known, bytes);
+        known = Ok(());
     }
     state.told()
 }

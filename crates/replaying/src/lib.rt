@@ -2,43 +2,34 @@
 #![tactic(auto)]
 
 ghost use Rattle.std.specs.Prelude.{◌≡◌, length};
-ghost use Rattle.tables.specs.Lent.{mesh_now, spares_now};
+ghost use Rattle.tables.specs.Lent.{held, mesh_with, SameTables};
 ghost use Rattle.journal.specs.Replay.{replay};
 ghost use Rattle.redoing.specs.Replaying.{replay_told};
 
 use journal::stops::Stop;
 use redoing::{Progress, Replayed};
-use tables::Counts;
+use tables::{Counts, Tables};
 
 // Replays a journal from a place on, or from its first record where the place is before it: makes the calls of its
 // records in order, up to the first that is not whole or is refused.
 pub fn replay(
-    positions: &mut [i32],
-    corners: &mut [u32],
-    links: &mut [u32],
-    generations: &mut [u8],
-    locks: &mut [u8],
+    tables: &mut Tables,
     counts: Counts,
-    spare_positions: &mut [i32],
-    spare_corners: &mut [u32],
-    spare_links: &mut [u32],
-    spare_generations: &mut [u8],
-    spare_locks: &mut [u8],
+    spares: &mut Tables,
     numbers: &mut [u32],
     bytes: &[u8],
     at: usize,
 ) -> Replayed
-    ensures { replay_told result (mesh_now result.counts positions.new corners.new
-        links.new generations.new locks.new)
-        ≡ replay (record {
-          spares = spares_now spare_positions.old spare_corners.old
-              spare_links.old spare_generations.old spare_locks.old;
-          numbers = length numbers.old;
-        }) bytes.now at
-        (mesh_now counts positions.old corners.old links.old
-        generations.old locks.old) }
+    ensures replayed { replay_told result (mesh_with result.counts (held tables.new))
+        ≡ replay (record { spares = held spares.old; numbers = length numbers.old }) bytes.now at
+        (mesh_with counts (held tables.old)) }
+    ensures lent { SameTables tables.new tables.old }
+    ensures spares_lent { SameTables spares.new spares.old }
 {
-    if let Err(stop) = journal::stops::read_header(bytes, positions.len() / 3, generations.len()) {
+    let view = tables.view();
+    let vertex_slots = view.positions.len() / 3;
+    let triangle_slots = view.generations.len();
+    if let Err(stop) = journal::stops::read_header(bytes, vertex_slots, triangle_slots) {
         let none = Progress {
             counts,
             records: 0,
@@ -57,23 +48,8 @@ pub fn replay(
         };
         return none.told();
     }
-    let bad = soundness::first_refusal(positions, corners, links, generations, locks, counts);
-    let all = repeating::replay_all(
-        positions,
-        corners,
-        links,
-        generations,
-        locks,
-        counts,
-        spare_positions,
-        spare_corners,
-        spare_links,
-        spare_generations,
-        spare_locks,
-        numbers,
-        bad,
-        &bytes[start..],
-    );
+    let stands = soundness::first_refusal(&tables.view(), counts);
+    let all = repeating::replay_all(tables, counts, spares, numbers, stands, &bytes[start..]);
     Replayed {
         end: start + all.end,
         ..all

@@ -116,8 +116,11 @@ fn report_length(view: &View, chain: Chain) -> usize
     5 * (chain.splits() as usize) - 2 + own + second + third
 }
 
-// Whether the report of a refine along this chain has at most so many entries. 54 do for every refine, and each split
-// takes some.
+// So many entries do for the report of every refine.
+const LONGEST: usize = 54;
+
+// Whether the report of a refine along this chain has at most so many entries. The longest do for every refine, and
+// each split takes some.
 pub fn fits(view: &View, chain: Chain, entries: usize) -> bool
     requires { 3 * chain.end + 2 < length view.now.links.now }
     ensures { (t : ℕ) (n : Counts) →
@@ -125,7 +128,7 @@ pub fn fits(view: &View, chain: Chain, entries: usize) -> bool
         RefineFound t m → BaseChain m.topology t chain
         → result ≡ leb (length (refine t (at_first m)).report) entries }
 {
-    if 54 <= entries {
+    if LONGEST <= entries {
         return true;
     }
     if entries < chain.splits() as usize {

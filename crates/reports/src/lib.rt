@@ -50,7 +50,8 @@ pub fn refine_list(
     report: &mut [u32],
     spares: &mut Tables,
 ) -> BatchReported
-    ensures refined { with_report report.new result.reported (batch_outcome result.worked (held tables.new) (held spares.new))
+    ensures refined { with_report report.new result.reported (batch_outcome result.worked (held tables.new)
+        (held spares.new))
         ≡ reported_call (each list.now (held spares.old))
         report.old (mesh_with counts (held tables.old)) }
     ensures lent { SameTables tables.new tables.old }

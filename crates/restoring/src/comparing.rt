@@ -15,9 +15,7 @@ pub fn same_in_use(view: &View, counts: Counts, other: &View, other_counts: Coun
     let triangles = counts.triangles as usize;
     let sides = 3 * triangles;
     let coordinates = 3 * (counts.vertices as usize);
-    other_counts.vertices == counts.vertices
-        && other_counts.triangles == counts.triangles
-        && other_counts.rule == counts.rule
+    other_counts == counts
         && other.corners[..sides] == view.corners[..sides]
         && other.links[..sides] == view.links[..sides]
         && other.generations[..triangles] == view.generations[..triangles]

@@ -90,10 +90,8 @@ fn settle(tables: &mut Tables, work: Work, s: u32) -> Work
     let h = tables.links[i];
     if is_base(tables.view().generations, h) {
         let after = Work {
-            vertices: work.vertices,
-            triangles: work.triangles,
-            splits: work.splits,
             flips: work.flips + 1,
+            ..work
         };
         flip(tables, s, h / 3);
         after

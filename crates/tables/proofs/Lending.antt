@@ -1,7 +1,7 @@
 -- Tables that are lent on stay the same tables.
 use mathlib.Core.Path.{refl, ◌∙◌}
 use Rattle.tables.specs.declared.Tables.{Tables}
-use Rattle.tables.specs.Lent.{SameSizes, SameTables}
+use Rattle.tables.specs.Lent.{SameTables}
 
 pub same_at_first : (a : Tables) → SameTables a a
 same_at_first a = record {

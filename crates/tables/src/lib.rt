@@ -10,9 +10,8 @@ ghost use Rattle.tables.specs.declared.Counts.{Counts};
 ghost use Rattle.tables.specs.Lent.{held, seen, mesh_with, topology_with, topology_now, SameSizes, SameBeside};
 ghost use Rattle.tables.specs.Lent.{TrianglesAgree, VerticesAgree, triangle_at, entries, put, point_in, put_point};
 
-use points::Point;
-
 use crate::refusals::Refusal;
+use points::Point;
 
 pub mod copies;
 pub mod refusals;
@@ -40,7 +39,7 @@ pub struct View<'a> {
 
 // The slots in use, which are the first of their tables, and the rule of rounding, 1 or 2.
 #[repr(C)]
-#[derive(Clone, Copy)]
+#[derive(Clone, Copy, PartialEq, Eq)]
 pub struct Counts {
     pub vertices: u32,
     pub triangles: u32,
@@ -58,7 +57,24 @@ pub struct Worked {
 }
 
 impl Worked {
-    // The answer of such a call that is refused.
+    // The answer of such a call that is carried out without a split.
+    pub fn done(counts: Counts) -> Self
+        ensures { result ≡ record {
+          refusal = 0;
+          splits = 0;
+          flips = 0;
+          counts = counts;
+        } }
+    {
+        Self {
+            refusal: 0,
+            splits: 0,
+            flips: 0,
+            counts,
+        }
+    }
+
+    // The answer of one that is refused.
     pub fn refused(refusal: Refusal, counts: Counts) -> Self
         ensures { result ≡ record {
           refusal = number refusal;
@@ -168,26 +184,21 @@ impl Tables<'_> {
 pub fn base_link(links: &[u32], t: u32) -> u32
     ensures { result ≡ get_or links.now (3 * t) 0 }
 {
-    let i = 3 * (t as usize);
-    if i < links.len() { links[i] } else { 0 }
+    links.get(3 * (t as usize)).copied().unwrap_or(0)
 }
 
 // The generation of the triangle in slot t; 0 past the table.
 pub fn generation_at(generations: &[u8], t: u32) -> u8
     ensures { result ≡ get_or generations.now t 0 }
 {
-    let slot = t as usize;
-    if slot < generations.len() {
-        generations[slot]
-    } else {
-        0
-    }
+    generations.get(t as usize).copied().unwrap_or(0)
 }
 
 // Three numbers stored in slot t of a table.
-fn store_three(table: &mut [u32], t: u32, x: [u32; 3])
+pub fn store_three<T: Copy>(table: &mut [T], t: u32, x: [T; 3])
     requires { 3 * t + 2 < length table.old }
-    ensures { table.new ≡ put_three t (entries x) table.old }
+    ensures { (none : T) →
+        table.new ≡ put_three t (get_or x 0 none, get_or x 1 none, get_or x 2 none) table.old }
 {
     let i = 3 * (t as usize);
     table[i] = x[0];
@@ -236,11 +247,5 @@ pub fn store_point(positions: &mut [i32], v: u32, p: Point)
     requires { 3 * v + 2 < length positions.old }
     ensures { positions.new ≡ put_point v p positions.old }
 {
-    let i = 3 * (v as usize);
-    let x = p.x;
-    let y = p.y;
-    let z = p.z;
-    positions[i] = x;
-    positions[i + 1] = y;
-    positions[i + 2] = z;
+    store_three(positions, v, [p.x, p.y, p.z]);
 }

@@ -1,5 +1,5 @@
-// The refine taken back by its note, on a mesh that stands or is refused itself. The note is tried on a copy of the mesh
-// before the mesh is written.
+// The refine taken back by its note, on a mesh that stands or is refused itself. The note is tried on a copy of the
+// mesh before the mesh is written.
 #![tactic(auto)]
 
 ghost use Rattle.std.specs.Prelude.{◌≡◌};
@@ -76,14 +76,9 @@ pub fn take_back(
         locks,
     };
     restoring::putting::put_back_all(&mut tables, note);
-    Worked {
-        refusal: 0,
-        splits: 0,
-        flips: 0,
-        counts: Counts {
-            vertices: note[1],
-            triangles: note[2],
-            rule: counts.rule,
-        },
-    }
+    Worked::done(Counts {
+        vertices: note[1],
+        triangles: note[2],
+        rule: counts.rule,
+    })
 }

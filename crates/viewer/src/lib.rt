@@ -78,13 +78,7 @@ fn store(table: &mut [f32], i: u32, p: ViewPoint)
     requires { 3 * i + 2 < length table.old }
     ensures { table.new ≡ put_three i (p.x, p.y, p.z) table.old }
 {
-    let first = 3 * (i as usize);
-    let x = p.x;
-    let y = p.y;
-    let z = p.z;
-    table[first] = x;
-    table[first + 1] = y;
-    table[first + 2] = z;
+    tables::store_three(table, i, [p.x, p.y, p.z]);
 }
 
 // The first corners of a table, three numbers each.

@@ -50,7 +50,8 @@ clear-requires-2 c =
 pub returns-clause-loaded : goal.returns-clause-loaded
 returns-clause-loaded c =
     let sides = c.in_default.ensures.sides in
-    load_carried _ _ _ (c.in_default.ensures.value c.args.counts)
+    rw c.done.ensures
+    (load_carried _ _ _ (c.in_default.ensures.value c.args.counts)
     (written _ _ _ _ _ _ _ _ refl c.number_at-v.ensures c.number_at-f.ensures sides.left
     (rw sides.positions at c.place.ensures) (rw sides.generations at c.clear.ensures)
-    (rw sides.locks at c.clear-2.ensures))
+    (rw sides.locks at c.clear-2.ensures)))

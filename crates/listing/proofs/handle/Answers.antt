@@ -31,13 +31,14 @@ pub returns-then-generation_at-clause-handled : goal.returns-then-generation_at-
 returns-then-generation_at-clause-handled c m W =
     let x = mesh_of (goal.at.returns-then-generation_at-clause-handled c).Start in
     let e = now (goal.at.returns-then-generation_at-clause-handled c).After-generation_at-2 in
-    entry_passed m x _ _ _ W c.if-triangles-t.false (rw (c.generation_at.ensures, e) at c.if-generation_at.true)
+    rw c.done.ensures
+    (entry_passed m x _ _ _ W c.if-triangles-t.false (rw (c.generation_at.ensures, e) at c.if-generation_at.true))
 
 pub returns-then-generation_at-clause-told : goal.returns-then-generation_at-clause-told
 returns-then-generation_at-clause-told c m W =
     let x = mesh_of (goal.at.returns-then-generation_at-clause-told c).Start in
     let e = now (goal.at.returns-then-generation_at-clause-told c).After-generation_at-2 in
-    passed_told m x _ _ _ W (rw (c.generation_at.ensures, e) at c.if-generation_at.true)
+    rw c.done.ensures (passed_told m x _ _ _ W (rw (c.generation_at.ensures, e) at c.if-generation_at.true))
 
 pub returns-clause-handled : goal.returns-clause-handled
 returns-clause-handled c m W =

@@ -12,4 +12,4 @@ pub bounds-locks-t : goal.bounds-locks-t
 bounds-locks-t c = lock_room c.args.on _ _ _ (c.in_default.ensures _ c.requires) refl
 
 pub returns : goal.returns
-returns c = rw c.into.ensures (lock_carried _ _ _ _ (c.in_default.ensures _ c.requires) refl)
+returns c = rw (c.into.ensures, c.done.ensures) (lock_carried _ _ _ _ (c.in_default.ensures _ c.requires) refl)

@@ -15,24 +15,23 @@ overflow_add-last c =
     let e = c.requires.is_next.size in
     omega arith
 
-pub slice_bounds-make-end : goal.slice_bounds-make-end
-slice_bounds-make-end c =
+pub slice_bounds-body-end : goal.slice_bounds-body-end
+slice_bounds-body-end c =
     let l = room c.requires.ready in
     let e = c.requires.is_next.size in
     omega arith
 
-pub make-done-requires-clause-body_value : goal.make-done-requires-clause-body_value
-make-done-requires-clause-body_value c =
-    rw c.from.ensures (
-      lent_kind c.requires.ready _ _ _ c.requires.is_next.size c.requires.is_next.kind c.numbers_of.ensures,
-      lent_room c.requires.ready _ _ _ c.requires.is_next.size c.requires.is_next.kind c.numbers_of.ensures _
-          c.if-numbers-numbers_of.false,
-    )
+pub make-requires-clause-body_value : goal.make-requires-clause-body_value
+make-requires-clause-body_value c = (
+  lent_kind c.requires.ready _ _ _ c.requires.is_next.size c.requires.is_next.kind c.numbers_of.ensures,
+  lent_room c.requires.ready _ _ _ c.requires.is_next.size c.requires.is_next.kind c.numbers_of.ensures _
+      c.if-numbers-numbers_of.false,
+)
 
-pub returns-then-done-ne0-clause-makes : goal.returns-then-done-ne0-clause-makes
-returns-then-done-ne0-clause-makes c =
-    refused_next c.requires.ready _ _ _ c.requires.is_next.size c.requires.is_next.kind c.numbers_of.ensures _ _ _ _ _
-    c.if-numbers-numbers_of.false (rw c.from.ensures at c.make-done.ensures) c.if-done-ne0.true refl refl refl refl
+pub returns-in-Err-clause-makes : goal.returns-in-Err-clause-makes
+returns-in-Err-clause-makes c =
+    refused_next c.requires.ready _ _ _ c.requires.is_next.size c.requires.is_next.kind c.numbers_of.ensures _ _ _ _
+    c.if-numbers-numbers_of.false c.in-Err.ensures.makes refl refl refl refl
 
 pub slice_bounds-read_record-count : goal.slice_bounds-read_record-count
 slice_bounds-read_record-count c =
@@ -46,9 +45,8 @@ slice_bounds-read_record-start c =
     let e = c.requires.is_next.size in
     omega arith
 
-pub returns-clause-makes : goal.returns-clause-makes
-returns-clause-makes c =
+pub returns-in-Ok-clause-makes : goal.returns-in-Ok-clause-makes
+returns-in-Ok-clause-makes c =
     let next = read_told _ _ c.read_record.ensures in
-    carried_next c.requires.ready _ _ _ c.requires.is_next.size c.requires.is_next.kind c.numbers_of.ensures _ _ _ _ _
-    c.if-numbers-numbers_of.false (rw c.from.ensures at c.make-done.ensures) c.if-done-ne0.false refl refl
-    next.0 next.1
+    carried_next c.requires.ready _ _ _ c.requires.is_next.size c.requires.is_next.kind c.numbers_of.ensures _ _ _ _
+    c.if-numbers-numbers_of.false c.in-Ok.ensures.makes refl refl next.0 next.1

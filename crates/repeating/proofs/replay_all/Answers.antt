@@ -1,6 +1,7 @@
 -- `repeating::replay_all` meets its contract: what is left to replay shrinks record by record.
-use Rattle.std.proofs.Common.{length, sym}
-use Rattle.tables.specs.Lent.{spares_now}
+use Rattle.std.proofs.Common.{length, refl, sym}
+use Rattle.tables.specs.Lent.{held}
+use Rattle.tables.proofs.Lending.{same_on}
 use Rattle.journal.specs.Recording.{LentAlike}
 use Rattle.redoing.proofs.Going.{none_told, stop_told, ready, reached_on, comes_nearer, ends}
 use Rattle.repeating.proofs.replay_all.Goals as goal
@@ -12,28 +13,24 @@ loop-state-smaller c =
 
 pub loop-state-preserved : goal.loop-state-preserved
 loop-state-preserved c =
-    let alike : LentAlike (record {
-      spares = spares_now c.args.spare_positions.now c.args.spare_corners.now c.args.spare_links.now
-          c.args.spare_generations.now c.args.spare_locks.now;
-      numbers = length c.args.numbers.now;
-    }) (record {
-      spares = spares_now c.loop-state.spare_positions c.loop-state.spare_corners c.loop-state.spare_links
-          c.loop-state.spare_generations c.loop-state.spare_locks;
-      numbers = length c.loop-state.numbers;
-    }) = record {
+    let same = c.loop-state.invariant.spares_lent.sizes in
+    let alike : LentAlike (record { spares = held c.args.spares.now; numbers = length c.args.numbers.now })
+    (record { spares = held c.loop-state.spares; numbers = length c.loop-state.numbers }) = record {
       spares = record {
-        positions = sym c.loop-state.auto.spare_positions;
-        corners = sym c.loop-state.auto.spare_corners;
-        links = sym c.loop-state.auto.spare_links;
-        generations = sym c.loop-state.auto.spare_generations;
-        locks = sym c.loop-state.auto.spare_locks;
+        positions = sym same.positions;
+        corners = sym same.corners;
+        links = sym same.links;
+        generations = sym same.generations;
+        locks = sym same.locks;
       };
       numbers = sym c.loop-state.auto.numbers;
     } in
     record {
       reached = reached_on alike c.loop-state.invariant.reached (none_told c.in-Ok.is) _ _ c.one_more-state.ensures.makes;
       read = c.one_more-state.ensures.read;
+      lent = same_on c.one_more-state.ensures.lent c.loop-state.invariant.lent;
+      spares_lent = same_on c.one_more-state.ensures.spares_lent c.loop-state.invariant.spares_lent;
     }
 
-pub returns : goal.returns
-returns c = rw c.told.ensures (ends c.loop-state.invariant.reached (stop_told c.in_default.is))
+pub returns-clause-replayed : goal.returns-clause-replayed
+returns-clause-replayed c = rw c.told.ensures (ends c.loop-state.invariant.reached (stop_told c.in_default.is))

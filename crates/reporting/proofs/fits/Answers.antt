@@ -6,9 +6,9 @@ use lib.Dec.{leb}
 use Rattle.reporting.proofs.Telling.{always_fits, never_fits}
 use Rattle.reporting.proofs.fits.Goals as goal
 
-pub returns-then-entries-ge54 : goal.returns-then-entries-ge54
-returns-then-entries-ge54 c t n R C =
-    always_fits R c.if-entries-ge54.true
+pub returns-then-entries-ge-LONGEST : goal.returns-then-entries-ge-LONGEST
+returns-then-entries-ge-LONGEST c t n R C =
+    always_fits R c.if-entries-ge-LONGEST.true
 
 pub returns-then-entries-splits : goal.returns-then-entries-splits
 returns-then-entries-splits c t n R C =

@@ -1,8 +1,7 @@
 -- `tables::store_point` meets its contract.
-use lib.ListN.{length-set}
-use native.Mathlib.Omega.{arith}
+use borrow.Author.Rules.{rules}
+use lib.IntN.{pos}
 use Rattle.tables.proofs.store_point.Goals as goal
 
-pub bounds-positions-i-2 : goal.bounds-positions-i-2
-bounds-positions-i-2 c =
-    simp length-set (omega arith)
+pub returns : goal.returns
+returns c = let e = c.store_three.ensures (pos 0) in search rules

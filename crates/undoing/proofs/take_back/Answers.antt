@@ -31,4 +31,4 @@ returns c =
     let e =
     back_carried _ _ _ c.in_default.ensures refl
     (put_restored c.args.counts lent c.args.note.now (λ o. c.put_back_all.ensures.over o c.args.positions.now)) in
-    search rules
+    rw c.done.ensures (search rules)

@@ -1,8 +1,8 @@
--- `making::read_numbers` meets its contract: the first i numbers are read.
+-- `making::numbers_in` meets its contract: the first i numbers are read.
 use Rattle.std.proofs.Common.{arith, refl}
 use Rattle.journal.specs.Journal.{numbers_in}
 use Rattle.making.proofs.Calling.{number_put}
-use Rattle.making.proofs.read_numbers.Goals as goal
+use Rattle.making.proofs.numbers_in.Goals as goal
 
 pub loop-i-init : goal.loop-i-init
 unfolding numbers_in
