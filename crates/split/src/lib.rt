@@ -233,7 +233,8 @@ fn settle_two(tables: &mut Tables, work: Work, t: u32, e: u32) -> Work
 }
 
 // The split of t, with its flips: the face split of an even triangle, the rim split of an odd one. Each has a settling
-// of its own: with one for both, a face split would take 25 to 33 instructions more.
+// of its own: with one for both, a face split would take 25 to 33 instructions more. The tables are lent on in a value
+// of its own, which stays in registers: through the lent one a split would take some 80 more.
 pub fn split_at(tables: &mut Tables, work: Work, t: u32) -> Work
     requires { (rule : ℕ) × (report : List ℕ) ×
         MaySplit t (work_now rule report work (held tables.old)) }
@@ -243,12 +244,19 @@ pub fn split_at(tables: &mut Tables, work: Work, t: u32) -> Work
     ensures lent { SameTables tables.new tables.old }
 {
     let f = work.triangles;
-    if tables::generation_at(tables.view().generations, t) % 2 == 0 {
-        let cut = face_cut(tables, work, t);
-        settle_three(tables, cut, t, f, f + 1)
+    let mut own = Tables {
+        positions: tables.positions,
+        corners: tables.corners,
+        links: tables.links,
+        generations: tables.generations,
+        locks: tables.locks,
+    };
+    if tables::generation_at(own.view().generations, t) % 2 == 0 {
+        let cut = face_cut(&mut own, work, t);
+        settle_three(&mut own, cut, t, f, f + 1)
     } else {
-        let cut = rim_cut(tables, work, t);
-        settle_two(tables, cut, t, f + 1)
+        let cut = rim_cut(&mut own, work, t);
+        settle_two(&mut own, cut, t, f + 1)
     }
 }
 

@@ -1,4 +1,5 @@
 -- `split::split_at` meets its contract.
+use borrow.Author.Rules.{rules}
 use native.Mathlib.Omega.{arith}
 use mathlib.Core.List.{[]}
 use mathlib.Core.Path.{◌∙◌}
@@ -16,10 +17,12 @@ pub returns-then-generation_at-eq0-clause-split : goal.returns-then-generation_a
 returns-then-generation_at-eq0-clause-split c rule report =
     let (k, H) = c.face_cut-cut.ensures.cut rule report in
     let (more, e) = c.settle_three.ensures.settled rule k in
-    (more, e ∙ H.settled)
+    let done = e ∙ H.settled in
+    (more, search rules)
 
 pub returns-else-generation_at-eq0-clause-split : goal.returns-else-generation_at-eq0-clause-split
 returns-else-generation_at-eq0-clause-split c rule report =
     let (k, H) = c.rim_cut-cut.ensures.cut rule report in
     let (more, e) = c.settle_two.ensures.settled rule k in
-    (more, e ∙ H.settled)
+    let done = e ∙ H.settled in
+    (more, search rules)
