@@ -190,8 +190,8 @@ module _ (kind : ℕ) (body : List ℕ) (v : Spares) (n : Counts) (s t : Spares)
         → Makes (changed (call_of v (entry_of kind body)) (mesh_with n t)) r (mesh_with (counts_after n r) s)
     made_step k h = made _ (step_is kind body k) h
 
-    pub made_lock : (on : Bool) (i : ℕ) → ((kind ≡ 6) × (on ≡ true)) ⊎ ((kind ≡ 7) × (on ≡ false)) → i ≡ number_at body 0
-        → worked_outcome w s ≡ lock_call on i (mesh_with n t)
+    pub made_lock : (on : Bool) (i : ℕ) → ((kind ≡ 6) × (on ≡ true)) ⊎ ((kind ≡ 7) × (on ≡ false))
+        → i ≡ number_at body 0 → worked_outcome w s ≡ lock_call on i (mesh_with n t)
         → Makes (changed (call_of v (entry_of kind body)) (mesh_with n t)) r (mesh_with (counts_after n r) s)
     made_lock on i (inl k) a h = made _ (lock_is kind body k.0) (rw (a, k.1) at h)
     made_lock on i (inr k) a h = made _ (unlock_is kind body k.0) (rw (a, k.1) at h)

@@ -82,7 +82,8 @@ fn lock_in(
     on: bool,
     stands: Result<(), Refusal>,
 ) -> Worked
-    requires { refused stands ≡ standing (mesh_now counts positions.old corners.old links.old generations.old locks.old) }
+    requires { refused stands ≡ standing (mesh_now counts positions.old corners.old links.old generations.old
+        locks.old) }
     ensures { worked_outcome result (spares_now positions.new corners.new links.new generations.new locks.new)
         ≡ lock_call on t (mesh_now counts positions.old corners.old links.old generations.old locks.old) }
 {
@@ -111,7 +112,8 @@ fn take_back_in(
     stands: Result<(), Refusal>,
     note: &[u32],
 ) -> Worked
-    requires { refused stands ≡ standing (mesh_now counts positions.old corners.old links.old generations.old locks.old) }
+    requires { refused stands ≡ standing (mesh_now counts positions.old corners.old links.old generations.old
+        locks.old) }
     ensures { worked_outcome result (spares_now positions.new corners.new links.new generations.new locks.new)
         ≡ take_back_call note.now (mesh_now counts positions.old corners.old links.old generations.old locks.old) }
 {

@@ -24,7 +24,8 @@ pub fn replay_all(
 ) -> Replayed
     requires { refused stands ≡ standing (mesh_with counts (held tables.old)) }
     ensures replayed { replay_told result (mesh_with result.counts (held tables.new))
-        ≡ replay_first (length bytes.now) (record { spares = held spares.old; numbers = length numbers.old }) bytes.now
+        ≡ replay_first (length bytes.now) (record { spares = held spares.old; numbers = length numbers.old })
+        bytes.now
         (mesh_with counts (held tables.old)) }
     ensures lent { SameTables tables.new tables.old }
     ensures spares_lent { SameTables spares.new spares.old }

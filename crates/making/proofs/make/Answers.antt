@@ -72,7 +72,8 @@ number_at-t-requires-in-Lock c = elim c.in-Lock.is [
 
 pub returns-in-Lock-clause-makes : goal.returns-in-Lock-clause-makes
 returns-in-Lock-clause-makes c =
-    let e : ((number_of c.args.kind ≡ 6) × (c.eq-on.result ≡ true)) ⊎ ((number_of c.args.kind ≡ 7) × (c.eq-on.result ≡ false)) =
+    let e : ((number_of c.args.kind ≡ 6) × (c.eq-on.result ≡ true))
+    ⊎ ((number_of c.args.kind ≡ 7) × (c.eq-on.result ≡ false)) =
     elim c.in-Lock.is [
       | inl q ↦ inl (ap number_of q, search rules)
       | inr q ↦ inr (ap number_of q, search rules)
