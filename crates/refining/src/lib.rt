@@ -152,6 +152,7 @@ pub fn carry_out(
 }
 
 // Refines triangle t of a mesh that stands or is refused itself, told from place `at` of the report on.
+#[inline(always)]
 pub fn refine(
     tables: &mut Tables,
     counts: Counts,

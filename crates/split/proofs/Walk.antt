@@ -1,5 +1,5 @@
 -- The walk along a base chain: what is counted and what is ahead make the whole.
-use Prim.Native.Nat.{ℕ, suc, ◌+◌, ◌-◌, ◌*◌, ◌/◌, ◌%◌, ◌<◌}
+use Prim.Native.Nat.{ℕ, suc, ◌+◌, ◌*◌, ◌/◌, ◌%◌, ◌<◌}
 use native.Mathlib.Decide.{ℕ_discrete}
 use native.Mathlib.Numerals.{add-one}
 use native.Mathlib.Omega.{arith}
@@ -56,10 +56,9 @@ module _ {m : Topology} {t : ℕ} where
     walk_ends w = stops 0 w refl refl
 
     -- With a step left.
-    pub walk_more : {slots : List ℕ} (left : ℕ) → 0 < left → Walking m t odd end left slots
-        → Walking m t odd end (suc (left - 1)) slots
-    walk_more {slots} left i w =
-        let e : left ≡ suc (left - 1) = omega arith in subst (λ (k : ℕ). Walking m t odd end k slots) e w
+    pub walk_more : {slots : List ℕ} {left : ℕ} (k : ℕ) → left ≡ suc k → Walking m t odd end left slots
+        → Walking m t odd end (suc k) slots
+    walk_more {slots} k e w = subst (λ (n : ℕ). Walking m t odd end n slots) e w
 
     module _ {slots : List ℕ} (k : ℕ) (w : Walking m t odd end (suc k) slots) where
       pub walk_even : generation m end % 2 ≡ 0 → Walked m t odd end slots

@@ -269,20 +269,18 @@ pub fn base_chain(view: &View, t: u32) -> Chain
     let mut slots: [u32; 20] = [0; 20];
     let mut odd: u32 = 0;
     let mut end = t;
-    let mut steps = tables::generation_at(view.generations, t);
-    while 0 < steps {
+    let steps = tables::generation_at(view.generations, t);
+    for _step in 0..steps {
         if tables::generation_at(view.generations, end) % 2 == 0 {
             break;
         }
-        let i = odd as usize;
-        slots[i] = end;
+        slots[odd as usize] = end;
         odd += 1;
         let across = tables::base_link(view.links, end);
         if across == tables::BOUNDARY {
             break;
         }
         end = across / 3;
-        steps -= 1;
     }
     let rim = tables::generation_at(view.generations, end) as u32 % 2;
     Chain {
