@@ -2,7 +2,7 @@
 use Prim.Native.Nat.{ℕ, zero, suc, ◌+◌, ◌-◌, ◌≤◌, ◌<◌, max}
 use native.Mathlib.Nat.{zero-add}
 use native.Mathlib.Omega.{arith}
-use mathlib.Core.Bool.{true}
+use mathlib.Core.Bool.{true, false, true≢false}
 use mathlib.Core.List.{List, []}
 use mathlib.Core.Logic.{◌≢◌, ◌⊎◌, inl, inr}
 use mathlib.Core.Path.{◌≡◌, refl, ap, sym, subst, ◌∙◌}
@@ -19,16 +19,18 @@ use Rattle.theory.proofs.Results.Lists.{list_carried}
 use Rattle.theory.proofs.Results.Boxes.{box_carried}
 use Rattle.rules.specs.Calls.{Outcome}
 use Rattle.rules.specs.History.{changed}
+use Rattle.rules.specs.Numbers.{number_at}
 use Rattle.rules.specs.Sound.{Sound}
 use Rattle.rules.specs.Spares.{Spares}
 use Rattle.rules.specs.Tables.{Mesh}
 use Rattle.journal.specs.Journal.{Entry, loaded, refined, stepped, refined_each, refined_in_box, lock_set, taken_back}
 use Rattle.journal.specs.Journal.{stop_at, size_at, kind_at, body_at, record_length, is_kind, entry_of, entry_at}
 use Rattle.making.specs.Making.{refusal_in, Makes}
-use Rattle.std.proofs.Common.{Result, Ok, Err, IfOk}
+use Rattle.std.proofs.Common.{Result, Ok, Err, IfOk, IsOk, is_ok}
 use Rattle.journal.specs.Stops.{IsRecord, ReadsRecord, StopsAt}
 use Rattle.journal.specs.declared.stops.Record.{Record}
-use Rattle.journal.specs.Kinds.{stop_number, stop_refusal}
+use Rattle.journal.specs.Kinds.{stop_number, stop_refusal, IsKindOf}
+use Rattle.journal.specs.declared.kinds.Kind.{Kind}
 use Rattle.journal.specs.declared.stops.Stop.{Stop}
 use Rattle.journal.specs.declared.stops.Stop.TheVariants.{End, Torn, Checksum, NoKind, Refused, Slots, Numbers}
 use Rattle.redoing.specs.Replaying.{stop_of, refusal_of, replay_told, Ready, MakesNext, stays, goes}
@@ -41,9 +43,11 @@ use Rattle.journal.proofs.Changes.{refused_mesh}
 use Rattle.journal.proofs.Histories.{nothing_left}
 use Rattle.journal.proofs.Journals.{stop_for, replay_bad, replay_good}
 use Rattle.journal.proofs.Lending.{entry_alike, stops_alike}
+use Rattle.journal.proofs.Numbers.{number_drop}
 use Rattle.journal.proofs.Reading.{Whole, stop_whole}
 use Rattle.journal.proofs.Replaying.{Advances, halts, advances, replays_first, replays_is, first_bound}
 use Rattle.journal.proofs.Replaying.{replays_tells, seq}
+use Rattle.journal.proofs.Stopping.{no_kind}
 
 nonzero : (n : ℕ) → n ≢ 0 → 1 ≤ n
 nonzero zero x = absurd (x refl)
@@ -64,11 +68,13 @@ stop_nonzero Slots e = omega arith
 stop_nonzero Numbers e = omega arith
 
 -- A replay that has a reason to stop is told with its number.
-pub stop_told : {x : Result Record Stop} {s : Stop} → x ≡ Err s → stop_of x ≢ 0
-stop_told {s = s} e = rw e (stop_nonzero s)
+pub stop_told : (x : Result Record Stop) → is_ok x ≡ false → stop_of x ≢ 0
+stop_told (Ok r) e = absurd (true≢false e)
+stop_told (Err s) e = stop_nonzero s
 
-pub none_told : {x : Result Record Stop} {r : Record} → x ≡ Ok r → stop_of x ≡ 0
-none_told e = rw e refl
+pub none_told : (x : Result Record Stop) → is_ok x ≡ true → stop_of x ≡ 0
+none_told (Ok r) e = refl
+none_told (Err s) e = absurd (true≢false (sym e))
 
 -- ---- what is carried out leaves a sound mesh
 
@@ -101,9 +107,34 @@ read_next bytes (Err s) h = tt
 pub lent_tail : (n : ℕ) (l : List ℕ) → take (length l - n) (drop n l) ≡ drop n l
 lent_tail n l = take_all (length l - n) (drop n l) (simp length-drop (omega arith))
 
+-- The numbers of a record that is whole.
+module _ (at : ℕ) (bytes : List ℕ) (z : stop_at (drop at bytes) ≡ 0) where
+  whole_at : Whole (drop at bytes)
+  whole_at = stop_whole (drop at bytes) z
+
+  pub long_at : at + 16 ≤ length bytes
+  long_at = let h = whole_at.long in omega (arith, length-drop at bytes)
+
+  pub kind_read : (n : ℕ) (x : Result Kind Stop) → n ≡ number_at bytes (at + 4) → IsKindOf n x → IsOk x
+  kind_read n (Ok k) e h = refl
+  kind_read n (Err s) e h =
+      let q = e ∙ sym (number_drop at bytes 4) in
+      absurd (true≢false (sym whole_at.kind ∙ no_kind _ (size_at (drop at bytes)) (rw q at h.1)))
+
+  pub record_read : (n size : ℕ) (x : Result Kind Stop) (k : Kind) → n ≡ number_at bytes (at + 4) → IsKindOf n x
+      → x ≡ Ok k → size ≡ number_at bytes at → IsRecord (drop at bytes) (record { kind = k; size = size })
+  record_read n size x k e h o s =
+      let i = rw o at h in
+      let q : at + 0 ≡ at = omega arith in
+      record {
+        whole = z;
+        kind = i ∙ e ∙ sym (number_drop at bytes 4);
+        size = s ∙ sym (rw q at (number_drop at bytes 0));
+      }
+
 module _ {bytes : List ℕ} {r : Replayed} (R : Ready bytes r) where
   whole_here : Whole (drop r.end bytes)
-  whole_here = stop_whole (drop r.end bytes) R.whole
+  whole_here = whole_at r.end bytes R.whole
 
   pub room : r.end + (16 + size_at (drop r.end bytes)) ≤ length bytes
   room =

@@ -5,9 +5,11 @@ ghost use Rattle.std.specs.Prelude.{◌≡◌, length, drop, IfOk};
 ghost use Rattle.tables.specs.Lent.{held, mesh_with, SameTables};
 ghost use Rattle.tables.specs.Refusals.{refused};
 ghost use Rattle.tables.specs.Standing.{standing};
+ghost use Rattle.journal.specs.Journal.{stop_at};
 ghost use Rattle.journal.specs.Stops.{IsRecord};
 ghost use Rattle.redoing.specs.Replaying.{told, Ready, MakesNext};
 
+use journal::kinds::Kind;
 use journal::stops::{Record, Stop};
 use tables::refusals::Refusal;
 use tables::{Counts, Tables};
@@ -54,11 +56,20 @@ impl Progress {
     }
 }
 
+// The record at a place where one is whole, so that nothing of it is tested again.
+fn record_at(bytes: &[u8], at: usize) -> Record
+    requires { stop_at (drop at bytes.now) ≡ 0 }
+    ensures { IsRecord (drop at bytes.now) result }
+{
+    let size = points::number_at(bytes, at) as usize;
+    let kind = Kind::try_from(points::number_at(bytes, at + 4)).unwrap();
+    Record { kind, size }
+}
+
 // Replays the next record, which is whole, on a mesh that stands or is refused itself.
 pub fn one_more(
     tables: &mut Tables,
     state: Progress,
-    next: Record,
     spares: &mut Tables,
     numbers: &mut [u32],
     stands: Result<(), Refusal>,
@@ -66,7 +77,6 @@ pub fn one_more(
 ) -> Progress
     requires stands_value { refused stands ≡ standing (mesh_with state.counts (held tables.old)) }
     requires ready { Ready bytes.now (told state) }
-    requires is_next { IsRecord (drop state.end bytes.now) next }
     ensures makes { MakesNext (record { spares = held spares.old; numbers = length numbers.old }) bytes.now
         (told state) (mesh_with state.counts (held tables.old))
         (told result) (mesh_with result.counts (held tables.new)) }
@@ -74,6 +84,7 @@ pub fn one_more(
     ensures lent { SameTables tables.new tables.old }
     ensures spares_lent { SameTables spares.new spares.old }
 {
+    let next = record_at(bytes, state.end);
     if numbers.len() < making::numbers_of(next.kind, next.size) {
         return Progress {
             next: Err(Stop::Numbers),

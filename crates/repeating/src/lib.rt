@@ -37,8 +37,8 @@ pub fn replay_all(
         end: 0,
         next: journal::stops::read_record(bytes),
     };
-    while let Ok(next) = state.next {
-        state = redoing::one_more(tables, state, next, spares, numbers, known, bytes);
+    while state.next.is_ok() {
+        state = redoing::one_more(tables, state, spares, numbers, known, bytes);
         known = Ok(());
     }
     state.told()

@@ -5,48 +5,51 @@ use Rattle.redoing.proofs.one_more.Goals as goal
 
 pub returns-then-numbers-numbers_of-clause-makes : goal.returns-then-numbers-numbers_of-clause-makes
 returns-then-numbers-numbers_of-clause-makes c =
-    numbers_exceed c.requires.ready _ _ _ c.requires.is_next.size c.requires.is_next.kind c.numbers_of.ensures _ _ _ _
+    let next = c.record_at-next.ensures in
+    numbers_exceed c.requires.ready _ _ _ next.size next.kind c.numbers_of.ensures _ _ _ _
     c.if-numbers-numbers_of.true refl refl refl refl refl
 
 pub overflow_add-last : goal.overflow_add-last
 overflow_add-last c =
     let bytes_fit : length c.args.bytes.now < 2 ^ 64 = omega arith in
     let l = room c.requires.ready in
-    let e = c.requires.is_next.size in
+    let e = c.record_at-next.ensures.size in
     omega arith
 
 pub slice_bounds-body-end : goal.slice_bounds-body-end
 slice_bounds-body-end c =
     let l = room c.requires.ready in
-    let e = c.requires.is_next.size in
+    let e = c.record_at-next.ensures.size in
     omega arith
 
 pub make-requires-clause-body_value : goal.make-requires-clause-body_value
-make-requires-clause-body_value c = (
-  lent_kind c.requires.ready _ _ _ c.requires.is_next.size c.requires.is_next.kind c.numbers_of.ensures,
-  lent_room c.requires.ready _ _ _ c.requires.is_next.size c.requires.is_next.kind c.numbers_of.ensures _
-      c.if-numbers-numbers_of.false,
-)
+make-requires-clause-body_value c =
+    let next = c.record_at-next.ensures in (
+      lent_kind c.requires.ready _ _ _ next.size next.kind c.numbers_of.ensures,
+      lent_room c.requires.ready _ _ _ next.size next.kind c.numbers_of.ensures _ c.if-numbers-numbers_of.false,
+    )
 
 pub returns-in-Err-clause-makes : goal.returns-in-Err-clause-makes
 returns-in-Err-clause-makes c =
-    refused_next c.requires.ready _ _ _ c.requires.is_next.size c.requires.is_next.kind c.numbers_of.ensures _ _ _ _
+    let next = c.record_at-next.ensures in
+    refused_next c.requires.ready _ _ _ next.size next.kind c.numbers_of.ensures _ _ _ _
     c.if-numbers-numbers_of.false c.in-Err.ensures.makes refl refl refl refl
 
 pub slice_bounds-read_record-count : goal.slice_bounds-read_record-count
 slice_bounds-read_record-count c =
     let l = room c.requires.ready in
-    let e = c.requires.is_next.size in
+    let e = c.record_at-next.ensures.size in
     omega arith
 
 pub slice_bounds-read_record-start : goal.slice_bounds-read_record-start
 slice_bounds-read_record-start c =
     let l = room c.requires.ready in
-    let e = c.requires.is_next.size in
+    let e = c.record_at-next.ensures.size in
     omega arith
 
 pub returns-in-Ok-clause-makes : goal.returns-in-Ok-clause-makes
 returns-in-Ok-clause-makes c =
-    let next = read_told _ _ c.read_record.ensures in
-    carried_next c.requires.ready _ _ _ c.requires.is_next.size c.requires.is_next.kind c.numbers_of.ensures _ _ _ _
-    c.if-numbers-numbers_of.false c.in-Ok.ensures.makes refl refl next.0 next.1
+    let next = c.record_at-next.ensures in
+    let after = read_told _ _ c.read_record.ensures in
+    carried_next c.requires.ready _ _ _ next.size next.kind c.numbers_of.ensures _ _ _ _
+    c.if-numbers-numbers_of.false c.in-Ok.ensures.makes refl refl after.0 after.1
