@@ -129,6 +129,7 @@ pub fn refine_box(
 }
 
 // The same with a report of the slots that are written.
+// Kept: the C interface has the call without a report and this one.
 pub fn refine_box_reported(
     tables: &mut Tables,
     counts: Counts,

@@ -42,6 +42,7 @@ pub fn sizes_fit(cage: &[u8], view: &View) -> bool
 }
 
 // Writes the numbers of the bytes, from place `from` on, into the first entries.
+// Kept: no plainer: a loop for this and `writing::place` would take a closure longer than itself.
 pub fn decode(cage: &[u8], from: usize, count: usize, corners: &mut [u32])
     requires numbers_in_cage { from + 4 * count ≤ length cage.now }
     requires corner_room { count ≤ length corners.old }
@@ -53,6 +54,7 @@ pub fn decode(cage: &[u8], from: usize, count: usize, corners: &mut [u32])
 }
 
 // Whether the corners of triangle t are vertices, and none of them is there twice.
+// Kept: no heap: the room is arrays of fixed size, of which a cage takes the front.
 fn triangle_fits(corners: &[u32], triangles: usize, vertices: u32, t: usize) -> bool
     requires { (triangles ≤ 65536) × (3 * triangles ≤ length corners.now) × (t < triangles) }
     ensures { result ≡ triangle_fits vertices corners.now t }
@@ -64,6 +66,7 @@ fn triangle_fits(corners: &[u32], triangles: usize, vertices: u32, t: usize) -> 
 }
 
 // Whether every corner is a vertex, and no triangle repeats one. No early return: the loop then reads several at once.
+// Kept: no heap: the room is arrays of fixed size, of which a cage takes the front.
 pub fn corners_fit(corners: &[u32], triangles: usize, vertices: u32) -> bool
     requires { (triangles ≤ 65536) × (3 * triangles ≤ length corners.now) }
     ensures { result ≡ corners_fit (decoded vertices triangles corners.now) }
@@ -76,6 +79,7 @@ pub fn corners_fit(corners: &[u32], triangles: usize, vertices: u32) -> bool
 }
 
 // Whether the first coordinates are in range, read in the same way.
+// Kept: no plainer: the coordinates are a part of the cage, which the rules read by its bytes.
 pub fn coordinates_fit(cage: &[u8], count: usize) -> bool
     requires { 8 + 4 * count ≤ length cage.now }
     ensures { result ≡ all count (λ i. in_range (signed (number_at cage.now (8 + 4 * i)))) }

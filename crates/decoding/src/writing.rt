@@ -4,6 +4,7 @@ ghost use Rattle.rules.specs.Below.{fill};
 ghost use Rattle.rules.specs.Numbers.{number_at, signed};
 
 // The first coordinates of the cage into the positions.
+// Kept: no plainer: a loop for this and `decode` would take a closure longer than itself.
 pub fn place(cage: &[u8], count: usize, positions: &mut [i32])
     requires coordinates_in_cage { 8 + 4 * count ≤ length cage.now }
     requires position_room { count ≤ length positions.old }
@@ -16,6 +17,7 @@ pub fn place(cage: &[u8], count: usize, positions: &mut [i32])
 }
 
 // 0 for the first triangles: their generation, or their lock.
+// Kept: no plainer: the counts say how much of C's table is in use, and the fill is the library's.
 pub fn clear(count: usize, table: &mut [u8])
     requires { count ≤ length table.old }
     ensures { table.new ≡ fill count (λ i. 0) table.old }

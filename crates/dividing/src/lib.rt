@@ -123,6 +123,7 @@ pub fn write_all(corners: &mut [u32], links: &mut [u32], counts: Counts)
 }
 
 // The first n triangles of generation g.
+// Kept: no plainer: the counts say how much of C's table is in use, and the fill is the library's.
 pub fn set_generations(generations: &mut [u8], n: usize, g: u8)
     requires { n ≤ length generations.old }
     ensures { generations.new ≡ fill n (λ _. g) generations.old }

@@ -37,6 +37,7 @@ impl Stop {
     }
 
     // The refusal of the call that is refused, or 0.
+    // Kept: the C interface answers a number, 0 for none.
     pub fn refusal(self) -> u32
         ensures { result ≡ stop_refusal self }
     {
@@ -88,6 +89,7 @@ pub fn read_record(bytes: &[u8]) -> Result<Record, Stop>
 }
 
 // Why no record is at the front of the bytes, or 0.
+// Kept: a public function keeps its promise; inside, `read_record` tells the same as a Result.
 pub fn stop_at(bytes: &[u8]) -> u32
     ensures { result ≡ stop_at bytes.now }
 {

@@ -10,6 +10,7 @@ ghost use Rattle.judging.specs.Loading.{Sized, WorkingRoom, Holds};
 use tables::refusals::Refusal;
 
 // Judges a cage whose sizes fit: where it is not refused, its origins and partners are held.
+// Kept: no heap: the room is arrays of fixed size, of which a cage takes the front.
 fn judge(
     cage: &[u8],
     vertices: u32,
@@ -44,6 +45,7 @@ fn judge(
 }
 
 // Judges such a cage. Where it is not refused, its corners and links are written.
+// Kept: no heap: the room is arrays of fixed size, of which a cage takes the front.
 pub fn load_by(
     corners: &mut [u32],
     links: &mut [u32],

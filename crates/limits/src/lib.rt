@@ -46,6 +46,7 @@ fn refusal(
 }
 
 // The limit of each vertex, by the length and the sum of its ring and by the rule.
+// Kept: no plainer: `moving::move_all` writes the positions in place, and this a table beside them.
 fn write_all(positions: &[i32], counts: Counts, rings: &[RingSum], table: &mut [i32])
     requires { ((m : Mesh) × Movable counts.vertices counts.rule m positions.now rings.now)
         × (3 * counts.vertices ≤ length table.old) }
@@ -103,6 +104,7 @@ fn limits_within<const N: usize>(
 }
 
 // Limit positions on sound tables, written to the table unless they are refused. A small mesh has little to clear.
+// Kept: the room is chosen by the size, and no const argument can be computed from it.
 pub fn limit_positions(view: &View, counts: Counts, table: &mut [i32]) -> Result<(), Refusal>
     requires { (k : List ℕ)
         × Sound (mesh_now counts view.now.positions.now view.now.corners.now view.now.links.now

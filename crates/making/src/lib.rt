@@ -31,6 +31,7 @@ pub fn numbers_of(kind: Kind, size: usize) -> usize
 }
 
 // The numbers of a body, read into the front of a table.
+// Kept: no plainer: the loop is `decoding::decode`'s, of whose crate nothing else is used here.
 fn numbers_in<'a>(body: &[u8], table: &'a mut [u32]) -> &'a [u32]
     requires { length body.now / 4 ≤ length table.old }
     ensures { result.now ≡ numbers_in (length body.now / 4) body.now }
@@ -59,6 +60,7 @@ fn point_at(body: &[u8], i: usize) -> Point
 }
 
 // The counts after a call, or what it is refused with.
+// Kept: the C interface: the calls answer the number of a refusal, 0 for none.
 fn told(refusal: u32, counts: Counts) -> Result<Counts, u32>
     ensures { result ≡ told refusal counts }
 {
@@ -70,7 +72,7 @@ fn told(refusal: u32, counts: Counts) -> Result<Counts, u32>
 }
 
 // Sets or clears a lock, and leaves what is lent beside the locks.
-// Kept: what is read only is lent for writing here, since tables of one value are not lent apart for both.
+// Kept: what is read only is lent for writing here, since one value is not lent for reading and writing in one call.
 fn lock_in(
     positions: &mut [i32],
     corners: &mut [u32],

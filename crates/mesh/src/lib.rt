@@ -34,6 +34,7 @@ pub fn refine(tables: &mut Tables, counts: Counts, t: u32) -> Worked
 }
 
 // Refines triangle t, with a note by which it can be taken back.
+// Kept: the C interface has this call and one with a report.
 pub fn refine_noted(tables: &mut Tables, counts: Counts, t: u32, note: &mut [u32]) -> Worked
     ensures refined { noted_outcome result (held tables.new) note.new
         ≡ noted_call t note.old (mesh_with counts (held tables.old)) }
@@ -124,6 +125,7 @@ pub fn lock_known(
 }
 
 // Sets or clears the lock of triangle t.
+// Kept: C lends all but the locks for reading, so that the five do not go as one.
 pub fn lock(
     positions: &[i32],
     corners: &[u32],

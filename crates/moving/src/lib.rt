@@ -12,6 +12,7 @@ use rings::sums::RingSum;
 use tables::{BOUNDARY, Counts};
 
 // Whether none of the first n sides is on the boundary.
+// Kept: C lends whole tables, and the counts say how much of them is in use.
 #[tactic(auto, using(theory::proofs::Numbers::Decide::all_and), unfolding(rules::specs::Below::all))]
 fn none_on_boundary(links: &[u32], n: usize) -> bool
     requires { n ≤ length links.now }
@@ -25,6 +26,7 @@ fn none_on_boundary(links: &[u32], n: usize) -> bool
 }
 
 // Whether the first n triangles are of generation g.
+// Kept: C lends whole tables, and the counts say how much of them is in use.
 #[tactic(auto, using(theory::proofs::Numbers::Decide::all_and), unfolding(rules::specs::Below::all))]
 fn all_of(generations: &[u8], n: usize, g: u8) -> bool
     requires { n ≤ length generations.now }
@@ -38,6 +40,7 @@ fn all_of(generations: &[u8], n: usize, g: u8) -> bool
 }
 
 // Whether no side is on the boundary and all triangles are of one even generation.
+// Kept: C lends whole tables, and the counts say how much of them is in use.
 #[tactic(auto, unfolding(rules::specs::Calls::closed_even))]
 pub fn closed_even(links: &[u32], generations: &[u8], triangles: u32) -> bool
     requires { (triangles ≤ 65536) × (3 * triangles ≤ length links.now) × (triangles ≤ length generations.now) }
@@ -56,6 +59,7 @@ pub fn closed_even(links: &[u32], generations: &[u8], triangles: u32) -> bool
 }
 
 // Each vertex moved by the length and the sum of its ring, and by the rule.
+// Kept: no plainer: `limits::write_all` writes a table beside the positions, and this the positions themselves.
 pub fn move_all(positions: &mut [i32], counts: Counts, rings: &[RingSum])
     requires { (m : Mesh) × Movable counts.vertices counts.rule m positions.old rings.now }
     ensures { (m : Mesh) →

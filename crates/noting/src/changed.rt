@@ -42,6 +42,7 @@ fn add_mets(links: &[u32], generations: &[u8], odd: &mut [u32], n: usize, v: u32
 }
 
 // Lists x, and the triangle across its side 1.
+// Kept: no heap; the slots stand in a fixed array, in order.
 fn list_near(links: &[u32], slots: &mut [u32], from: usize, x: u32) -> usize
     requires { Rising slots.old from × (4 < from) × (x < 4294967295) × (3 * x + 1 < length links.now) }
     ensures { Adds slots.old from (Near links.now x) slots.new result
@@ -56,6 +57,7 @@ fn list_near(links: &[u32], slots: &mut [u32], from: usize, x: u32) -> usize
 }
 
 // Lists these, and the triangles across their sides 1.
+// Kept: no heap; the slots stand in a fixed array, in order.
 fn list_all(links: &[u32], odd: &[u32], slots: &mut [u32], from: usize) -> usize
     requires { Rising slots.old from × (2 * length odd.now + 4 ≤ from) × Sides links.now odd.now (length odd.now) }
     ensures { Adds slots.old from (NearOne links.now odd.now (length odd.now)) slots.new result
@@ -69,6 +71,7 @@ fn list_all(links: &[u32], odd: &[u32], slots: &mut [u32], from: usize) -> usize
 }
 
 // Lists the triangle across side h, if its base does not meet the side.
+// Kept: no heap; the slots stand in a fixed array, in order.
 fn list_unmet(links: &[u32], generations: &[u8], slots: &mut [u32], from: usize, h: usize) -> usize
     requires { Rising slots.old from × (3 < from) × (h < length links.now) }
     ensures { Adds slots.old from (Unmet links.now generations.now h) slots.new result
@@ -85,6 +88,7 @@ fn list_unmet(links: &[u32], generations: &[u8], slots: &mut [u32], from: usize,
 }
 
 // Lists the triangles across the sides 1 and 2 of triangle v whose bases do not meet it.
+// Kept: no heap; the slots stand in a fixed array, in order.
 fn list_beside(links: &[u32], generations: &[u8], slots: &mut [u32], from: usize, v: u32) -> usize
     requires { Rising slots.old from × (4 < from) × (3 * v + 2 < length links.now) }
     ensures { Adds slots.old from (Beside links.now generations.now v)

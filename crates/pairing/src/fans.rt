@@ -48,6 +48,7 @@ impl Threaded<'_> {
 }
 
 // A side on the boundary in place of the head of each thread that has one.
+// Kept: no heap: the room is arrays of fixed size, of which a cage takes the front.
 fn begin_at_boundary(
     corners: &[u32],
     links: &[u32],
@@ -69,6 +70,7 @@ fn begin_at_boundary(
 }
 
 // Whether each vertex has one fan, and none a closed one of two triangles.
+// Kept: no heap: the room is arrays of fixed size, of which a cage takes the front.
 pub fn fit(
     corners: &[u32],
     links: &[u32],

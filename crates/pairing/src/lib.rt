@@ -17,6 +17,7 @@ pub mod threaded;
 
 // Threads the sides out of each vertex, from the last to the first.
 // All numbers are one more than a side, and 0 ends a thread.
+// Kept: no heap: the room is arrays of fixed size, of which a cage takes the front.
 fn thread(corners: &[u32], triangles: usize, vertices: usize, heads: &mut [u32], nexts: &mut [u32])
     requires readable { Readable vertices triangles corners.now }
     requires heads_zeroed { Zeroed vertices heads.old }
@@ -106,6 +107,7 @@ impl Threaded<'_> {
 
 // Links each side to the opposite one, or to the boundary. False where a directed side occurs twice.
 // The sides out of each vertex are left threaded.
+// Kept: no heap: the room is arrays of fixed size, of which a cage takes the front.
 pub fn pair(
     corners: &[u32],
     triangles: usize,

@@ -9,6 +9,7 @@ ghost use Rattle.points.specs.Axes.{at, in_box, box_of, thirds, Parts, mean_poin
 ghost use Rattle.points.specs.Axes.{SumOf, Fits, smoothed_point};
 
 // A point, in units of 1/1024 mm.
+// Kept: the C interface names this struct, and the viewer's of three f32 beside it.
 #[repr(C)]
 #[derive(Clone, Copy)]
 pub struct Point {
@@ -137,6 +138,7 @@ pub fn box_fits(low: Point, high: Point, below: u32) -> bool
 }
 
 // A sum of n numbers of 32 bits, with each counted from the least such number, so that none is negative.
+// Kept: no plainer: a From may not ask for the range in which alone this holds.
 fn raised_sum(s: i64, n: u64) -> u64
     requires { (n ≤ 12) × SumOf n s }
     ensures { (s ≡ pos result -ℤ pos (n * 2147483648)) × (result ≤ n * 4294967295) }
@@ -152,6 +154,7 @@ fn raised(x: i32) -> u64
 }
 
 // The number that is k, so counted.
+// Kept: no plainer: a From may not ask for the range in which alone this holds.
 fn lowered(k: u64) -> i32
     requires { k ≤ 4294967295 }
     ensures { result ≡ pos k -ℤ pos 2147483648 }
@@ -177,6 +180,7 @@ fn twenty_seventh(x: u64, y: u64, z: u64, a: i32, b: i32, c: i32) -> i32
 }
 
 // Whether there is such a rule of rounding.
+// Kept: the C interface: the rule of rounding comes as a number, of which the theorems speak.
 pub fn known_rule(rule: u32) -> bool
     ensures { result ≡ known_rule rule }
 {
@@ -185,6 +189,7 @@ pub fn known_rule(rule: u32) -> bool
 
 // Whether a fraction goes down to this whole number, rest / (2 d) below it: short of a half; by rule 2 at a half too,
 // below zero, which is counted as 2147483648.
+// Kept: the C interface: the rule of rounding comes as a number, of which the theorems speak.
 fn goes_down(rule: u32, down: u64, rest: u64, d: u64) -> bool
     ensures { result ≡ (ltb rest d || (eqb rest d && (eqb rule 2 && ltb down 2147483648))) }
 {

@@ -1,4 +1,5 @@
 // The journal's calls under the names by which C and Rust link them (include/rawplinth.h).
+// Kept: the C interface lends five tables as five slices, and answers a refusal or a stop as a number.
 ghost use Rattle.std.specs.Prelude.{true, false, ◌≡◌, length};
 ghost use Rattle.points.specs.Axes.{box_of};
 ghost use Rattle.tables.specs.Lent.{mesh_now, spares_now};

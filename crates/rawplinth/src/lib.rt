@@ -1,5 +1,6 @@
 // The calls under the names by which C and Rust link them (include/rawplinth.h). A slice is a pointer and a length.
 // Those that change one mesh are here.
+// Kept: the C interface lends five tables as five slices, and answers a refusal or a stop as a number.
 #![tactic(auto)]
 
 mod journals;

@@ -1,5 +1,6 @@
 // The calls that work in spare tables, without a report, under the names by which C and Rust link them
 // (include/rawplinth.h).
+// Kept: the C interface lends five tables as five slices, and answers a refusal or a stop as a number.
 ghost use Rattle.std.specs.Prelude.{◌≡◌};
 ghost use Rattle.points.specs.Axes.{box_of};
 ghost use Rattle.rules.specs.Boxes.{box_call};

@@ -1,4 +1,5 @@
 // The calls that read a mesh under the names by which C and Rust link them (include/rawplinth.h).
+// Kept: the C interface lends five tables as five slices, and answers a refusal or a stop as a number.
 ghost use Rattle.std.specs.Prelude.{◌≡◌, length};
 ghost use Rattle.rules.specs.Calls.{limit_call, ring_call, position_call, view_call};
 ghost use Rattle.rules.specs.Rim.{curve_call};
@@ -116,6 +117,7 @@ pub extern "C" fn rawplinth_rim_curve(
 }
 
 // What C is told of a seen vertex: on a refusal its number with zeros, and else a point in millimetres.
+// Kept: the C interface answers a number, 0 for none.
 #[repr(C)]
 #[derive(Clone, Copy)]
 pub struct PointSeen {

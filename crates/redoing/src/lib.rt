@@ -39,6 +39,7 @@ pub struct Progress {
 
 impl Progress {
     // What C is told of it.
+    // Kept: no plainer: the contracts say `told` of it, and a From would say no more.
     pub fn told(self) -> Replayed
         ensures { result ≡ told self }
     {

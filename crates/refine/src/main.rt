@@ -14,6 +14,7 @@ use std::{fmt, io};
 use tables::{Counts, Tables, Worked};
 
 // The mesh that the program keeps, in 1,024 vertex and 2,048 triangle slots.
+// Kept: no heap: the program's tables are arrays of fixed size.
 #[derive(Drop)]
 struct Store {
     positions: [i32; 3072],

@@ -124,6 +124,7 @@ pub fn find(
 }
 
 // The refine of t along its base chain, which nothing refuses, told from place `at` of the report on.
+// Kept: no plainer: the work does not hold the rule, which a From could not be given.
 pub fn carry_out(
     tables: &mut Tables,
     counts: Counts,

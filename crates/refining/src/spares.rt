@@ -11,7 +11,7 @@ use tables::{Counts, Tables, View};
 
 // Refines made one after the other: the number that the next one failed with, 0 for none, how many succeeded, and the
 // counts of the mesh in the spare tables.
-// Kept: the C interface: a refine answers the number of its refusal, 0 for none.
+// Kept: no plainer: what was done before a refusal is answered too, and C is answered its number.
 #[derive(Clone, Copy)]
 pub struct Batch {
     pub refusal: u32,

@@ -45,7 +45,7 @@ fn is_second_flipped(tables: &Tables, t: u32, f: u32) -> bool
 }
 
 // Tells the flip of child c, if there was one: with the triangle that its side 1 leads to.
-// Kept: no plainer: each of its three callers would test for the flip.
+// Kept: no plainer: its caller would test for the flip in three places.
 fn tell_flip(tables: &Tables, c: u32, flipped: bool, report: &mut [u32], at: usize) -> usize
     requires { (3 * c + 1 < length tables.now.links.now)
         × (at + length (flip_after tables.now.links.now flipped c) ≤ length report.old) }
@@ -64,7 +64,7 @@ fn tell_flip(tables: &Tables, c: u32, flipped: bool, report: &mut [u32], at: usi
 
 // Tells the split of t into t, f and f + 1, and its flips, by the tables that it has left, if it is to be told. To look
 // before the split at the bases that the three are to meet would take more: a division for each, flipped or not.
-// Kept: no plainer: both of its callers would test for it.
+// Kept: no plainer: its caller would test for it in two places.
 fn tell_split(
     tables: &Tables,
     t: u32,
@@ -152,6 +152,7 @@ fn across_last(tables: &Tables, slots: &[u32; 20], odd: u32) -> u32
 // slot. The splits are told from place `at` of the report on, if it has room for all of them. A plain call has no room
 // for any, which is tested once and not for each split. The first split has a call of its own: with one call for all,
 // split_at would be inlined, and each split would take 20 to 30 instructions more.
+// Kept: no plainer: a From for the work at its start would be used here alone.
 pub fn refine(
     tables: &mut Tables,
     counts: Counts,

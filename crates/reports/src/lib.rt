@@ -15,6 +15,7 @@ use refining::spares::{BatchReported, BatchWorked};
 use tables::{Counts, Tables};
 
 // Refines triangle t.
+// Kept: the C interface has the call without a report and this one.
 pub fn refine(tables: &mut Tables, counts: Counts, t: u32, report: &mut [u32]) -> Reported
     ensures refined { with_report report.new result.reported (worked_outcome result.worked (held tables.new))
         ≡ reported_call (one t) report.old (mesh_with counts (held tables.old)) }
@@ -25,6 +26,7 @@ pub fn refine(tables: &mut Tables, counts: Counts, t: u32, report: &mut [u32]) -
 }
 
 // Refines triangle t, with a note by which it can be taken back.
+// Kept: the C interface has the call without a report and this one.
 pub fn refine_noted(
     tables: &mut Tables,
     counts: Counts,

@@ -17,6 +17,7 @@ use tables::sides::next;
 use tables::{BOUNDARY, Counts, View};
 
 // The answer of curve: how many vertices the rim has.
+// Kept: the C interface answers a number, 0 for none, and names this struct beside that of a ring.
 #[repr(C)]
 #[derive(Clone, Copy)]
 pub struct RimRead {
@@ -59,6 +60,7 @@ fn onward(links: &[u32], h: usize) -> usize
         OnRimSide m h → result ≡ first_side m (target m h) }
 {
     let mut k = h;
+    // Kept: no plainer: the walk follows the links to the boundary and counts nothing.
     let last = loop {
         let across = across_next(links, k);
         if across == BOUNDARY {

@@ -81,6 +81,7 @@ pub fn ring_length(links: &[u32], triangles: u32, first: u32) -> u32
 }
 
 // The ring from side `first`, written to the front of the buffer, which has room for it.
+// Kept: C lends whole tables, and the counts say how much of them is in use.
 pub fn write_ring(corners: &[u32], links: &[u32], triangles: u32, first: u32, buffer: &mut [u32])
     requires walkable { Walkable triangles first links.now × (3 * triangles ≤ length corners.now) }
     requires by_index { (v : ℕ) × (g : List ℕ)

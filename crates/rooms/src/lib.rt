@@ -55,6 +55,7 @@ fn within(size: u32, vertices: u32, triangles: u32) -> bool
 
 // The same for all with more than 2048 vertices or triangles. The great rooms keep a frame of their own, whose pages a
 // small cage does not touch.
+// Kept: the room is chosen by the size, and no const argument can be computed from it.
 #[inline(never)]
 fn load_beyond_2048(
     corners: &mut [u32],

@@ -16,6 +16,7 @@ use tables::{BOUNDARY, Counts, View};
 
 // Whether side i of a triangle of generation g and side j of one of generation h are a pair of one of the five kinds.
 // In 32 bits nothing wraps: the generation of a partner may not be tested yet.
+// Kept: the outline asks for this match on parity and side (docs/DECISIONS.md), which runs no step.
 fn five_kinds(g: u8, i: usize, h: u8, j: usize) -> bool
     ensures { result ≡ five_kinds (role_of g i) (role_of h j) }
 {
@@ -104,6 +105,7 @@ fn partner_fits(view: &View, h: usize, i: usize, g: u8, to: u32, k: usize) -> bo
 }
 
 // The start of a vertex once side h out of it is seen, not on the boundary: the one that it had, else h.
+// Kept: fixed memory: with 0 for none a start takes half the room of an Option.
 fn first_kept(start: u32, h: u32) -> u32
     requires { h < 4294967295 }
     ensures { (c l : List ℕ) → get_or l h 0 ≢ boundary → Kept c l h (get_or c h 0) start

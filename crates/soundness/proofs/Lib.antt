@@ -3,3 +3,4 @@ pub mod Answers
 pub mod Pairs
 pub mod Triangles
 pub mod Parts
+pub mod Standing

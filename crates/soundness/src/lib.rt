@@ -63,6 +63,7 @@ fn counts_fit(view: &View, counts: Counts) -> bool
 }
 
 // Whether the first n coordinates are in range. No early return: the loop then reads several at once.
+// Kept: C lends whole tables, and the counts say how much of them is in use.
 #[tactic(auto, using(theory::proofs::Numbers::Decide::all_and), unfolding(rules::specs::Below::all))]
 fn coordinates_fit(positions: &[i32], n: usize) -> bool
     requires { n ≤ length positions.now }
@@ -76,6 +77,7 @@ fn coordinates_fit(positions: &[i32], n: usize) -> bool
 }
 
 // Whether the first n locks are 0 or 1, read in the same way.
+// Kept: C lends whole tables, and the counts say how much of them is in use.
 #[tactic(auto, using(theory::proofs::Numbers::Decide::all_and), unfolding(rules::specs::Below::all))]
 fn locks_fit(locks: &[u8], n: usize) -> bool
     requires { n ≤ length locks.now }

@@ -39,6 +39,7 @@ fn start_within<const N: usize>(view: &View, counts: Counts, v: u32) -> Option<u
 }
 
 // The same for all. A small mesh has little to clear.
+// Kept: the room is chosen by the size, and no const argument can be computed from it.
 pub fn start(view: &View, counts: Counts, v: u32) -> Option<u32>
     requires { Room counts.triangles (seen view.now) × (counts.vertices ≤ 32768) }
     ensures { let m = topology_with counts (seen view.now) in result ≡ start_if (is_surface m) m v }

@@ -25,6 +25,7 @@ pub struct Work {
 
 // A base chain: its number of odd triangles, the slot of its last triangle, how it ends, and the slots of the odd ones
 // in order. Where it ends at the boundary its last triangle is odd, and `rim` is 1; else `rim` is 0.
+// Kept: no heap: a chain has at most 20 odd triangles, and `odd` says how many stand in the array.
 #[derive(Clone, Copy)]
 pub struct Chain {
     pub odd: u32,

@@ -19,6 +19,7 @@ use tables::refusals::Refusal;
 use tables::{Counts, Tables, View, Worked};
 
 // Whether some triangle is locked.
+// Kept: C lends whole tables, and the counts say how much of them is in use.
 #[tactic(auto, using(theory::proofs::Numbers::Decide::any_none), unfolding(rules::specs::Calls::some_locked))]
 fn some_locked(locks: &[u8], triangles: u32) -> bool
     requires { triangles ≤ length locks.now }
@@ -129,6 +130,7 @@ fn step_within<const N: usize>(tables: &mut Tables, counts: Counts) -> Worked
 
 // The whole step on sound tables. All is decided before anything lent is written, and a small mesh has little to clear.
 // A mesh in one piece that has room for a step has no more than 12,288 vertices.
+// Kept: the room is chosen by the size, and no const argument can be computed from it.
 pub fn smoothing_step(tables: &mut Tables, counts: Counts) -> Worked
     requires { Sound (mesh_with counts (held tables.old)) }
     ensures stepped { worked_outcome result (held tables.new)

@@ -8,7 +8,7 @@ ghost use Rattle.tables.specs.declared.Counts.{Counts};
 use crate::{Counts, Tables, View};
 
 // The first entries of one table into another.
-// Kept: measured, the library's copy of bytes counts some million instructions more for a list of 10,000.
+// Kept: tried, with the library's copy of bytes a list of 10,000 misses its bar of 6,636,000 instructions.
 pub fn copy<T: Copy>(from: &[T], count: usize, to: &mut [T])
     requires read { count ≤ length from.now }
     requires written { count ≤ length to.old }
@@ -21,6 +21,7 @@ pub fn copy<T: Copy>(from: &[T], count: usize, to: &mut [T])
 
 impl View<'_> {
     // Whether spare tables are as long as these.
+    // Kept: no plainer: no value holds the five lengths, and an array of them for each says no more.
     pub fn same_sizes(&self, spares: &View) -> bool
         ensures { (n : Counts) → result ≡ same_sizes (seen spares.now) (mesh_with n (seen self.now)) }
     {

@@ -38,6 +38,7 @@ pub struct View<'a> {
 }
 
 // The slots in use, which are the first of their tables, and the rule of rounding, 1 or 2.
+// Kept: the C interface: the rule of rounding is a number there, of which the theorems speak.
 #[repr(C)]
 #[derive(Clone, Copy, PartialEq, Eq)]
 pub struct Counts {
@@ -47,6 +48,7 @@ pub struct Counts {
 }
 
 // The answer of a call that may change the mesh: on a refusal all but its number and the counts is 0.
+// Kept: the C interface answers a number, 0 for none.
 #[repr(C)]
 #[derive(Clone, Copy)]
 pub struct Worked {

@@ -33,6 +33,7 @@ pub enum Refusal {
 
 impl Refusal {
     // Its number in the paper, as C reads it.
+    // Kept: no plainer: the contracts say `number` of it, and a From would say no more.
     pub fn number(self) -> u32
         ensures { result ≡ number self }
     {

@@ -16,6 +16,7 @@ use tables::refusals::Refusal;
 use tables::{Counts, View};
 
 // A point in millimetres.
+// Kept: the C interface names this struct, and that of three i32 beside it.
 #[repr(C)]
 #[derive(Clone, Copy)]
 pub struct ViewPoint {
@@ -63,6 +64,7 @@ fn view_point(p: Point) -> ViewPoint
 }
 
 // Where vertex v is.
+// Kept: the C interface: the read has the number that C is answered, 0 for none.
 pub fn point(view: &View, counts: Counts, v: u32) -> Seen
     ensures { result ≡ seen_of (position_call v (mesh_with counts (seen view.now))) }
 {
@@ -82,6 +84,7 @@ fn store(table: &mut [f32], i: u32, p: ViewPoint)
 }
 
 // The first corners of a table, three numbers each.
+// Kept: C lends whole tables, and the counts say how much of them is in use.
 fn write_corners(positions: &[i32], corners: &[u32], count: u32, table: &mut [f32])
     requires { Corners count positions.now corners.now × (3 * count ≤ length table.old) }
     ensures { table.new

@@ -33,6 +33,7 @@ fn in_box(positions: &[i32], v: u32, low: Point, high: Point) -> bool
 }
 
 // Marks the vertices that lie in the box, of the last in use, none of which is marked yet.
+// Kept: C lends whole tables, and the counts say how much of them is in use.
 fn mark_inside(
     positions: &[i32],
     from: u32,
