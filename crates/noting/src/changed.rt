@@ -1,7 +1,7 @@
 // The old slots that a refine changes, listed before the work, in rising order.
 ghost use Rattle.std.specs.Prelude.{List, ◌≡◌, ℕ, ◌+◌, ◌-◌, ◌*◌, ◌≤◌, ◌<◌, ℤ, length, get_or, drop};
 ghost use Rattle.rules.specs.Notes.{changed_slots, refined};
-ghost use Rattle.tables.specs.Lent.{seen, mesh_with};
+ghost use Rattle.tables.specs.Lent.{mesh_now};
 ghost use Rattle.tables.specs.declared.Counts.{Counts};
 ghost use Rattle.noting.specs.Rising.{Rising, Adds};
 ghost use Rattle.noting.specs.Changed.{Meets, Near, NearOne, NearMet, NearMets, AllMeet, Unmet, Beside, Met};
@@ -105,9 +105,10 @@ fn list_beside(links: &[u32], generations: &[u8], slots: &mut [u32], from: usize
 // Kept: no heap; the slots stand in a fixed array, in order.
 pub fn list_changed(view: &View, chain: Chain, slots: &mut [u32]) -> usize
     requires { Rising slots.old 32
-        × ((t : ℕ) × (n : Counts) × Goes t (mesh_with n (seen view.now)) chain) }
-    ensures { (result ≤ 32) × ((t : ℕ) (n : Counts) →
-        let m = mesh_with n (seen view.now) in
+        × ((t : ℕ) × (n : Counts) × (p : List ℤ) × (c : List ℕ) × (k : List ℕ)
+        × Goes t (mesh_now n p c view.now.links.now view.now.generations.now k) chain) }
+    ensures { (result ≤ 32) × ((t : ℕ) (n : Counts) (p : List ℤ) (c k : List ℕ) →
+        let m = mesh_now n p c view.now.links.now view.now.generations.now k in
         Goes t m chain → FrontIs (changed_slots m (refined t m)) (drop (result + 1) slots.new) (32 - result)) }
 {
     let links = view.links;

@@ -48,6 +48,13 @@ module _ {t : ℕ} {m : Mesh} (S : Sound m) (l : t < m.topology.triangles) where
         room = omega (arith, L);
       }
 
+  -- Whatever the corners are.
+  pub follows_cornered : {c : Chain} (corners : List ℕ) → BaseChain m.topology t c
+      → Follows c (spares_now m.positions corners m.topology.links m.topology.generations m.locks)
+  follows_cornered corners C =
+      let F = follows C in
+      record { few = F.few; end = F.end; places = F.places; end_lock = F.end_lock; room = F.room }
+
 -- ---- the locks
 
 -- An odd triangle has a generation in the table.

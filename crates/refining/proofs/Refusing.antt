@@ -17,7 +17,7 @@ use Rattle.rules.specs.Calls.{vertices_of, triangles_of, too_old, alters_locked}
 use Rattle.rules.specs.Sound.{Sound, is_sound}
 use Rattle.rules.specs.Split.{at_first, refine}
 use Rattle.rules.specs.Tables.{Mesh, tables_agree, generation}
-use Rattle.refining.specs.Finding.{Finds, Goes}
+use Rattle.refining.specs.Finding.{mesh_cornered, Finds, Goes}
 use Rattle.rules.specs.Spares.{Spares}
 use Rattle.tables.specs.Lent.{mesh_with}
 use Rattle.tables.specs.Standing.{standing}
@@ -142,8 +142,13 @@ finds_goes {t} {m} F = record { found = refine_found t m (sym F.0); chain = F.1 
 
 -- What is known of the tables as they were seen is known of them as they are lent.
 module _ (n : Counts) {seen lent : Spares} (e : seen ≡ lent) where
-  pub stands_seen : {r : ℕ} → r ≡ standing (mesh_with n lent) → r ≡ standing (mesh_with n seen)
-  stands_seen {r} s = subst (λ (x : Spares). r ≡ standing (mesh_with n x)) (sym e) s
+  pub stands_seen : {r : ℕ} → r ≡ standing (mesh_with n lent)
+      → (c : List ℕ) × (r ≡ standing (mesh_cornered n c seen))
+  stands_seen {r} s = (seen.corners, subst (λ (x : Spares). r ≡ standing (mesh_with n x)) (sym e) s)
 
-  pub found_seen : (t : ℕ) (r : Result Chain Refusal) → Finds t (mesh_with n seen) r → Finds t (mesh_with n lent) r
-  found_seen t r F = subst (λ (x : Spares). Finds t (mesh_with n x) r) e F
+  pub found_seen : {r : ℕ} (t : ℕ) (q : Result Chain Refusal)
+      → ((c : List ℕ) → r ≡ standing (mesh_cornered n c seen) → Finds t (mesh_cornered n c seen) q)
+      → r ≡ standing (mesh_with n lent) → Finds t (mesh_with n lent) q
+  found_seen {r} t q F s =
+      subst (λ (x : Spares). Finds t (mesh_with n x) q) e
+      (F seen.corners (subst (λ (x : Spares). r ≡ standing (mesh_with n x)) (sym e) s))

@@ -18,7 +18,7 @@ ghost use Rattle.split.specs.Made.{BaseChain};
 ghost use Rattle.tables.specs.Standing.{standing};
 ghost use Rattle.refining.specs.Locked.{Follows};
 ghost use Rattle.reporting.specs.Told.{Told, told_unless};
-ghost use Rattle.refining.specs.Finding.{Finds, Goes, refused_report};
+ghost use Rattle.refining.specs.Finding.{mesh_cornered, Finds, Goes, refused_report};
 
 use split::Chain;
 use tables::refusals::Refusal;
@@ -73,7 +73,8 @@ fn check_triangle(
     t: u32,
     stands: Result<(), Refusal>,
 ) -> Result<(), Refusal>
-    ensures { let m = mesh_with counts (seen view.now) in
+    ensures { (c : List ℕ) →
+        let m = mesh_cornered counts c (seen view.now) in
         refused stands ≡ standing m
         → refused result ≡ first_of (1 if not (tables_agree m) ∷ 7 if not (is_sound m)
         ∷ 8 if leb m.topology.triangles t ∷ 9 if too_old m.topology t ∷ []) }
@@ -91,8 +92,8 @@ fn check_triangle(
 // Refuses a refine by the base chain of its triangle.
 fn check_chain(view: &View, counts: Counts, chain: Chain) -> Result<(), Refusal>
     requires { Follows chain (seen view.now) }
-    ensures { (t : ℕ) →
-        let m = mesh_with counts (seen view.now) in
+    ensures { (t : ℕ) (c : List ℕ) →
+        let m = mesh_cornered counts c (seen view.now) in
         let s = max 1 (chain.odd - chain.rim) in
         BaseChain m.topology t chain
         → refused result ≡ first_of (19 if alters_locked t m ∷ 11 if not (room_for (s + chain.rim) (2 * s) m) ∷ []) }
@@ -114,8 +115,10 @@ pub fn find(
     t: u32,
     stands: Result<(), Refusal>,
 ) -> Result<Chain, Refusal>
-    requires { refused stands ≡ standing (mesh_with counts (seen view.now)) }
-    ensures { Finds t (mesh_with counts (seen view.now)) result }
+    requires { (c : List ℕ) × (refused stands ≡ standing (mesh_cornered counts c (seen view.now))) }
+    ensures { (c : List ℕ) →
+        let m = mesh_cornered counts c (seen view.now) in
+        refused stands ≡ standing m → Finds t m result }
 {
     check_triangle(view, counts, t, stands)?;
     let chain = split::base_chain(view, t);

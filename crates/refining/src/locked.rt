@@ -5,7 +5,7 @@ ghost use Rattle.rules.specs.Calls.{alters_locked};
 ghost use Rattle.rules.specs.Tables.{is_base, link, locked};
 ghost use Rattle.split.specs.Made.{BaseChain};
 ghost use Rattle.tables.specs.declared.Counts.{Counts};
-ghost use Rattle.tables.specs.Lent.{seen, mesh_with};
+ghost use Rattle.tables.specs.Lent.{seen, mesh_now, mesh_with};
 ghost use Rattle.refining.specs.Locked.{Follows};
 
 use split::Chain;
@@ -61,8 +61,9 @@ fn meets_locked(view: &View, t: u32) -> bool
 // Whether a locked triangle would be split or flipped by a refine: one of the chain, or one whose base meets its end.
 pub fn alters_locked(view: &View, chain: Chain) -> bool
     requires { Follows chain (seen view.now) }
-    ensures { (n : Counts) (t : ℕ) →
-        let m = mesh_with n (seen view.now) in BaseChain m.topology t chain → result ≡ alters_locked t m }
+    ensures { (n : Counts) (p : List ℤ) (c : List ℕ) (t : ℕ) →
+        let m = mesh_now n p c view.now.links.now view.now.generations.now view.now.locks.now in
+        BaseChain m.topology t chain → result ≡ alters_locked t m }
 {
     let slots = chain.slots;
     if some_locked(view.locks, &slots[..chain.odd as usize]) {

@@ -7,7 +7,7 @@ ghost use Rattle.theory.proofs.Splits.After.{is_flipped, is_second_flipped, flip
 ghost use Rattle.theory.proofs.Splits.Flipped.{pair_at};
 ghost use Rattle.rules.specs.Split.{at_first, refine};
 ghost use Rattle.tables.specs.declared.Counts.{Counts};
-ghost use Rattle.tables.specs.Lent.{held, seen, topology_with, mesh_with, SameTables};
+ghost use Rattle.tables.specs.Lent.{held, topology_now, topology_with, mesh_now, mesh_with, SameTables};
 ghost use Rattle.split.specs.Made.{work_now, BaseChain};
 ghost use Rattle.reporting.specs.Told.{Tells, Told};
 
@@ -92,8 +92,8 @@ fn tell_split(
 // How much of a report the flip at side h takes, if there is one.
 fn flip_length(view: &View, h: usize) -> usize
     requires { h < length view.now.links.now }
-    ensures { ((n : Counts) →
-        let m = topology_with n (seen view.now) in
+    ensures { ((n : Counts) (c : List ℕ) →
+        let m = topology_now n c view.now.links.now view.now.generations.now in
         result ≡ length (pair_at m 0 h)) × (result ≤ 2) }
 {
     if split::is_base(view.generations, view.links[h]) {
@@ -105,8 +105,8 @@ fn flip_length(view: &View, h: usize) -> usize
 // The length of the report of a refine along this chain: after the first split each flips once.
 fn report_length(view: &View, chain: Chain) -> usize
     requires { 3 * chain.end + 2 < length view.now.links.now }
-    ensures { (t : ℕ) (n : Counts) →
-        let m = mesh_with n (seen view.now) in
+    ensures { (t : ℕ) (n : Counts) (p : List ℤ) (c k : List ℕ) →
+        let m = mesh_now n p c view.now.links.now view.now.generations.now k in
         RefineFound t m → BaseChain m.topology t chain → result ≡ length (refine t (at_first m)).report }
 {
     let first = 3 * (chain.end as usize);
@@ -123,8 +123,8 @@ const LONGEST: usize = 54;
 // each split takes some.
 pub fn fits(view: &View, chain: Chain, entries: usize) -> bool
     requires { 3 * chain.end + 2 < length view.now.links.now }
-    ensures { (t : ℕ) (n : Counts) →
-        let m = mesh_with n (seen view.now) in
+    ensures { (t : ℕ) (n : Counts) (p : List ℤ) (c k : List ℕ) →
+        let m = mesh_now n p c view.now.links.now view.now.generations.now k in
         RefineFound t m → BaseChain m.topology t chain
         → result ≡ leb (length (refine t (at_first m)).report) entries }
 {

@@ -8,7 +8,7 @@ ghost use Rattle.points.specs.Axes.{each_axis};
 ghost use Rattle.rules.specs.Split.{flip, third_of, settle, settle_all, split_at};
 ghost use Rattle.rules.specs.Tables.{is_base};
 ghost use Rattle.tables.specs.declared.Counts.{Counts};
-ghost use Rattle.tables.specs.Lent.{topology_now, topology_with, mesh_with, held, seen, SameTables, SameBeside, TrianglesAgree, VerticesAgree};
+ghost use Rattle.tables.specs.Lent.{topology_now, topology_with, mesh_with, held, SameTables, SameBeside, TrianglesAgree, VerticesAgree};
 ghost use Rattle.split.specs.Made.{work_now, MaySplit, Hands, replaced, BaseChain};
 
 use points::Point;
@@ -265,7 +265,8 @@ pub fn split_at(tables: &mut Tables, work: Work, t: u32) -> Work
 // are at most as many as the generation of t says, so that the slots have room.
 pub fn base_chain(view: &View, t: u32) -> Chain
     requires { get_or view.now.generations.now t 0 ≤ 20 }
-    ensures { (n : Counts) → BaseChain (topology_with n (seen view.now)) t result }
+    ensures { (n : Counts) (c : List ℕ) →
+        BaseChain (topology_now n c view.now.links.now view.now.generations.now) t result }
 {
     let mut slots: [u32; 20] = [0; 20];
     let mut odd: u32 = 0;

@@ -37,10 +37,12 @@ listed : (c : After-list_changed-from)
 listed c =
     subst (FrontIs (changed_slots (mesh_of c) (refined c.args.t (mesh_of c))) (part c)) (part_size c)
     (front_part (33 - (c.list_changed-from.result + 1))
-    (c.list_changed-from.ensures.1 c.args.t c.args.counts c.requires) (omega arith))
+    (c.list_changed-from.ensures.1 c.args.t c.args.counts _ _ _ c.requires) (omega arith))
 
 pub list_changed-from-requires : goal.list_changed-from-requires
-list_changed-from-requires c = (none_listed, (c.args.t, c.args.counts, c.requires))
+list_changed-from-requires c =
+    let s = seen c.args.view.now in
+    (none_listed, (c.args.t, c.args.counts, s.positions, s.corners, s.locks, c.requires))
 
 pub returns-then-note-listed : goal.returns-then-note-listed
 returns-then-note-listed c =

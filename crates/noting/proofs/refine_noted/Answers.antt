@@ -14,14 +14,14 @@ abbrev mesh_of : After-find → Mesh
 mesh_of c = mesh_with c.args.counts (held c.args.tables.now)
 
 found : (c : In-Ok) → Finds c.args.t (mesh_with c.args.counts (held c.args.tables.now)) (Ok c.in-Ok.chain)
-found c = found_seen c.args.counts c.view.ensures.same c.args.t (Ok c.in-Ok.chain) c.in-Ok.ensures
+found c = found_seen c.args.counts c.view.ensures.same c.args.t (Ok c.in-Ok.chain) c.in-Ok.ensures c.requires
 
 pub find-requires : goal.find-requires
 find-requires c = stands_seen c.args.counts c.view.ensures.same c.requires
 
 pub returns-in-Err-clause-refined : goal.returns-in-Err-clause-refined
 returns-in-Err-clause-refined c =
-    let F = found_seen c.args.counts c.view.ensures.same c.args.t (Err c.in-Err.refusal) c.in-Err.ensures in
+    let F = found_seen c.args.counts c.view.ensures.same c.args.t (Err c.in-Err.refusal) c.in-Err.ensures c.requires in
     rw c.refused.ensures
     (noted_refused c.args.t c.args.note.now (mesh_of (goal.at.returns-in-Err-clause-refined c).After-find) _ F.0
     (number_some c.in-Err.refusal))

@@ -21,7 +21,7 @@ abbrev mesh_of : After-find → Mesh
 mesh_of c = mesh_with c.args.counts (held c.args.tables.now)
 
 found : (c : In-Ok) → Finds c.args.t (mesh_with c.args.counts (held c.args.tables.now)) (Ok c.in-Ok.chain)
-found c = found_seen c.args.counts c.view.ensures.same c.args.t (Ok c.in-Ok.chain) c.in-Ok.ensures
+found c = found_seen c.args.counts c.view.ensures.same c.args.t (Ok c.in-Ok.chain) c.in-Ok.ensures c.requires
 
 fits_is : (c : After-fits-report_fits) →
     let m = mesh_with c.args.counts (held c.args.tables.now) in
@@ -29,14 +29,14 @@ fits_is : (c : After-fits-report_fits) →
     → c.fits-report_fits.result ≡ leb (length (refine c.args.t (at_first m)).report) (length c.args.report.now)
 fits_is c G =
     fits_seen c.args.t c.args.counts c.in-Ok.chain _ c.view-2.ensures.same
-    (c.fits-report_fits.ensures c.args.t c.args.counts) G.found G.chain
+    (c.fits-report_fits.ensures c.args.t c.args.counts _ _ _) G.found G.chain
 
 pub find-requires : goal.find-requires
 find-requires c = stands_seen c.args.counts c.view.ensures.same c.requires
 
 pub returns-in-Err-clause-refined : goal.returns-in-Err-clause-refined
 returns-in-Err-clause-refined c =
-    let F = found_seen c.args.counts c.view.ensures.same c.args.t (Err c.in-Err.refusal) c.in-Err.ensures in
+    let F = found_seen c.args.counts c.view.ensures.same c.args.t (Err c.in-Err.refusal) c.in-Err.ensures c.requires in
     rw c.refused.ensures
     (reported_refused c.args.t c.args.note.now (mesh_of (goal.at.returns-in-Err-clause-refined c).After-find)
     c.args.report.now _ F.0 (number_some c.in-Err.refusal))

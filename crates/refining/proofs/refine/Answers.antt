@@ -17,11 +17,11 @@ pub find-requires : goal.find-requires
 find-requires c = stands_seen c.args.counts c.view.ensures.same c.requires
 
 pub carry_out-requires : goal.carry_out-requires
-carry_out-requires c = finds_goes (found_seen c.args.counts c.view.ensures.same c.args.t (Ok c.in-Ok.chain) c.in-Ok.ensures)
+carry_out-requires c = finds_goes (found_seen c.args.counts c.view.ensures.same c.args.t (Ok c.in-Ok.chain) c.in-Ok.ensures c.requires)
 
 pub returns-in-Ok : goal.returns-in-Ok
 returns-in-Ok c =
-    let F = found_seen c.args.counts c.view.ensures.same c.args.t (Ok c.in-Ok.chain) c.in-Ok.ensures in
+    let F = found_seen c.args.counts c.view.ensures.same c.args.t (Ok c.in-Ok.chain) c.in-Ok.ensures c.requires in
     record {
       refined =
           c.carry_out.ensures.refined
@@ -33,7 +33,7 @@ returns-in-Ok c =
 
 pub returns-in-Err-clause-refined : goal.returns-in-Err-clause-refined
 returns-in-Err-clause-refined c =
-    let F = found_seen c.args.counts c.view.ensures.same c.args.t (Err c.in-Err.refusal) c.in-Err.ensures in
+    let F = found_seen c.args.counts c.view.ensures.same c.args.t (Err c.in-Err.refusal) c.in-Err.ensures c.requires in
     rw c.refused.ensures
     (refine_refused c.args.t (mesh_of (goal.at.returns-in-Err-clause-refined c).After-find) _ F.0 (number_some c.in-Err.refusal))
 

@@ -21,14 +21,14 @@ abbrev mesh_of : After-find → Mesh
 mesh_of c = mesh_with c.args.counts (held c.args.tables.now)
 
 found : (c : In-Ok) → Finds c.args.t (mesh_with c.args.counts (held c.args.tables.now)) (Ok c.in-Ok.chain)
-found c = found_seen c.args.counts c.view.ensures.same c.args.t (Ok c.in-Ok.chain) c.in-Ok.ensures
+found c = found_seen c.args.counts c.view.ensures.same c.args.t (Ok c.in-Ok.chain) c.in-Ok.ensures c.requires
 
 pub find-requires : goal.find-requires
 find-requires c = stands_seen c.args.counts c.view.ensures.same c.requires
 
 pub returns-in-Err-clause-refined : goal.returns-in-Err-clause-refined
 returns-in-Err-clause-refined c =
-    let (e, _) = found_seen c.args.counts c.view.ensures.same c.args.t (Err c.in-Err.refusal) c.in-Err.ensures in
+    let (e, _) = found_seen c.args.counts c.view.ensures.same c.args.t (Err c.in-Err.refusal) c.in-Err.ensures c.requires in
     rw c.refused.ensures
     (report_refused c.args.t (mesh_of (goal.at.returns-in-Err-clause-refined c).After-find) c.args.report.now _ e
     (number_some c.in-Err.refusal))
@@ -44,7 +44,7 @@ fits_told : (c : After-fits) →
     Goes c.args.t m c.in-Ok.chain
     → c.fits.result ≡ leb (length (refine c.args.t (at_first m)).report) (length c.args.report.now)
 fits_told c G =
-    fits_seen c.args.t c.args.counts c.in-Ok.chain _ c.view-2.ensures.same (c.fits.ensures c.args.t c.args.counts)
+    fits_seen c.args.t c.args.counts c.in-Ok.chain _ c.view-2.ensures.same (c.fits.ensures c.args.t c.args.counts _ _ _)
     G.found G.chain
 
 pub returns-then-not-fits-clause-refined : goal.returns-then-not-fits-clause-refined

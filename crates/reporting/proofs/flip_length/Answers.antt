@@ -5,12 +5,12 @@ use Rattle.reporting.proofs.flip_length.Goals as goal
 
 pub returns-then-is_base : goal.returns-then-is_base
 returns-then-is_base c = (
-  λ n. rw (sym (c.is_base.ensures n c.args.view.now.corners.now c.args.view.now.links.now) ∙ c.if-is_base.true) refl,
+  λ n k. rw (sym (c.is_base.ensures n k c.args.view.now.links.now) ∙ c.if-is_base.true) refl,
   omega arith,
 )
 
 pub returns : goal.returns
 returns c = (
-  λ n. rw (sym (c.is_base.ensures n c.args.view.now.corners.now c.args.view.now.links.now) ∙ c.if-is_base.false) refl,
+  λ n k. rw (sym (c.is_base.ensures n k c.args.view.now.links.now) ∙ c.if-is_base.false) refl,
   omega arith,
 )

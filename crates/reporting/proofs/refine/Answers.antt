@@ -65,7 +65,7 @@ fitted : (c : After-fits-telling)
     → c.fits-telling.result ≡ leb (length (whole c)) (length c.args.report.now - c.args.at)
 fitted c =
     fits_seen c.args.t c.args.counts c.args.chain _ c.view.ensures.same
-    (c.fits-telling.ensures c.args.t c.args.counts) c.requires.0 c.requires.1
+    (c.fits-telling.ensures c.args.t c.args.counts _ _ _) c.requires.0 c.requires.1
     ∙ ap (leb (length (whole c))) c.saturating_sub.ensures
 
 room : (c : After-fits-telling) → c.fits-telling.result ≡ true

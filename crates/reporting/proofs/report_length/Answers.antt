@@ -3,6 +3,6 @@ use Rattle.reporting.proofs.Telling.{length_steps}
 use Rattle.reporting.proofs.report_length.Goals as goal
 
 pub returns : goal.returns
-returns c t n R C =
-    length_steps R C (c.flip_length-own.ensures.0 n) (c.flip_length-second.ensures.0 n)
-    (c.flip_length-third.ensures.0 n) c.splits.ensures
+returns c t n p k l R C =
+    length_steps R C (c.flip_length-own.ensures.0 n k) (c.flip_length-second.ensures.0 n k)
+    (c.flip_length-third.ensures.0 n k) c.splits.ensures

@@ -6,7 +6,7 @@ use native.Mathlib.Omega.{arith}
 use mathlib.Core.Path.{◌≡◌, sym, ◌∙◌, ap}
 use lib.ListN.{length, length-set}
 use Rattle.rules.specs.Tables.{Topology}
-use Rattle.tables.specs.Lent.{seen, topology_with}
+use Rattle.tables.specs.Lent.{topology_now}
 use Rattle.split.proofs.Walk.{Walking, walk_begins, walk_ends, walk_more, walk_even}
 use Rattle.split.proofs.Walk.{walk_boundary, walk_on, Walked, walk_tells}
 use Rattle.split.proofs.base_chain.Goals.{In-loop-step}
@@ -15,7 +15,7 @@ use Rattle.split.proofs.base_chain.Goals.{else-loop-step-test, then-loop-step-te
 
 pub loop-step-init : goal.loop-step-init
 loop-step-init c =
-    (λ n. rw (c.generation_at-steps.ensures, sub-zero) (walk_begins _), search rules, search rules)
+    (λ n k. rw (c.generation_at-steps.ensures, sub-zero) (walk_begins _), search rules, search rules)
 
 -- An odd triangle's generation, as it was read.
 odd_read : (g r : ℕ) → r ≡ g → (r % 2 ≡ 0 → ⊥) → g % 2 ≡ 1
@@ -27,9 +27,9 @@ left c = c.generation_at-steps.result - (c.loop-step._step + 1)
 
 pub loop-step-preserved : goal.loop-step-preserved
 loop-step-preserved c = (
-  λ n.
+  λ n k.
       rw c.base_link-across.ensures
-      (walk_on _ (walk_more (left (goal.at.loop-step-preserved c).In-loop-step) (omega (arith, c.loop-step-test.true)) (c.loop-step.invariant.0 n))
+      (walk_on _ (walk_more (left (goal.at.loop-step-preserved c).In-loop-step) (omega (arith, c.loop-step-test.true)) (c.loop-step.invariant.0 n k))
       (odd_read _ _ c.generation_at.ensures c.if-generation_at-eq0.false) (omega arith)
       (λ e. c.if-across.false (c.base_link-across.ensures ∙ e))),
   omega arith,
@@ -37,11 +37,11 @@ loop-step-preserved c = (
 )
 
 pub returns : goal.returns
-returns c n =
-    let m : Topology = topology_with n (seen c.args.view.now) in
+returns c n k =
+    let m : Topology = topology_now n k c.args.view.now.links.now c.args.view.now.generations.now in
     let ahead : ℕ = c.generation_at-steps.result - c.loop-step._step in
     let walking : Walking m c.args.t c.loop-step.odd c.loop-step.end ahead c.loop-step.slots =
-    c.loop-step.invariant.0 n in
+    c.loop-step.invariant.0 n k in
     -- past the loop: by its test, or by one of its two breaks
     let walked : Walked m c.args.t c.loop-step-test.odd c.loop-step.end c.loop-step-test.slots =
     elim c.loop-step-test.branch [

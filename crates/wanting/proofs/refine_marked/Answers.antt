@@ -51,7 +51,7 @@ near_of n c g {end} q e = q ∙ ap (λ (y : Spares). nearby (topology_now n c y.
 
 pub with_neighbours-near-requires : goal.with_neighbours-near-requires
 with_neighbours-near-requires c =
-    let C = chain_of c.args.counts (c.base_chain-chain.ensures c.args.counts) c.view-before.ensures.same in
+    let C = chain_of c.args.counts (c.base_chain-chain.ensures c.args.counts _) c.view-before.ensures.same in
     omega (arith, (follows c.requires.1 c.requires.2 C).end, c.view-before.ensures.sizes)
 
 pub refine-done-requires : goal.refine-done-requires
@@ -68,7 +68,7 @@ refined : (c : After-refine-done) → c.refine-done.result.refusal ≡ 0 → Ref
 refined c z = refine_carried c.args.t (mesh_of c) c.refine-done.ensures.refined z
 
 chain : (c : After-refine-done) → BaseChain (mesh_of c).topology c.args.t c.base_chain-chain.result
-chain c = chain_of c.args.counts (c.base_chain-chain.ensures c.args.counts) c.view-before.ensures.same
+chain c = chain_of c.args.counts (c.base_chain-chain.ensures c.args.counts _) c.view-before.ensures.same
 
 not_yet : (c : After-refine-done) → c.refine-done.result.refusal ≡ 0
     → Stale (box_of c.args.low c.args.high c.args.below) c.args.t (mesh_of c) (left c)

@@ -14,7 +14,7 @@ use Rattle.noting.proofs.changed.list_changed.Goals as goal
 
 few : (c : After-add_mets-n) → c.add_mets-n.result ≤ 13
 few c =
-    let (t, n, G) = c.requires.1 in
+    let (t, n, p, k, l, G) = c.requires.1 in
     omega (arith, c.add_mets-n.ensures.1, c.saturating_sub-before.ensures, few_places G)
 
 inside : (c : After-add_mets-n) → c.add_mets-n.result ≤ length c.add_mets-n.new.odd
@@ -30,7 +30,7 @@ joined c = rw c.saturating_sub-before.ensures at c.add_mets-n.ensures.0
 
 pub add_mets-n-requires : goal.add_mets-n-requires
 add_mets-n-requires c =
-    let (t, n, G) = c.requires.1 in
+    let (t, n, p, k, l, G) = c.requires.1 in
     (omega (arith, few_places G, c.saturating_sub-before.ensures), met_entries G)
 
 pub slice_bounds-odd-end : goal.slice_bounds-odd-end
@@ -44,7 +44,7 @@ slice_bounds-list_all-end c =
 pub list_all-near-requires : goal.list_all-near-requires
 list_all-near-requires c =
     let start = (goal.at.list_all-near-requires c).After-add_mets-n in
-    let (t, n, G) = c.requires.1 in (
+    let (t, n, p, k, l, G) = c.requires.1 in (
       c.requires.0,
       omega (arith, few_listed start),
       front_sides c.args.view.now.links.now c.add_mets-n.new.odd c.add_mets-n.result (inside start)
@@ -54,7 +54,7 @@ list_all-near-requires c =
 pub insert-own-requires : goal.insert-own-requires
 insert-own-requires c =
     let start = (goal.at.insert-own-requires c).After-add_mets-n in
-    let (t, n, G) = c.requires.1 in
+    let (t, n, p, k, l, G) = c.requires.1 in
     (c.list_all-near.ensures.0.rises, omega (arith, few_listed start, c.list_all-near.ensures.1), end_slot G)
 
 near : (c : After-list_all-near) → c.add_mets-n.result ≤ length c.add_mets-n.new.odd →
@@ -69,13 +69,13 @@ returns-then-n-before c =
     let alone = end_alone c.args.view.now.links.now c.args.view.now.generations.now c.args.chain.end
     (c.add_mets-n.ensures.2 c.if-n-before.true) c.insert-own.ensures.0 in (
       c.insert-own.ensures.0.rises.within,
-      λ t n G. all_listed G (joined start) (adds_then listed alone),
+      λ t n p k l G. all_listed G (joined start) (adds_then listed alone),
     )
 
 pub list_beside-requires : goal.list_beside-requires
 list_beside-requires c =
     let start = (goal.at.list_beside-requires c).After-add_mets-n in
-    let (t, n, G) = c.requires.1 in (
+    let (t, n, p, k, l, G) = c.requires.1 in (
       c.insert-own.ensures.0.rises,
       omega (arith, c.insert-own.ensures.1, few_listed start, c.list_all-near.ensures.1),
       end_entries G,
@@ -87,5 +87,5 @@ returns c =
     let listed = near (goal.at.returns c).After-list_all-near (inside start) in
     let end = adds_then c.insert-own.ensures.0 c.list_beside.ensures in (
       c.list_beside.ensures.rises.within,
-      λ t n G. all_listed G (joined start) (adds_then listed end),
+      λ t n p k l G. all_listed G (joined start) (adds_then listed end),
     )

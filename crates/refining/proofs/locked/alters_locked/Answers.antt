@@ -15,16 +15,16 @@ chain_told c =
     sym (c.some_locked.ensures ∙ front_locked c.args.chain.odd c.args.chain.slots c.args.view.now.locks.now (omega (arith, c.requires.few)))
 
 pub returns-then-some_locked : goal.returns-then-some_locked
-returns-then-some_locked c n t C =
+returns-then-some_locked c n p k t C =
     alters_by_tests t _ C (chain_told (goal.at.returns-then-some_locked c).After-some_locked ∙ c.if-some_locked.true)
     refl refl
 
 pub returns-then-is_locked : goal.returns-then-is_locked
-returns-then-is_locked c n t C =
+returns-then-is_locked c n p k t C =
     alters_by_tests t _ C (chain_told (goal.at.returns-then-is_locked c).After-some_locked ∙ c.if-some_locked.false)
     (sym c.is_locked.ensures ∙ c.if-is_locked.true) refl
 
 pub returns : goal.returns
-returns c n t C =
+returns c n p k t C =
     alters_by_tests t _ C (chain_told (goal.at.returns c).After-some_locked ∙ c.if-some_locked.false)
     (sym c.is_locked.ensures ∙ c.if-is_locked.false) (sym (c.meets_locked.ensures n))

@@ -24,21 +24,27 @@ same_by_tables : (m : Mesh) (n : Counts) {s t : Spares} {r : Bool} → r ≡ sam
 same_by_tables m n e q = e ∙ ap (λ (s : Spares). same_in_use m (mesh_with n s)) q
 
 pub find-requires : goal.find-requires
-find-requires c = old_stands _ c.is_sound.ensures c.if-not-is_sound.false
+find-requires c = (c.view-before.result.corners.now, old_stands _ c.is_sound.ensures c.if-not-is_sound.false)
 
 pub returns-in_default : goal.returns-in_default
 returns-in_default c =
-    not_refined _ _ _ (sound_by_tables _ c.is_sound.ensures c.view-before.ensures.same) c.if-not-is_sound.false
-    (found_seen c.args.tried c.view-before.ensures.same c.args.t (Err c.in_default.field-0) c.in_default.ensures).0
+    let sound = sound_by_tables _ c.is_sound.ensures c.view-before.ensures.same in
+    not_refined _ _ _ sound c.if-not-is_sound.false
+    (found_seen c.args.tried c.view-before.ensures.same c.args.t (Err c.in_default.field-0) c.in_default.ensures
+    (old_stands _ sound c.if-not-is_sound.false)).0
     (number_some _)
 
 pub carry_out-made-requires : goal.carry_out-made-requires
 carry_out-made-requires c =
-    finds_goes (found_seen c.args.tried c.view-before.ensures.same c.args.t (Ok c.in-Ok.chain) c.in-Ok.ensures)
+    let sound = sound_by_tables _ c.is_sound.ensures c.view-before.ensures.same in
+    finds_goes (found_seen c.args.tried c.view-before.ensures.same c.args.t (Ok c.in-Ok.chain) c.in-Ok.ensures
+    (old_stands _ sound c.if-not-is_sound.false))
 
 pub returns : goal.returns
 returns c =
-    let found = found_seen c.args.tried c.view-before.ensures.same c.args.t (Ok c.in-Ok.chain) c.in-Ok.ensures in
-    refined_compared _ _ _ (sound_by_tables _ c.is_sound.ensures c.view-before.ensures.same) c.if-not-is_sound.false
+    let sound = sound_by_tables _ c.is_sound.ensures c.view-before.ensures.same in
+    let found = found_seen c.args.tried c.view-before.ensures.same c.args.t (Ok c.in-Ok.chain) c.in-Ok.ensures
+    (old_stands _ sound c.if-not-is_sound.false) in
+    refined_compared _ _ _ sound c.if-not-is_sound.false
     (sym found.0) (ap (λ (o : Outcome). o.mesh) c.carry_out-made.ensures.refined)
     (same_by_tables _ _ c.same_in_use.ensures c.view.ensures.same)
