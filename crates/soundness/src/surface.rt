@@ -29,6 +29,7 @@ fn start_by(view: &View, counts: Counts, v: u32, starts: &mut [u32]) -> Option<u
 }
 
 // The same for up to N vertices, of which there are no more than 32,768.
+#[inline(never)]
 fn start_within<const N: usize>(view: &View, counts: Counts, v: u32) -> Option<u32>
     requires room { Room counts.triangles (seen view.now) }
     requires slots { (counts.vertices ≤ N) × (N ≤ 32768) }
