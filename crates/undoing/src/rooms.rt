@@ -7,7 +7,7 @@ ghost use Rattle.restoring.specs.Fitting.{NoteFits};
 ghost use Rattle.undoing.specs.Trying.{accepted_cut};
 
 use crate::trying::accepts_in;
-use tables::{Counts, Tables, View};
+use tables::{Counts, View};
 
 // Whether a note is accepted, tried in tables for so many coordinates, sides and triangles. A room keeps a frame of its
 // own, so that a small mesh does not touch the pages of a great one.
@@ -30,17 +30,16 @@ fn accepts_within<const COORDINATES: usize, const SIDES: usize, const TRIANGLES:
     let mut links = [0u32; SIDES];
     let mut generations = [0u8; TRIANGLES];
     let mut locks = [0u8; TRIANGLES];
-    let triangles = counts.triangles as usize;
-    let sides = 3 * triangles;
-    let coordinates = 3 * (counts.vertices as usize);
-    let mut room = Tables {
-        positions: &mut positions[..coordinates],
-        corners: &mut corners[..sides],
-        links: &mut links[..sides],
-        generations: &mut generations[..triangles],
-        locks: &mut locks[..triangles],
-    };
-    accepts_in(view, counts, note, &mut room)
+    accepts_in(
+        view,
+        counts,
+        note,
+        &mut positions,
+        &mut corners,
+        &mut links,
+        &mut generations,
+        &mut locks,
+    )
 }
 
 // The same for all. A room is at most three times the one below, so that clearing it takes less than a test of

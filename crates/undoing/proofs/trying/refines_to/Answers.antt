@@ -26,8 +26,8 @@ same_by_tables m n e q = e ∙ ap (λ (s : Spares). same_in_use m (mesh_with n s
 pub find-requires : goal.find-requires
 find-requires c = (c.view-before.result.corners.now, old_stands _ c.is_sound.ensures c.if-not-is_sound.false)
 
-pub returns-in_default : goal.returns-in_default
-returns-in_default c =
+pub returns-in_default-clause-refined : goal.returns-in_default-clause-refined
+returns-in_default-clause-refined c =
     let sound = sound_by_tables _ c.is_sound.ensures c.view-before.ensures.same in
     not_refined _ _ _ sound c.if-not-is_sound.false
     (found_seen c.args.tried c.view-before.ensures.same c.args.t (Err c.in_default.field-0) c.in_default.ensures
@@ -40,8 +40,8 @@ carry_out-made-requires c =
     finds_goes (found_seen c.args.tried c.view-before.ensures.same c.args.t (Ok c.in-Ok.chain) c.in-Ok.ensures
     (old_stands _ sound c.if-not-is_sound.false))
 
-pub returns : goal.returns
-returns c =
+pub returns-clause-refined : goal.returns-clause-refined
+returns-clause-refined c =
     let sound = sound_by_tables _ c.is_sound.ensures c.view-before.ensures.same in
     let found = found_seen c.args.tried c.view-before.ensures.same c.args.t (Ok c.in-Ok.chain) c.in-Ok.ensures
     (old_stands _ sound c.if-not-is_sound.false) in
