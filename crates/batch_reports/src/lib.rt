@@ -32,7 +32,7 @@ pub fn preview(
     let stands = soundness::first_refusal(view, counts);
     if let Err(refusal) = lending::refusal(view, stands, true, &spares.view()) {
         return ForeseenReported {
-            foreseen: BatchForeseen::refused(refusal, counts),
+            foreseen: BatchForeseen::refused(refusal.number(), counts),
             reported: 0,
         };
     }
@@ -62,7 +62,7 @@ pub fn refine_box(
     let fits = points::box_fits(low, high, below);
     if let Err(refusal) = lending::refusal(&view, stands, fits, &spares.view()) {
         return BatchReported {
-            worked: BatchWorked::refused(refusal, counts),
+            worked: BatchWorked::refused(refusal.number(), counts),
             reported: 0,
         };
     }

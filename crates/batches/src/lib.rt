@@ -32,7 +32,7 @@ pub fn refine_list_known(
     ensures spares_lent { SameTables spares.new spares.old }
 {
     if let Err(refusal) = lending::refusal(&tables.view(), stands, true, &spares.view()) {
-        return BatchWorked::refused(refusal, counts);
+        return BatchWorked::refused(refusal.number(), counts);
     }
     listing::refine_list(tables, counts, list, spares)
 }
@@ -64,7 +64,7 @@ pub fn preview(view: &View, counts: Counts, list: &[u32], spares: &mut Tables) -
 {
     let stands = soundness::first_refusal(view, counts);
     if let Err(refusal) = lending::refusal(view, stands, true, &spares.view()) {
-        return BatchForeseen::refused(refusal, counts);
+        return BatchForeseen::refused(refusal.number(), counts);
     }
     foreseeing::preview(view, counts, list, spares)
 }

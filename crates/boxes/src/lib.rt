@@ -34,7 +34,7 @@ pub fn refine_box_known(
 {
     let fits = points::box_fits(low, high, below);
     if let Err(refusal) = lending::refusal(&tables.view(), stands, fits, &spares.view()) {
-        return BatchWorked::refused(refusal, counts);
+        return BatchWorked::refused(refusal.number(), counts);
     }
     boxing::refine_box(tables, counts, low, high, below, spares)
 }

@@ -5,12 +5,10 @@ ghost use Rattle.std.specs.Prelude.{◌≡◌};
 ghost use Rattle.rules.specs.Calls.{with_report};
 ghost use Rattle.rules.specs.Lists.{refine_each};
 ghost use Rattle.tables.specs.Lent.{mesh_with, held, seen, SameTables};
-ghost use Rattle.tables.specs.Refusals.{number};
 ghost use Rattle.refining.specs.Batches.{MayWork, list_done, only_read, reported_done};
 ghost use Rattle.foreseeing.specs.Foreseen.{refused_foreseen, foreseen_of, foreseen_outcome};
 
 use refining::spares::Batch;
-use tables::refusals::Refusal;
 use tables::{Counts, Tables, View};
 
 // The answer of a preview: V and F are those that the list would answer, and no counts of the mesh, which stands. On a
@@ -30,11 +28,11 @@ pub struct BatchForeseen {
 
 impl BatchForeseen {
     // The answer of a preview that is refused before the work.
-    pub fn refused(refusal: Refusal, counts: Counts) -> Self
-        ensures { result ≡ refused_foreseen (number refusal) counts }
+    pub fn refused(refusal: u32, counts: Counts) -> Self
+        ensures { result ≡ refused_foreseen refusal counts }
     {
         Self {
-            refusal: refusal.number(),
+            refusal,
             splits: 0,
             flips: 0,
             foreseen_vertices: counts.vertices,

@@ -12,7 +12,7 @@ ghost use Rattle.rules.specs.Split.{at_first, refine};
 ghost use Rattle.rules.specs.Tables.{tables_agree};
 ghost use Rattle.tables.specs.Answers.{worked_outcome};
 ghost use Rattle.tables.specs.Lent.{held, seen, topology_with, mesh_with, SameTables};
-ghost use Rattle.tables.specs.Refusals.{number, refused};
+ghost use Rattle.tables.specs.Refusals.{refused};
 ghost use Rattle.tables.specs.declared.Counts.{Counts};
 ghost use Rattle.split.specs.Made.{BaseChain};
 ghost use Rattle.tables.specs.Standing.{standing};
@@ -34,11 +34,16 @@ pub struct Reported {
 
 impl Reported {
     // The answer of one that is refused.
-    pub fn refused(refusal: Refusal, counts: Counts) -> Self
-        ensures { result ≡ refused_report (number refusal) counts }
+    pub fn refused(refusal: u32, counts: Counts) -> Self
+        ensures { result ≡ refused_report refusal counts }
     {
         Self {
-            worked: Worked::refused(refusal, counts),
+            worked: Worked {
+                refusal,
+                splits: 0,
+                flips: 0,
+                counts,
+            },
             reported: 0,
         }
     }
@@ -193,10 +198,10 @@ pub fn refine_reported(
 {
     let chain = match find(&tables.view(), counts, t, stands) {
         Ok(chain) => chain,
-        Err(refusal) => return Reported::refused(refusal, counts),
+        Err(refusal) => return Reported::refused(refusal.number(), counts),
     };
     if !reporting::fits(&tables.view(), chain, report.len()) {
-        return Reported::refused(Refusal::ReportShort, counts);
+        return Reported::refused(Refusal::ReportShort.number(), counts);
     }
     Reported::carried(carry_out(tables, counts, t, chain, report, 0))
 }

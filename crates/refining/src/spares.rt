@@ -3,7 +3,6 @@ ghost use Rattle.std.specs.Prelude.{◌≡◌, ◌≤◌};
 ghost use Rattle.rules.specs.Lists.{Progress, all_or_nothing};
 ghost use Rattle.rules.specs.Spares.{Spares};
 ghost use Rattle.tables.specs.Lent.{held, seen, mesh_with, SameTables};
-ghost use Rattle.tables.specs.Refusals.{number};
 ghost use Rattle.refining.specs.Batches.{Made, batch_outcome, refused_batch, fit_in};
 
 use tables::refusals::Refusal;
@@ -37,11 +36,11 @@ pub struct BatchWorked {
 
 impl BatchWorked {
     // The answer of such a call that is refused before the work.
-    pub fn refused(refusal: Refusal, counts: Counts) -> Self
-        ensures { result ≡ refused_batch (number refusal) counts }
+    pub fn refused(refusal: u32, counts: Counts) -> Self
+        ensures { result ≡ refused_batch refusal counts }
     {
         Self {
-            refusal: refusal.number(),
+            refusal,
             splits: 0,
             flips: 0,
             counts,

@@ -63,7 +63,7 @@ pub fn refine_list(
     let stands = soundness::first_refusal(&view, counts);
     if let Err(refusal) = lending::refusal(&view, stands, true, &spares.view()) {
         return BatchReported {
-            worked: BatchWorked::refused(refusal, counts),
+            worked: BatchWorked::refused(refusal.number(), counts),
             reported: 0,
         };
     }

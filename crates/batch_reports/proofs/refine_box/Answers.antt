@@ -9,7 +9,7 @@ use Rattle.batch_reports.proofs.refine_box.Goals as goal
 
 pub returns-in-Err-clause-boxed : goal.returns-in-Err-clause-boxed
 returns-in-Err-clause-boxed c =
-    rw c.refused.ensures
+    rw (c.refused.ensures, c.number.ensures)
     (box_refused _ _ c.args.report.now _ _ c.box_fits-fits.ensures
     (by_seen c.args.counts _ c.view-view.ensures.same c.view.ensures.same c.in-Err.ensures c.first_refusal-stands.ensures)
     (number_some _))

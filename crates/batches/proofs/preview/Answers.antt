@@ -8,7 +8,7 @@ use Rattle.batches.proofs.preview.Goals as goal
 
 pub returns-in-Err-clause-foreseen : goal.returns-in-Err-clause-foreseen
 returns-in-Err-clause-foreseen c =
-    rw c.refused.ensures
+    rw (c.refused.ensures, c.number.ensures)
     (preview_refused _ _ _
     (by_seen c.args.counts true refl c.view.ensures.same c.in-Err.ensures c.first_refusal-stands.ensures) _ (number_some _))
 

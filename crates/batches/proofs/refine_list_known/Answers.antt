@@ -8,7 +8,7 @@ use Rattle.batches.proofs.refine_list_known.Goals as goal
 
 pub returns-in-Err-clause-refined : goal.returns-in-Err-clause-refined
 returns-in-Err-clause-refined c =
-    rw c.refused.ensures
+    rw (c.refused.ensures, c.number.ensures)
     (list_refused _ _ _
     (by_tables c.args.counts true c.view.ensures.same c.view-2.ensures.same c.in-Err.ensures c.requires) _ (number_some _))
 

@@ -9,7 +9,7 @@ use Rattle.boxes.proofs.refine_box_known.Goals as goal
 
 pub returns-in-Err-clause-boxed : goal.returns-in-Err-clause-boxed
 returns-in-Err-clause-boxed c =
-    rw c.refused.ensures
+    rw (c.refused.ensures, c.number.ensures)
     (box_refused _ _ _ c.box_fits-fits.ensures _
     (by_tables c.args.counts _ c.view.ensures.same c.view-2.ensures.same c.in-Err.ensures c.requires) (number_some _))
 

@@ -29,7 +29,7 @@ find-requires c = stands_seen c.args.counts c.view.ensures.same c.requires
 pub returns-in-Err-clause-refined : goal.returns-in-Err-clause-refined
 returns-in-Err-clause-refined c =
     let (e, _) = found_seen c.args.counts c.view.ensures.same c.args.t (Err c.in-Err.refusal) c.in-Err.ensures c.requires in
-    rw c.refused.ensures
+    rw (c.refused.ensures, c.number.ensures)
     (report_refused c.args.t (mesh_of (goal.at.returns-in-Err-clause-refined c).After-find) c.args.report.now _ e
     (number_some c.in-Err.refusal))
 
@@ -52,7 +52,7 @@ returns-then-not-fits-clause-refined c =
     let m = mesh_of (goal.at.returns-then-not-fits-clause-refined c).After-find in
     let F = found (goal.at.returns-then-not-fits-clause-refined c).In-Ok in
     let fits = fits_told (goal.at.returns-then-not-fits-clause-refined c).After-fits (finds_goes F) in
-    rw c.refused-then-not-fits.ensures
+    rw (c.refused-then-not-fits.ensures, c.number-then-not-fits.ensures)
     (report_short c.args.t m c.args.report.now 0 F.0 refl (leb-false _ _ (sym fits ∙ c.if-not-fits.true)))
 
 pub carry_out-requires : goal.carry_out-requires

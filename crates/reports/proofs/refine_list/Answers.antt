@@ -9,7 +9,7 @@ use Rattle.reports.proofs.refine_list.Goals as goal
 
 pub returns-in-Err-clause-refined : goal.returns-in-Err-clause-refined
 returns-in-Err-clause-refined c =
-    rw c.refused.ensures
+    rw (c.refused.ensures, c.number.ensures)
     (list_refused _ _ c.args.report.now _
     (by_seen c.args.counts true c.view-view.ensures.same c.view.ensures.same c.in-Err.ensures c.first_refusal-stands.ensures)
     _ (number_some _))
