@@ -5,13 +5,21 @@
 
 ghost use Rattle.std.specs.Prelude.{ℕ, ◌%◌, ◌≤◌, List, ◌≡◌, Some, length, take};
 ghost use Rattle.rules.specs.Calls.{load_call, refine_call};
-ghost use Rattle.refine.specs.Requests.{fresh, line_of, store_mesh, store_outcome, after_bytes, AllAnswered};
+ghost use Rattle.tables.specs.Lent.{mesh_with};
+ghost use Rattle.refine.specs.Requests.{fresh, line_of, tables_of, store_mesh, store_outcome, after_bytes, AllAnswered};
 
 use std::fs::File;
 use std::io::Read;
 use std::rt::Files;
 use std::{fmt, io};
 use tables::{Counts, Tables, Worked};
+
+// The counts of a store with no mesh in it yet.
+const FRESH: Counts = Counts {
+    vertices: 0,
+    triangles: 0,
+    rule: 1,
+};
 
 // The mesh that the program keeps, in 1,024 vertex and 2,048 triangle slots.
 // Kept: no heap: the program's tables are arrays of fixed size.
@@ -36,18 +44,14 @@ impl Store {
             links: [0; 6144],
             generations: [0; 2048],
             locks: [0; 2048],
-            counts: Counts {
-                vertices: 0,
-                triangles: 0,
-                rule: 1,
-            },
+            counts: FRESH,
         }
     }
 
-    // Loads a cage by rule 1.
+    // Loads a cage by rule 1, as into a fresh store.
     fn load(&mut self, cage: &[u8]) -> Worked
         ensures counts { self.new.counts ≡ result.counts }
-        ensures outcome { store_outcome result self.new ≡ load_call 1 cage.now (store_mesh self.old) }
+        ensures outcome { store_outcome result self.new ≡ load_call 1 cage.now (mesh_with fresh (tables_of self.old)) }
     {
         let mut tables = Tables {
             positions: &mut self.positions,
@@ -56,7 +60,7 @@ impl Store {
             generations: &mut self.generations,
             locks: &mut self.locks,
         };
-        let done = mesh::load(&mut tables, self.counts, 1, cage);
+        let done = mesh::load(&mut tables, FRESH, 1, cage);
         self.counts = done.counts;
         done
     }
@@ -112,10 +116,12 @@ fn read_full(file: &mut impl Read, buffer: &mut [u8]) -> (usize, io::Result<()>)
     (done, Ok(()))
 }
 
-// Loads the cage in a file; one that is missing is empty. The buffer has a byte more than the largest cage of this
-// store, so that a longer file is longer here too.
+// Loads the cage in a file by rule 1, as into a fresh store; one that is missing is empty. The buffer has a byte more
+// than the largest cage of this store, so that a longer file is longer here too.
 fn load(store: &mut Store, rt: &impl Files, path: &str) -> (Worked, io::Result<()>)
-    ensures { (bytes : List ℕ) × (store_outcome result.0 store.new ≡ load_call 1 bytes (store_mesh store.old)) }
+    ensures counts { store.new.counts ≡ result.0.counts }
+    ensures outcome { (bytes : List ℕ)
+        × (store_outcome result.0 store.new ≡ load_call 1 bytes (mesh_with fresh (tables_of store.old))) }
 {
     let mut cage = [0; 36873];
     let Ok(mut file) = File::open(rt, path) else {
