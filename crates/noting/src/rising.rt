@@ -1,7 +1,29 @@
 // Numbers in rising order, in an array in which they end at place 32. The boundary's number stands in the places after
 // them and is above all of them. A further number moves those below it, with the place before them, down by one place.
 ghost use Rattle.std.specs.Prelude.{List, ◌≡◌, ℕ, ◌+◌, ◌-◌, ◌*◌, ◌≤◌, ◌<◌, length, get_or};
-ghost use Rattle.noting.specs.Rising.{Rising, Passed, Back, Adds};
+ghost use Rattle.noting.specs.Rising.{Rising, Moved, Passed, Back, Adds};
+
+// Moves the N entries from this place on, which the compiler moves as one. `copy_within` would call `memmove`, which
+// takes longer for so few.
+fn move_down<const N: usize>(numbers: &mut [u32], at: usize)
+    requires { (0 < at) × (at + N ≤ length numbers.old) }
+    ensures { Moved numbers.old at (at + N) numbers.new }
+{
+    for i in 0..N {
+        numbers[at + i - 1] = numbers[at + i];
+    }
+}
+
+// Moves the last N of those that stand before this place back.
+fn move_up<const N: usize>(numbers: &mut [u32], at: usize)
+    requires { (N < at) × (at ≤ length numbers.old) }
+    ensures { (l : List ℕ) (from : ℕ) → Back l from at numbers.old
+        → Back l from (at - N) numbers.new }
+{
+    for i in 0..N {
+        numbers[at - i - 1] = numbers[at - i - 2];
+    }
+}
 
 // Moves entries four at a time, as long as the next after them is below x. That one is none of the four, so that these
 // are moved as one.
@@ -16,7 +38,7 @@ fn pass_fours(numbers: &mut [u32], from: usize, x: u32) -> usize
     }
     let mut at = from;
     loop {
-        numbers.copy_within(at..at + 4, at - 1);
+        move_down::<4>(numbers, at);
         at += 4;
         if x <= numbers[at + 4] {
             return at;
@@ -35,7 +57,7 @@ fn pass_some<const N: usize>(numbers: &mut [u32], at: usize, x: u32) -> usize
     if x <= numbers[at + N] {
         return at;
     }
-    numbers.copy_within(at..at + N, at - 1);
+    move_down::<N>(numbers, at);
     at + N
 }
 
@@ -48,7 +70,7 @@ fn move_back(numbers: &mut [u32], from: usize, to: usize)
 {
     let mut at = to;
     while from < at {
-        numbers.copy_within(at - 5..at - 1, at - 4);
+        move_up::<4>(numbers, at);
         at -= 4;
     }
 }

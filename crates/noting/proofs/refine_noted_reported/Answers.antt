@@ -37,7 +37,7 @@ find-requires c = stands_seen c.args.counts c.view.ensures.same c.requires
 pub returns-in-Err-clause-refined : goal.returns-in-Err-clause-refined
 returns-in-Err-clause-refined c =
     let F = found_seen c.args.counts c.view.ensures.same c.args.t (Err c.in-Err.refusal) c.in-Err.ensures c.requires in
-    rw c.refused.ensures
+    rw (c.refused.ensures, c.number.ensures)
     (reported_refused c.args.t c.args.note.now (mesh_of (goal.at.returns-in-Err-clause-refined c).After-find)
     c.args.report.now _ F.0 (number_some c.in-Err.refusal))
 
@@ -78,5 +78,5 @@ returns-in-Err-note_changes-clause-refined c =
     let fits = fits_is (goal.at.returns-in-Err-note_changes-clause-refined c).After-fits-report_fits (finds_goes F) in
     let N =
     notes_seen c.args.counts c.view-3.ensures.same (Err c.in-Err-note_changes.refusal) c.in-Err-note_changes.ensures in
-    rw c.refused-in-Err-note_changes.ensures
+    rw (c.refused-in-Err-note_changes.ensures, c.number-in-Err-note_changes.ensures)
     (reported_short c.args.t c.args.note.now m c.args.report.now (sym F.0) fits c.in-Err-note_changes.refusal N)
