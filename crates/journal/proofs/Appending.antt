@@ -11,8 +11,7 @@ use lib.ListN.{length, get_or, take, drop, set, length-append}
 use lib.IntN.{ℤ, pos, negsuc}
 use mir.Syntax.{w32}
 use Rattle.std.specs.Int.{to_le_bytes, cast_unsigned}
-use borrow.Rule.Slice.PartMut.{put_mid}
-use lib.Seq.{sets, sets-eq, drop-drop, length-sets, length-take-le, take-suc, take_at, drop_at}
+use lib.Seq.{sets, sets-eq, length-sets, length-take-le, take-suc, take_at, drop_at}
 use Rattle.crc.specs.Crc.{crc32}
 use Rattle.theory.proofs.Numbers.Decide.{is_le, is_and, when_true}
 use Rattle.journal.specs.Appending.{Put}
@@ -59,14 +58,6 @@ seal_on {xs = xs} {l} {at = at} {end} h r f g =
 
 -- ---- numbers and bytes
 
-pub bytes_put : (e bytes : List ℕ) (at n : ℕ) → n ≡ at + length bytes → n ≤ length e
-    → Put e at bytes (put_mid at (n - at) e bytes)
-bytes_put e bytes at n q l =
-    let k : n - at ≡ length bytes = omega arith in
-    let h : at + length bytes ≤ length e = omega arith in
-    putting e at bytes
-    (rw (k, drop-drop (length bytes) at e) (sym (append_assoc (take at e) bytes _)) ∙ sym (sets-eq bytes e at h))
-
 -- A number's bytes, the lowest first.
 pub four_low_first : (n : ℕ) → to_le_bytes w32 n ≡ four_bytes n
 unfolding four_bytes
@@ -90,10 +81,20 @@ pub bytes_two : (m n : ℕ) → bytes_of (m ∷ n ∷ []) ≡ four_bytes m ++ fo
 unfolding bytes_of
 bytes_two m n = ap (λ (l : List ℕ). four_bytes m ++ l) (append-nil (four_bytes n))
 
--- The loop has written the first i numbers.
+-- The loop has written the first i bytes.
+pub no_bytes_put : (d : List ℕ) (at : ℕ) → Put d at [] d
+no_bytes_put d at = putting d at [] refl
+
+pub byte_put : {d l : List ℕ} {at : ℕ} (s : List ℕ) (i : ℕ) → i < length s → Put d at (take i s) l
+    → Put d at (take (i + 1) s) (set l (at + i) (get_or s i 0))
+byte_put {l = l} {at} s i h f =
+    let k : at + i ≡ at + length (take i s) = rw (length-take-le i s (omega arith)) refl in
+    rw (add-one, take-suc s i 0 h) (put_on k f (putting l (at + i) (get_or s i 0 ∷ []) refl))
+
+-- The first i numbers.
 pub no_numbers_put : (d : List ℕ) (at : ℕ) → Put d at (bytes_of []) d
 unfolding bytes_of
-no_numbers_put d at = putting d at [] refl
+no_numbers_put d at = no_bytes_put d at
 
 pub number_put : {d l n : List ℕ} {at : ℕ} (s : List ℕ) (i : ℕ) → i < length s → Put d at (bytes_of (take i s)) l
     → Put l (at + 4 * i) (four_bytes (get_or s i 0)) n → Put d at (bytes_of (take (i + 1) s)) n

@@ -21,11 +21,14 @@ fn fits(room: usize, n: usize) -> bool
 }
 
 // Writes some bytes to the buffer from place `at` on.
+// Kept: the C interface: the library needs `memset` alone from outside, and `copy_from_slice` calls `memmove`.
 fn put_bytes(buffer: &mut [u8], at: usize, bytes: &[u8])
     requires { at + length bytes.now ≤ length buffer.old }
     ensures { Put buffer.old at bytes.now buffer.new }
 {
-    buffer[at..at + bytes.len()].copy_from_slice(bytes);
+    for (i, byte) in bytes.iter().enumerate() {
+        buffer[at + i] = *byte;
+    }
 }
 
 // Writes a number.
