@@ -26,37 +26,37 @@ fn tell_slots(report: &mut [u32], at: usize, t: u32, f: u32) -> usize
 }
 
 // Whether child c of a split was flipped, by the generations that are left.
-fn is_flipped(tables: &Tables, c: u32) -> bool
-    requires { c < length tables.now.generations.now }
-    ensures { result ≡ is_flipped tables.now.generations.now c }
+fn is_flipped(generations: &[u8], c: u32) -> bool
+    requires { c < length generations.now }
+    ensures { result ≡ is_flipped generations.now c }
 {
     let slot = c as usize;
-    tables.generations[slot] % 2 == 0
+    generations[slot] % 2 == 0
 }
 
 // Whether the second child f of the split of t was. Where this was a rim split, f is even without a flip; there alone
 // its side 2 leads to side 2 of t.
-fn is_second_flipped(tables: &Tables, t: u32, f: u32) -> bool
-    requires { (f < length tables.now.generations.now) × (3 * f + 2 < length tables.now.links.now) × (t < 65536) }
-    ensures { result ≡ is_second_flipped tables.now.links.now tables.now.generations.now t f }
+fn is_second_flipped(links: &[u32], generations: &[u8], t: u32, f: u32) -> bool
+    requires { (f < length generations.now) × (3 * f + 2 < length links.now) × (t < 65536) }
+    ensures { result ≡ is_second_flipped links.now generations.now t f }
 {
     let side = 3 * (f as usize) + 2;
-    is_flipped(tables, f) && tables.links[side] != 3 * t + 2
+    is_flipped(generations, f) && links[side] != 3 * t + 2
 }
 
 // Tells the flip of child c, if there was one: with the triangle that its side 1 leads to.
 // Kept: no plainer: its caller would test for the flip in three places.
-fn tell_flip(tables: &Tables, c: u32, flipped: bool, report: &mut [u32], at: usize) -> usize
-    requires { (3 * c + 1 < length tables.now.links.now)
-        × (at + length (flip_after tables.now.links.now flipped c) ≤ length report.old) }
-    ensures { Tells (flip_after tables.now.links.now flipped c) report.old report.new
+fn tell_flip(links: &[u32], c: u32, flipped: bool, report: &mut [u32], at: usize) -> usize
+    requires { (3 * c + 1 < length links.now)
+        × (at + length (flip_after links.now flipped c) ≤ length report.old) }
+    ensures { Tells (flip_after links.now flipped c) report.old report.new
         at result }
 {
     if !flipped {
         return at;
     }
     let side = 3 * (c as usize) + 1;
-    let u = tables.links[side] / 3;
+    let u = links[side] / 3;
     report[at] = c;
     report[at + 1] = u;
     at + 2
@@ -82,11 +82,19 @@ fn tell_split(
     if !telling {
         return at;
     }
+    let links = &*tables.links;
+    let generations = &*tables.generations;
     let e = f + 1;
     let slots = tell_slots(report, at, t, f);
-    let first = tell_flip(tables, t, is_flipped(tables, t), report, slots);
-    let second = tell_flip(tables, f, is_second_flipped(tables, t, f), report, first);
-    tell_flip(tables, e, is_flipped(tables, e), report, second)
+    let first = tell_flip(links, t, is_flipped(generations, t), report, slots);
+    let second = tell_flip(
+        links,
+        f,
+        is_second_flipped(links, generations, t, f),
+        report,
+        first,
+    );
+    tell_flip(links, e, is_flipped(generations, e), report, second)
 }
 
 // How much of a report the flip at side h takes, if there is one.

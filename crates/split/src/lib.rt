@@ -8,7 +8,7 @@ ghost use Rattle.points.specs.Axes.{each_axis};
 ghost use Rattle.rules.specs.Split.{flip, third_of, settle, settle_all, split_at};
 ghost use Rattle.rules.specs.Tables.{is_base};
 ghost use Rattle.tables.specs.declared.Counts.{Counts};
-ghost use Rattle.tables.specs.Lent.{topology_now, topology_with, mesh_with, held, SameTables, SameBeside, TrianglesAgree, VerticesAgree};
+ghost use Rattle.tables.specs.Lent.{topology_now, topology_with, mesh_with, held, spares_now, SameTables, SameBeside, TrianglesAgree, VerticesAgree};
 ghost use Rattle.split.specs.Made.{work_now, MaySplit, Hands, replaced, BaseChain};
 
 use points::Point;
@@ -234,23 +234,32 @@ fn settle_two(tables: &mut Tables, work: Work, t: u32, e: u32) -> Work
 }
 
 // The split of t, with its flips: the face split of an even triangle, the rim split of an odd one. Each has a settling
-// of its own: with one for both, a face split would take 25 to 33 instructions more. The tables are lent on in a value
-// of its own, which stays in registers: through the lent one a split would take some 80 more.
-pub fn split_at(tables: &mut Tables, work: Work, t: u32) -> Work
-    requires { (rule : ℕ) × (report : List ℕ) ×
-        MaySplit t (work_now rule report work (held tables.old)) }
-    ensures split { (rule : ℕ) (report : List ℕ) → (more : List ℕ) × (
-        work_now rule more result (held tables.new)
-        ≡ split_at t (work_now rule report work (held tables.old))) }
-    ensures lent { SameTables tables.new tables.old }
+// of its own: with one for both, a face split would take 25 to 33 instructions more.
+// Kept: five slices: through a lent value a split would take some 80 instructions more, and 8 where it reads the value
+// first.
+fn split_in(
+    positions: &mut [i32],
+    corners: &mut [u32],
+    links: &mut [u32],
+    generations: &mut [u8],
+    locks: &mut [u8],
+    work: Work,
+    t: u32,
+) -> Work
+    requires { (rule : ℕ) × (report : List ℕ) × MaySplit t (work_now rule report work
+        (spares_now positions.old corners.old links.old generations.old locks.old)) }
+    ensures { (rule : ℕ) (report : List ℕ) → (more : List ℕ) × (
+        work_now rule more result (spares_now positions.new corners.new links.new generations.new locks.new)
+        ≡ split_at t (work_now rule report work
+        (spares_now positions.old corners.old links.old generations.old locks.old))) }
 {
     let f = work.triangles;
     let mut own = Tables {
-        positions: tables.positions,
-        corners: tables.corners,
-        links: tables.links,
-        generations: tables.generations,
-        locks: tables.locks,
+        positions,
+        corners,
+        links,
+        generations,
+        locks,
     };
     if tables::generation_at(own.view().generations, t) % 2 == 0 {
         let cut = face_cut(&mut own, work, t);
@@ -259,6 +268,26 @@ pub fn split_at(tables: &mut Tables, work: Work, t: u32) -> Work
         let cut = rim_cut(&mut own, work, t);
         settle_two(&mut own, cut, t, f + 1)
     }
+}
+
+// The same on tables that are lent as one value.
+pub fn split_at(tables: &mut Tables, work: Work, t: u32) -> Work
+    requires { (rule : ℕ) × (report : List ℕ) ×
+        MaySplit t (work_now rule report work (held tables.old)) }
+    ensures split { (rule : ℕ) (report : List ℕ) → (more : List ℕ) × (
+        work_now rule more result (held tables.new)
+        ≡ split_at t (work_now rule report work (held tables.old))) }
+    ensures lent { SameTables tables.new tables.old }
+{
+    split_in(
+        tables.positions,
+        tables.corners,
+        tables.links,
+        tables.generations,
+        tables.locks,
+        work,
+        t,
+    )
 }
 
 // The base chain of t: from an odd triangle on to the one across its base, until an even one or the boundary. Its steps
