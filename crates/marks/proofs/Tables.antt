@@ -133,7 +133,7 @@ none_found table e m l = go (ltb n (length table)) refl e
 
 module _ (table : List ℕ) (k : ℕ) (F : FirstWord table k) where
   bit_found : LowestBit (get_or table k 0) (count_trailing_zeros 64 (get_or table k 0)) × (count_trailing_zeros 64 (get_or table k 0) < 64)
-  bit_found = lowest_bit (get_or table k 0) F.fits F.some
+  bit_found = lowest_bit 64 (get_or table k 0) F.fits F.some
 
   first_marked : marked table (lowest_in table k) ≡ true
   first_marked =

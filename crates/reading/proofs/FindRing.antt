@@ -11,6 +11,7 @@ use Rattle.rules.specs.Sound.{OneFan, Sound, is_sound}
 use Rattle.rules.specs.Tables.{Topology, Mesh, tables_agree, sides}
 use Rattle.rings.proofs.Walk.{ring_from_lem}
 use Rattle.rings.specs.Rings.{ring_from, Walkable}
+use Rattle.soundness.proofs.Answers.{start_none, start_some}
 use Rattle.soundness.specs.Parts.{start_if}
 use Rattle.tables.specs.Refusals.{number}
 use Rattle.tables.specs.declared.refusals.Refusal.{Refusal}
@@ -18,14 +19,6 @@ use Rattle.tables.proofs.Refusing.{number_some}
 use Rattle.reading.specs.Answers.{Refused, Found}
 use Rattle.reading.specs.declared.FoundRing.{FoundRing}
 use Rattle.reading.proofs.Refusing.{ring_one, ring_seven, ring_eight, ring_fourteen, ring_none, ring_refused, ring_carried}
-
-start_none : (b : Bool) (m : Topology) (v : ℕ) → None ≡ start_if b m v → b ≡ false
-start_none true m v e = cc
-start_none false m v e = refl
-
-start_some : (b : Bool) (m : Topology) (v : ℕ) {k : ℕ} → Some k ≡ start_if b m v → (b ≡ true) × (k ≡ first_side m v)
-start_some true m v e = (refl, cc)
-start_some false m v e = cc
 
 module _ (v room : ℕ) (m : Mesh) where
   abbrev t : Topology

@@ -15,6 +15,7 @@ use Rattle.rules.specs.Rim.{on_rim, rim, curve_at, curve_refusal, curve_read, cu
 use Rattle.rules.specs.Ring.{first_side}
 use Rattle.rules.specs.Sound.{Sound, is_sound}
 use Rattle.rules.specs.Tables.{Topology, Mesh, tables_agree, sides, origin, boundary, link}
+use Rattle.soundness.proofs.Answers.{start_none, start_some}
 use Rattle.soundness.specs.Parts.{start_if}
 use Rattle.rim.proofs.Writing.{few}
 use Rattle.tables.specs.Refusals.{number}
@@ -23,14 +24,6 @@ use Rattle.tables.proofs.Refusing.{number_some}
 use Rattle.rim.specs.Traced.{OnRimSide, Closes, Traced, Refused, Found}
 use Rattle.rim.specs.declared.FoundRim.{FoundRim}
 use Rattle.rim.specs.declared.Trace.{Trace}
-
-start_none : (b : Bool) (m : Topology) (v : ℕ) → None ≡ start_if b m v → b ≡ false
-start_none true m v e = cc
-start_none false m v e = refl
-
-start_some : (b : Bool) (m : Topology) (v : ℕ) {k : ℕ} → Some k ≡ start_if b m v → (b ≡ true) × (k ≡ first_side m v)
-start_some true m v e = (refl, cc)
-start_some false m v e = cc
 
 module _ (v room : ℕ) (m : Mesh) where
   abbrev t : Topology

@@ -1,8 +1,12 @@
 -- What the fans' test says, from what its parts say.
-use Prim.Native.Nat.{ℕ, ◌<◌}
+use Prim.Native.Nat.{ℕ, ◌*◌, ◌-◌, ◌<◌}
+use native.Mathlib.Omega.{arith}
 use mathlib.Core.Bool.{Bool, true, false, not, ◌&&◌}
+use mathlib.Core.List.{List}
+use mathlib.Core.Logic.{inr}
 use mathlib.Core.Path.{◌≡◌, refl, sym}
 use lib.Dec.{T}
+use lib.ListN.{get_or}
 use Rattle.theory.proofs.Loads.InnerOfTwo.{two_turn_back, some_two_is}
 use Rattle.theory.proofs.Numbers.Decide.{Decides, is_all, is_same, is_false, when_true}
 use Rattle.theory.proofs.Rings.FanTest.{one_fan_is}
@@ -12,6 +16,25 @@ use Rattle.rules.specs.Cage.{turns_back}
 use Rattle.rules.specs.Conditions.{InnerOfTwo}
 use Rattle.rules.specs.Sound.{OneFan, has_one_fan}
 use Rattle.rules.specs.Tables.{Topology, sides, origin}
+use Rattle.rings.specs.Walks.{AllBegun}
+use Rattle.decoding.specs.Decoded.{decoded}
+use Rattle.pairing.specs.Pairing.{Threads}
+
+-- The threads' heads are sides to walk from, before the boundary is looked at.
+pub threads_begin : {v f : ℕ} {origins partners heads nexts : List ℕ}
+    → Threads (decoded v f origins) (3 * f) heads nexts → AllBegun v origins partners (3 * f) 0 heads
+threads_begin {heads} T = record {
+  size = T.head_room;
+  each = λ x l.
+      let L = T.head x l in
+      let p : ℕ = get_or heads x 0 in
+      record {
+        none = λ e h i. L.none h (omega arith) i;
+        in_use = L.most;
+        out = λ k. L.from (p - 1) (omega arith);
+        best = λ k. inr (λ h i. absurd (omega arith));
+      };
+}
 
 fails : (a b : Bool) → T b → false ≡ a && not b
 fails true true t = refl
