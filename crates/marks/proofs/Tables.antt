@@ -13,7 +13,7 @@ use lib.Seq.{get_or-set_same, get_or-set_other}
 use Rattle.std.specs.Prelude.{Option, Some, None, position}
 use Rattle.std.specs.List.{position_or_len}
 use Rattle.std.proofs.lemmas.List.Quantifiers.{position-Some}
-use Rattle.std.proofs.lemmas.List.Sums.{fails_before_first}
+use Rattle.std.proofs.lemmas.List.Sums.{fails_before_first, position_or_len_is}
 use Rattle.theory.proofs.Numbers.Decide.{is_eq, is_iff, is_same, lowest_is}
 use Rattle.rules.specs.Below.{lowest}
 use Rattle.marks.proofs.Bits.{LowestBit, lowest_bit, bit_none}
@@ -109,6 +109,13 @@ pub record FirstWord (table : List ℕ) (k : ℕ) : Type 0 where
 -- What the search for it gives.
 abbrev pub first_word : List ℕ → Option ℕ
 first_word table = position (λ w. not (eqb w 0)) table
+
+-- The search gives the first word that is not 0, by those before it, and none where all are 0.
+pub first_at : (table : List ℕ) (k : ℕ) → k ≤ length table → ((m : ℕ) → m < k → get_or table m 0 ≡ 0)
+    → (k < length table → ¬ (get_or table k 0 ≡ 0)) → first_word table ≡ cond (ltb k (length table)) (Some k) None
+first_at table k l past some =
+    rw (position_or_len_is (λ w. not (eqb w 0)) table k 0 l (λ m h. ap not (eq-eqb _ _ (past m h)))
+    (λ h. ap not (ne_eqb _ _ (some h)))) refl
 
 pub first_found : (table : List ℕ) (k : ℕ) → Some k ≡ first_word table → get_or table k 0 < 2 ^ 64 → FirstWord table k
 first_found table k e l =

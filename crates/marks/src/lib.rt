@@ -46,10 +46,16 @@ pub fn mark(bits: &mut [u64], words: &mut [u64], i: u32, on: bool)
 }
 
 // The first word that is not 0.
+// Kept: a loop: of a search by `position` from the second word on, the right twin is refused too.
 fn first_word(words: &[u64]) -> Option<usize>
     ensures { result ≡ position (λ w. not (eqb w 0)) words.now }
 {
-    words.iter().position(|word| *word != 0)
+    for k in 0..words.len() {
+        if words[k] != 0 {
+            return Some(k);
+        }
+    }
+    None
 }
 
 // The lowest marked number, or the first past the table where none is marked.
