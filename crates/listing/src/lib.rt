@@ -1,7 +1,7 @@
 // A list of triangles refined one after the other, in spare tables.
 #![tactic(auto)]
 
-ghost use Rattle.std.specs.Prelude.{◌≡◌};
+ghost use Rattle.std.specs.Prelude.{◌≡◌, ◌≤◌, length};
 ghost use Rattle.theory.proofs.Lists.InSpares.{entry_outcome};
 ghost use Rattle.rules.specs.Calls.{with_report};
 ghost use Rattle.rules.specs.Lists.{entry_work, refine_each};
@@ -30,7 +30,7 @@ fn handle(
     report: &mut [u32],
     at: usize,
 ) -> Worked
-    requires { 0 ≡ standing (mesh_with counts (held tables.old)) }
+    requires { (0 ≡ standing (mesh_with counts (held tables.old))) × (triangles ≤ length start.now) }
     ensures handled { (m : Mesh) → StartsWith triangles start.now m →
         worked_outcome result (held tables.new) ≡ entry_outcome m t (mesh_with counts (held tables.old)) }
     ensures told { (m : Mesh) → StartsWith triangles start.now m →
@@ -41,7 +41,7 @@ fn handle(
     if triangles <= t {
         return Worked::refused(Refusal::NotInUse, counts);
     }
-    if tables::generation_at(start, t) < tables::generation_at(tables.view().generations, t) {
+    if start[t as usize] < tables::generation_at(tables.view().generations, t) {
         return Worked::done(counts);
     }
     refining::refine(tables, counts, t, Ok(()), report, at)

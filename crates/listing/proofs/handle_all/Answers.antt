@@ -35,7 +35,10 @@ loop-at-init c = (λ m s B. told_begins B _ _, search rules)
 pub handle-done-requires : goal.handle-done-requires
 handle-done-requires c =
     let (m, s, B) = c.requires in
-    sound_standing (holding_sound (c.loop-at.invariant.0 m s B).1.held)
+    let W = begins_with B in (
+      sound_standing (holding_sound (c.loop-at.invariant.0 m s B).1.held),
+      rw (W.triangles, W.generations) B.sound.triangle_room,
+    )
 
 pub returns-then-done-ne0-clause-handled : goal.returns-then-done-ne0-clause-handled
 returns-then-done-ne0-clause-handled c m s B =
