@@ -125,11 +125,12 @@ pub fn refine_noted(
         ≡ noted_call t note.old (mesh_with counts (held tables.old)) }
     ensures lent { SameTables tables.new tables.old }
 {
-    let chain = match refining::find(&tables.view(), counts, t, stands) {
+    let view = tables.view();
+    let chain = match refining::find(&view, counts, t, stands) {
         Ok(chain) => chain,
         Err(refusal) => return Worked::refused(refusal, counts),
     };
-    match note_changes(&tables.view(), counts, t, chain, note, true) {
+    match note_changes(&view, counts, t, chain, note, true) {
         Ok(()) => refining::carry_out(tables, counts, t, chain, &mut [], 0),
         Err(refusal) => Worked::refused(refusal, counts),
     }
@@ -150,12 +151,13 @@ pub fn refine_noted_reported(
         ≡ reported_call (with_note t note.old) report.old (mesh_with counts (held tables.old)) }
     ensures lent { SameTables tables.new tables.old }
 {
-    let chain = match refining::find(&tables.view(), counts, t, stands) {
+    let view = tables.view();
+    let chain = match refining::find(&view, counts, t, stands) {
         Ok(chain) => chain,
         Err(refusal) => return Reported::refused(refusal.number(), counts),
     };
-    let report_fits = reporting::fits(&tables.view(), chain, report.len());
-    match note_changes(&tables.view(), counts, t, chain, note, report_fits) {
+    let report_fits = reporting::fits(&view, chain, report.len());
+    match note_changes(&view, counts, t, chain, note, report_fits) {
         Ok(()) => Reported::carried(refining::carry_out(tables, counts, t, chain, report, 0)),
         Err(refusal) => Reported::refused(refusal.number(), counts),
     }

@@ -48,7 +48,8 @@ impl Reported {
         }
     }
 
-    // The answer of one that is carried out: three slots for each split, and two for each flip.
+    // The answer of such work: three slots for each split, and two for each flip. One that is refused has none.
+    // Kept: the counts entry by entry: as a whole they would be copied twice, in two parts, which takes six instructions.
     pub fn carried(worked: Worked) -> Self
         requires { 3 * worked.splits + 2 * worked.flips ≤ 54 }
         ensures { result ≡ record {
@@ -56,8 +57,20 @@ impl Reported {
           reported = 3 * worked.splits + 2 * worked.flips;
         } }
     {
+        let Counts {
+            vertices,
+            triangles,
+            rule,
+        } = worked.counts;
         Self {
-            worked,
+            worked: Worked {
+                counts: Counts {
+                    vertices,
+                    triangles,
+                    rule,
+                },
+                ..worked
+            },
             reported: 3 * worked.splits + 2 * worked.flips,
         }
     }
@@ -196,12 +209,15 @@ pub fn refine_reported(
         ≡ reported_call (one t) report.old (mesh_with counts (held tables.old)) }
     ensures lent { SameTables tables.new tables.old }
 {
-    let chain = match find(&tables.view(), counts, t, stands) {
-        Ok(chain) => chain,
-        Err(refusal) => return Reported::refused(refusal.number(), counts),
+    let worked = match find(&tables.view(), counts, t, stands) {
+        Ok(chain) => {
+            if reporting::fits(&tables.view(), chain, report.len()) {
+                carry_out(tables, counts, t, chain, report, 0)
+            } else {
+                Worked::refused(Refusal::ReportShort, counts)
+            }
+        }
+        Err(refusal) => Worked::refused(refusal, counts),
     };
-    if !reporting::fits(&tables.view(), chain, report.len()) {
-        return Reported::refused(Refusal::ReportShort.number(), counts);
-    }
-    Reported::carried(carry_out(tables, counts, t, chain, report, 0))
+    Reported::carried(worked)
 }

@@ -65,8 +65,7 @@ pub fn alters_locked(view: &View, chain: Chain) -> bool
         let m = mesh_now n p c view.now.links.now view.now.generations.now view.now.locks.now in
         BaseChain m.topology t chain → result ≡ alters_locked t m }
 {
-    let slots = chain.slots;
-    if some_locked(view.locks, &slots[..chain.odd as usize]) {
+    if some_locked(view.locks, &chain.slots[..chain.odd as usize]) {
         return true;
     }
     if is_locked(view.locks, chain.end) {

@@ -143,7 +143,8 @@ fn third_of(tables: &Tables, t: u32, h: usize, i: usize, j: usize) -> Point
     Point::thirds(a, b, c)
 }
 
-// The cut of the face split of t: the new vertex is placed at the centre.
+// The cut of the face split of t: the new vertex is placed at the centre. The answer is built last here and first in the
+// rim split: another way round each split takes two to five instructions more.
 fn face_cut(tables: &mut Tables, work: Work, t: u32) -> Work
     requires { ((rule : ℕ) × (report : List ℕ) ×
         MaySplit t (work_now rule report work (held tables.old)))
@@ -154,21 +155,20 @@ fn face_cut(tables: &mut Tables, work: Work, t: u32) -> Work
 {
     let p = work.vertices;
     let f = work.triangles;
-    let after = Work {
-        vertices: p + 1,
-        triangles: f + 2,
-        splits: work.splits + 1,
-        flips: work.flips,
-    };
-    let to_f = 3 * f;
-    let to_e = 3 * (f + 1);
     let centre = third_of(tables, t, 0, 1, 2);
     tables::store_point(tables.positions, p, centre);
     let x = tables.triangle_at(t);
     let three = shapes::children(x, t, f, p);
+    let to_f = 3 * f;
+    let to_e = 3 * (f + 1);
     replace(tables, t, f, x, three, to_f, to_e);
     tables::unlock_two(tables.locks, f);
-    after
+    Work {
+        vertices: p + 1,
+        triangles: f + 2,
+        splits: work.splits + 1,
+        flips: work.flips,
+    }
 }
 
 // The cut of the rim split of t: the two new vertices are placed at the thirds of its base.
@@ -235,8 +235,8 @@ fn settle_two(tables: &mut Tables, work: Work, t: u32, e: u32) -> Work
 
 // The split of t, with its flips: the face split of an even triangle, the rim split of an odd one. Each has a settling
 // of its own: with one for both, a face split would take 25 to 33 instructions more.
-// Kept: five slices: through a lent value a split would take some 80 instructions more, and 8 where it reads the value
-// first.
+// Kept: five slices: through a lent value a split would take some 80 instructions more, and 4 to 6 where it reads the
+// value first.
 fn split_in(
     positions: &mut [i32],
     corners: &mut [u32],
@@ -297,23 +297,25 @@ pub fn base_chain(view: &View, t: u32) -> Chain
     ensures { (n : Counts) (c : List ℕ) →
         BaseChain (topology_now n c view.now.links.now view.now.generations.now) t result }
 {
+    let links = view.links;
+    let generations = view.generations;
     let mut slots: [u32; 20] = [0; 20];
     let mut odd: u32 = 0;
     let mut end = t;
-    let steps = tables::generation_at(view.generations, t);
+    let steps = tables::generation_at(generations, t);
     for _step in 0..steps {
-        if tables::generation_at(view.generations, end) % 2 == 0 {
+        if tables::generation_at(generations, end) % 2 == 0 {
             break;
         }
         slots[odd as usize] = end;
         odd += 1;
-        let across = tables::base_link(view.links, end);
+        let across = tables::base_link(links, end);
         if across == tables::BOUNDARY {
             break;
         }
         end = across / 3;
     }
-    let rim = tables::generation_at(view.generations, end) as u32 % 2;
+    let rim = tables::generation_at(generations, end) as u32 % 2;
     Chain {
         odd,
         end,

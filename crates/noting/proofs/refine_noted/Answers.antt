@@ -14,21 +14,21 @@ abbrev mesh_of : After-find → Mesh
 mesh_of c = mesh_with c.args.counts (held c.args.tables.now)
 
 found : (c : In-Ok) → Finds c.args.t (mesh_with c.args.counts (held c.args.tables.now)) (Ok c.in-Ok.chain)
-found c = found_seen c.args.counts c.view.ensures.same c.args.t (Ok c.in-Ok.chain) c.in-Ok.ensures c.requires
+found c = found_seen c.args.counts c.view-view.ensures.same c.args.t (Ok c.in-Ok.chain) c.in-Ok.ensures c.requires
 
 pub find-requires : goal.find-requires
-find-requires c = stands_seen c.args.counts c.view.ensures.same c.requires
+find-requires c = stands_seen c.args.counts c.view-view.ensures.same c.requires
 
 pub returns-in-Err-clause-refined : goal.returns-in-Err-clause-refined
 returns-in-Err-clause-refined c =
-    let F = found_seen c.args.counts c.view.ensures.same c.args.t (Err c.in-Err.refusal) c.in-Err.ensures c.requires in
+    let F = found_seen c.args.counts c.view-view.ensures.same c.args.t (Err c.in-Err.refusal) c.in-Err.ensures c.requires in
     rw c.refused.ensures
     (noted_refused c.args.t c.args.note.now (mesh_of (goal.at.returns-in-Err-clause-refined c).After-find) _ F.0
     (number_some c.in-Err.refusal))
 
 pub note_changes-requires : goal.note_changes-requires
 note_changes-requires c =
-    goes_seen c.args.counts c.view-2.ensures.same (finds_goes (found (goal.at.note_changes-requires c).In-Ok))
+    goes_seen c.args.counts c.view-view.ensures.same (finds_goes (found (goal.at.note_changes-requires c).In-Ok))
 
 pub carry_out-requires : goal.carry_out-requires
 carry_out-requires c = finds_goes (found (goal.at.carry_out-requires c).In-Ok)
@@ -37,7 +37,7 @@ pub returns-in-Ok-note_changes-clause-refined : goal.returns-in-Ok-note_changes-
 returns-in-Ok-note_changes-clause-refined c =
     let F = found (goal.at.returns-in-Ok-note_changes-clause-refined c).In-Ok in
     let N =
-    notes_seen c.args.counts c.view-2.ensures.same (Ok c.in-Ok-note_changes.field-0) c.in-Ok-note_changes.ensures in
+    notes_seen c.args.counts c.view-view.ensures.same (Ok c.in-Ok-note_changes.field-0) c.in-Ok-note_changes.ensures in
     noted_carried c.args.t c.args.note.now (mesh_of (goal.at.returns-in-Ok-note_changes-clause-refined c).After-find) 0
     (sym F.0) N.refusal _ c.carry_out.ensures.refined refl N.written
 
@@ -45,7 +45,7 @@ pub returns-in-Err-note_changes-clause-refined : goal.returns-in-Err-note_change
 returns-in-Err-note_changes-clause-refined c =
     let F = found (goal.at.returns-in-Err-note_changes-clause-refined c).In-Ok in
     let N =
-    notes_seen c.args.counts c.view-2.ensures.same (Err c.in-Err-note_changes.refusal) c.in-Err-note_changes.ensures in
+    notes_seen c.args.counts c.view-view.ensures.same (Err c.in-Err-note_changes.refusal) c.in-Err-note_changes.ensures in
     rw c.refused-in-Err-note_changes.ensures
     (noted_short c.args.t c.args.note.now (mesh_of (goal.at.returns-in-Err-note_changes-clause-refined c).After-find) _
     (sym F.0) N.refusal (number_some c.in-Err-note_changes.refusal) N.short)
