@@ -3,8 +3,8 @@
 ghost use Rattle.std.specs.Prelude.{List, ◌≡◌, ℕ, ◌+◌, ◌-◌, ◌*◌, ◌≤◌, ◌<◌, length, get_or};
 ghost use Rattle.noting.specs.Rising.{Rising, Moved, Passed, Back, Adds};
 
-// Moves the N entries from this place on, which the compiler moves as one. `copy_within` would call `memmove`, which
-// takes longer for so few.
+// Moves the N entries from this place on, which the compiler moves as one. `copy_within` is a loop with tests here, which
+// would keep `insert` from being inlined.
 fn move_down<const N: usize>(numbers: &mut [u32], at: usize)
     requires { (0 < at) × (at + N ≤ length numbers.old) }
     ensures { Moved numbers.old at (at + N) numbers.new }

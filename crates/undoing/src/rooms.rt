@@ -42,8 +42,8 @@ fn accepts_within<const COORDINATES: usize, const SIDES: usize, const TRIANGLES:
     )
 }
 
-// The same for all. A room is at most three times the one below, so that clearing it takes less than a test of
-// soundness.
+// The same for all. But for the second, a room is at most three times the one below, so that clearing it takes less than
+// a test of soundness.
 // Kept: the room is chosen by the size, and no const argument can be computed from it.
 pub fn accepts(view: &View, counts: Counts, note: &[u32]) -> bool
     requires note_fits { NoteFits note.now }
